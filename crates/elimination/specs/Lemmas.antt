@@ -1,0 +1,7 @@
+-- The lemmas behind Theorems, in the order in which they build on one another.
+pub mod Least
+pub mod Unique
+pub mod Ahead
+pub mod Settled
+pub mod Runs
+pub mod RankOrder

@@ -1,0 +1,10 @@
+-- To be believed: what marks are, the two rules, the process, and the bytes of a schedule.
+-- To be used: Theorems, and for scheduling Settled and RankOrder.
+pub mod Marks
+pub mod Rules
+pub mod Process
+pub mod Records
+pub mod Settled
+pub mod RankOrder
+pub mod Theorems
+pub mod Lemmas

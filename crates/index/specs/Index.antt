@@ -1,0 +1,36 @@
+-- Part 3 of a sheet, the index: the tree that parts 1 and 2 give. `s` is part 1, `p` part 2, `n` the number of marks.
+use Prim.Native.Nat.{ℕ, suc, _+_, _-_, _*_}
+use mathlib.Core.Bool.{Bool, true, cond, _&&_, _||_}
+use mathlib.Core.List.{List, [], _∷_, _++_}
+use lib.IntN.{ℤ, pos, negsuc}
+use lib.Dec.{ltb}
+use Rattle.numbers.specs.Little.{leBytes}
+use Rattle.fractions.specs.Order.{later, level}
+use Rattle.marks.specs.Marks.{xAt, yAt}
+use Rattle.elimination.specs.Records.{valueAt}
+use Rattle.index.specs.Tree.{upTo, treeOf}
+
+-- "The root is the mark removed last ('never' beats all; equal values, lower number)."
+unfoldable pub beats : List ℕ → ℕ → ℕ → Bool
+beats p a b = later (valueAt p a) (valueAt p b) || (level (valueAt p a) (valueAt p b) && ltb a b)
+
+-- a coordinate, shifted to be at least 0
+abbrev pub shifted : ℤ → ℕ
+shifted (pos a) = a + 32768
+shifted (negsuc a) = 32768 - suc a
+
+unfoldable pub coordinate : List ℕ → Bool → ℕ → ℕ
+coordinate s axis m = cond axis (shifted (xAt s m)) (shifted (yAt s m))
+
+-- "ordered by x at the top level, by y one level down, and so on in turn, equal coordinates by number": as one number
+unfoldable pub axisKey : List ℕ → Bool → ℕ → ℕ
+axisKey s axis m = coordinate s axis m * 65536 + m
+
+-- the marks' numbers in the order of the tree
+unfoldable pub indexOf : List ℕ → List ℕ → ℕ → List ℕ
+indexOf s p n = treeOf (beats p) (axisKey s) n true (upTo n)
+
+-- "2 bytes a mark"
+unfoldable pub indexBytes : List ℕ → List ℕ
+indexBytes [] = []
+indexBytes (m ∷ l) = leBytes 2 m ++ indexBytes l

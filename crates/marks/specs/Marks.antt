@@ -1,0 +1,78 @@
+-- 01, "A mark" and "Touching, rank, removal" up to the process. `s` is part 1 of a sheet, the marks' bytes, and `m` a mark's number.
+use Prim.Native.Nat.{ℕ, _+_, _-_, _*_}
+use mathlib.Core.Bool.{Bool, true, false, cond, _&&_, _||_}
+use mathlib.Core.List.{List}
+use lib.Dec.{ltb, leb, eqb}
+use lib.IntN.{ℤ, _-ℤ_, natAbs}
+use Rattle.numbers.specs.Little.{leAt, signed}
+use Rattle.fractions.specs.declared.Fraction.{Fraction}
+use Rattle.marks.specs.declared.House.{House}
+use Rattle.marks.specs.declared.House.the-variants.{Radius, Refused}
+
+-- ---- "A mark takes 11 bytes: place x and y (signed, 2 bytes each, map units), radius (2, screen pixels),
+-- priority (2, higher is more important), kind (1), tag (2, not interpreted)."
+
+abbrev pub xAt : List ℕ → ℕ → ℤ
+xAt s m = signed 2 (leAt 2 s (11 * m))
+
+abbrev pub yAt : List ℕ → ℕ → ℤ
+yAt s m = signed 2 (leAt 2 s (11 * m + 2))
+
+abbrev pub radiusAt : List ℕ → ℕ → ℕ
+radiusAt s m = leAt 2 s (11 * m + 4)
+
+abbrev pub priorityAt : List ℕ → ℕ → ℕ
+priorityAt s m = leAt 2 s (11 * m + 6)
+
+abbrev pub kindAt : List ℕ → ℕ → ℕ
+kindAt s m = leAt 1 s (11 * m + 8)
+
+-- ---- the kind and the radius
+
+-- "0 to 9 note 40, 10 to 49 spot 60, 50 to 99 streak 90, 100 to 149 moisture patch 120, 150 to 199 break 200."
+unfoldable pub houseRadius : ℕ → ℕ
+houseRadius kind =
+    cond (ltb kind 10) 40 (cond (ltb kind 50) 60 (cond (ltb kind 100) 90 (cond (ltb kind 150) 120 200)))
+
+-- "Kinds 200 to 255 don't exist."
+unfoldable pub isKind : ℕ → Bool
+isKind kind = ltb kind 200
+
+-- The house radius of a kind, or refusal 5.
+unfoldable pub houseOf : ℕ → House
+houseOf kind = cond (isKind kind) (Radius (houseRadius kind)) Refused
+
+-- "Radius is 1 to 16,383. Radius 0 means the house radius of the kind."
+unfoldable pub isRadius : ℕ → Bool
+isRadius radius = leb radius 16383
+
+unfoldable pub usedRadius : ℕ → ℕ → ℕ
+usedRadius radius kind = cond (eqb radius 0) (houseRadius kind) radius
+
+abbrev pub usedAt : List ℕ → ℕ → ℕ
+usedAt s m = usedRadius (radiusAt s m) (kindAt s m)
+
+-- ---- touching
+
+unfoldable pub square : ℤ → ℕ
+square d = natAbs d * natAbs d
+
+-- "Two marks touch first where z² equals their touching value: the squared distance over the squared sum of radii,
+-- kept as these two whole numbers, never reduced."
+unfoldable pub touchingOf : ℤ → ℤ → ℕ → ℤ → ℤ → ℕ → Fraction
+touchingOf ax ay ar bx by br =
+    record { num = square (ax -ℤ bx) + square (ay -ℤ by); den = (ar + br) * (ar + br) }
+
+unfoldable pub touching : List ℕ → ℕ → ℕ → Fraction
+touching s a b = touchingOf (xAt s a) (yAt s a) (usedAt s a) (xAt s b) (yAt s b) (usedAt s b)
+
+-- ---- rank
+
+-- "Rank: higher priority first; equal priority, lower number first." Mark `a` ranks higher than mark `b`.
+unfoldable pub outranks : List ℕ → ℕ → ℕ → Bool
+outranks s a b =
+    ltb (priorityAt s b) (priorityAt s a) || (eqb (priorityAt s a) (priorityAt s b) && ltb a b)
+
+-- The same as one number, the smaller the higher the rank: `outranks-key` of Laws.
+unfoldable pub rankKey : List ℕ → ℕ → ℕ
+rankKey s m = (65535 - priorityAt s m) * 4096 + m

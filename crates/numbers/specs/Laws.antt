@@ -1,0 +1,1 @@
+-- Laws on little-endian integers, over the width. Assumes nothing.

@@ -1,0 +1,163 @@
+-- 01, "Proved examples": P1 to P12, one table of inputs and answers, shown by one computation.
+use Prim.Native.Nat.{ℕ, zero, suc, _+_, _-_, _*_}
+use mathlib.Core.Path.{_≡_, refl}
+use mathlib.Core.List.{List, [], _∷_, _++_, map}
+use lib.IntN.{ℤ, pos, negsuc}
+use lib.Ieee.{binary32, ofBits}
+use Rattle.numbers.specs.Little.{leAt, leBytes}
+use Rattle.fractions.specs.Order.{less, same, later, level}
+use Rattle.marks.specs.Marks.{houseRadius, isKind, isRadius, usedRadius, square, touchingOf, touching, outranks, rankKey}
+use Rattle.elimination.specs.Process.{least, put, before, pair, next, run, process}
+use Rattle.elimination.specs.Records.{eliminatorAt, numAt, denAt, isNever, valueAt, records, scheduleOf}
+use Rattle.index.specs.Tree.{treeOf}
+use Rattle.index.specs.Index.{beats, coordinate, axisKey, indexOf, indexBytes}
+use Rattle.sheet.specs.Contents.{startAt, split, entries, chain, join, marksPart, schedulePart, indexPart}
+use Rattle.sheet.specs.Asking.{answer, every}
+use Rattle.sheet.specs.Questions
+use Rattle.view.specs.declared.Zoom.{Zoom}
+use Rattle.view.specs.declared.Zoom.the-variants.{Stop, Wheel}
+use Rattle.view.specs.Zoom.{stopScale, wheelScale, scaleOf}
+use Rattle.view.specs.Shown.{Rectangle, livesAt, inside, shown}
+use Rattle.view.specs.Map.{mapBits, mapBytes, countShown, nextSet, walk}
+use Rattle.view.specs.Questions as Viewing
+use Rattle.rollmap.specs.Jobs.{Outcome, outcome, checkJob, scheduled, scheduleQuestions, scheduleJob, shownIn, viewJob}
+use Rattle.report.specs.Text.{text, digits, line, root, zoomDown, markLine, markLines, listing, refusal, printQuestions, printed}
+
+-- ---- inputs by their fields
+
+-- "as x, y, radius, priority", then the kind; the tag is 0
+pub record Mark : Type 0 where
+  pub x : ℤ
+  pub y : ℤ
+  pub radius : ℕ
+  pub priority : ℕ
+  pub kind : ℕ
+
+abbrev mark : ℤ → ℤ → ℕ → ℕ → Mark
+mark x y radius priority = record { x = x; y = y; radius = radius; priority = priority; kind = 0 }
+
+abbrev twoBytes : ℤ → List ℕ
+twoBytes (pos a) = leBytes 2 a
+twoBytes (negsuc a) = leBytes 2 (65536 - suc a)
+
+marks : List Mark → List ℕ
+marks [] = []
+marks (m ∷ rest) =
+    twoBytes (m .x) ++ (twoBytes (m .y) ++ (leBytes 2 (m .radius) ++ (leBytes 2 (m .priority) ++ (m .kind ∷ 0 ∷ 0 ∷ marks rest))))
+
+-- a sheet of one part
+sheet : List Mark → List ℕ
+sheet l = join (marks l ∷ [])
+
+-- ---- what is asked, and its answer as a list of numbers
+
+pub data Asked : Type 0 where
+  -- the program's output on a sheet of these marks
+  prints : List Mark → Asked
+  -- the numbers of the scheduled sheet's part 3
+  indexes : List Mark → Asked
+  -- eliminator, numerator and denominator of a mark in the scheduled sheet's part 2
+  removes : List Mark → ℕ → Asked
+  -- a view of the scheduled sheet with a map of one byte: number, count, and the bytes written
+  views : List Mark → Rectangle → Zoom → Asked
+  -- the number that checking answers
+  checks : List ℕ → Asked
+  -- the used radius of a written radius and a kind
+  uses : ℕ → ℕ → Asked
+
+-- the numbers of two bytes each
+pairs : List ℕ → List ℕ
+pairs [] = []
+pairs (a ∷ []) = []
+pairs (a ∷ b ∷ l) = (a + 256 * b) ∷ pairs l
+
+pub answers : Asked → List ℕ
+answers (prints l) = printed (sheet l)
+answers (indexes l) = pairs (indexPart (split (scheduled (sheet l))))
+answers (removes l m) =
+    let p = schedulePart (split (scheduled (sheet l))) in
+    eliminatorAt p m ∷ numAt p m ∷ denAt p m ∷ []
+answers (views l e zoom) = let o = viewJob (scheduled (sheet l)) e zoom 1 in o .number ∷ o .value ∷ o .written
+answers (checks s) = (checkJob s) .number ∷ []
+answers (uses radius kind) = usedRadius radius kind ∷ []
+
+-- ---- the table
+
+pub record Row : Type 0 where
+  pub asked : Asked
+  pub expected : List ℕ
+
+infix 10 _gives_
+abbrev _gives_ : Asked → List ℕ → Row
+a gives b = record { asked = a; expected = b }
+
+-- the marks of P1, of P5, of P6 and of P11
+abbrev p1 : List Mark
+p1 = mark (pos 0) (pos 0) 10 9 ∷ mark (pos 100) (pos 0) 10 5 ∷ mark (pos 200) (pos 0) 10 5 ∷ mark (pos 0) (pos 3) 5 1 ∷ []
+
+abbrev p5 : List Mark
+p5 = mark (pos 7) (pos 7) 1 0 ∷ mark (pos 7) (pos 7) 1 0 ∷ []
+
+abbrev p6 : List Mark
+p6 = mark (negsuc 32767) (negsuc 32767) 1 0 ∷ mark (pos 32767) (pos 32767) 1 0 ∷ []
+
+abbrev p11 : List Mark
+p11 = mark (pos 60) (pos 0) 2 5 ∷ mark (negsuc 99) (pos 0) 10 9 ∷ mark (pos 0) (pos 0) 10 1 ∷ []
+
+-- a mark of this radius and this kind
+abbrev of : ℕ → ℕ → List Mark
+of radius kind = record { x = pos 0; y = pos 0; radius = radius; priority = 0; kind = kind } ∷ []
+
+abbrev p3 : Rectangle
+p3 = record { x0 = pos 50; x1 = pos 250; y0 = negsuc 9; y1 = pos 10 }
+
+-- the wheel value whose bits these are
+abbrev wheel : ℕ → Zoom
+wheel bits = Wheel (ofBits binary32 bits)
+
+pub table : List Row
+table =
+    -- P1
+    (prints p1 gives text "marks 4\n0 -\n1 0 10000 400 320\n2 0 40000 400 640\n3 0 9 225 12\n")
+    -- P2
+    ∷ (indexes p1 gives (0 ∷ 1 ∷ 3 ∷ 2 ∷ []))
+    -- P3: wheel 1
+    ∷ (views p1 p3 (wheel 0x3f80_0000) gives (0 ∷ 2 ∷ 0x06 ∷ []))
+    -- P4: wheel 5
+    ∷ (views p1 p3 (wheel 0x40a0_0000) gives (0 ∷ 1 ∷ 0x04 ∷ []))
+    -- P5
+    ∷ (removes p5 1 gives (0 ∷ 0 ∷ 4 ∷ []))
+    -- P6
+    ∷ (removes p6 1 gives (0 ∷ 8589672450 ∷ 4 ∷ []))
+    -- P7
+    ∷ (checks (sheet (of 16383 0)) gives (0 ∷ []))
+    ∷ (checks (sheet (of 16384 0)) gives (6 ∷ []))
+    -- P8
+    ∷ (checks (sheet (of 0 199)) gives (0 ∷ []))
+    ∷ (uses 0 199 gives (200 ∷ []))
+    ∷ (checks (sheet (of 0 200)) gives (5 ∷ []))
+    -- P9: wheels 1/64, 1024, 1/128, 1024 + 1/64
+    ∷ (views p1 p3 (wheel 0x3c80_0000) gives (0 ∷ 2 ∷ 0x06 ∷ []))
+    ∷ (views p1 p3 (wheel 0x4480_0000) gives (0 ∷ 0 ∷ 0 ∷ []))
+    ∷ (views p1 p3 (wheel 0x3c00_0000) gives (12 ∷ 0 ∷ []))
+    ∷ (views p1 p3 (wheel 0x4480_0080) gives (12 ∷ 0 ∷ []))
+    -- P10
+    ∷ (checks (0x01 ∷ 0x00 ∷ 0x01 ∷ 0x00 ∷ 0x0c ∷ 0x00 ∷ 0x00 ∷ 0x00 ∷ 0x00 ∷ 0x00 ∷ 0x00 ∷ 0x00 ∷ []) gives (0 ∷ []))
+    -- P11
+    ∷ (removes p11 2 gives (1 ∷ 10000 ∷ 400 ∷ []))
+    -- P12
+    ∷ (views p1 p3 (Stop 16) gives (0 ∷ 0 ∷ 0 ∷ []))
+    ∷ (views p1 p3 (Stop 17) gives (12 ∷ 0 ∷ []))
+    ∷ []
+
+-- Every answer is the expected one.
+pub examples : map (λ (r : Row). answers (r .asked)) table ≡ map (λ (r : Row). r .expected) table
+unfolding table answers pairs sheet marks ofBits
+    leAt leBytes less same later level houseRadius isKind isRadius usedRadius square touchingOf touching outranks rankKey
+    least put before pair next run process isNever valueAt records scheduleOf treeOf beats coordinate axisKey indexOf indexBytes
+    startAt split entries chain join answer every Questions.question1 Questions.question2 Questions.question3 Questions.question4
+    Questions.markQuestions Questions.question7 Questions.namesRight Questions.recordRight Questions.question8 Questions.sameBytes
+    Questions.question9 Questions.bodyQuestions Questions.checkQuestions Questions.check stopScale wheelScale scaleOf livesAt inside
+    shown mapBits mapBytes countShown Viewing.question10 Viewing.question11 Viewing.viewQuestions outcome checkJob scheduled
+    shownIn viewJob digits line root zoomDown markLine markLines listing refusal printQuestions printed
+examples = refl

@@ -1,0 +1,1 @@
+// The printed schedule as bytes in a lent buffer.

@@ -1,0 +1,94 @@
+-- What each of the library's jobs gives, for all inputs.
+use Prim.Native.Nat.{ℕ, _+_, _*_}
+use mathlib.Core.Path.{_≡_}
+use mathlib.Core.Bool.{Bool, cond, _&&_}
+use mathlib.Core.List.{List, [], _∷_, _++_}
+use mathlib.Core.Option.{Option, none, some}
+use lib.ListN.{length, drop}
+use lib.Dec.{leb, eqb}
+use Rattle.elimination.specs.Records.{scheduleOf}
+use Rattle.index.specs.Index.{indexOf, indexBytes}
+use Rattle.sheet.specs.Contents.{split, join, marksPart, schedulePart}
+use Rattle.sheet.specs.Asking.{Question, _asks_, answer}
+use Rattle.sheet.specs.Questions.{markCount, sheetCount, checkQuestions, check, given, assembleQuestions}
+use Rattle.view.specs.declared.Zoom.{Zoom}
+use Rattle.view.specs.Zoom.{scaleOf}
+use Rattle.view.specs.Shown.{Rectangle, shown}
+use Rattle.view.specs.Map.{mapBytes, countShown, walk}
+use Rattle.view.specs.Questions.{viewQuestions, walkQuestions}
+
+-- ---- outcomes
+
+-- the number, the length or count, and the bytes written at the start of the lent buffer
+pub record Outcome : Type 0 where
+  pub number : ℕ
+  pub value : ℕ
+  pub written : List ℕ
+
+-- "The first 'no' gives its number, with 0 for every length and count, and no buffer is written."
+unfoldable pub outcome : List Question → ℕ → List ℕ → Outcome
+outcome questions value written =
+    let number = answer questions in
+    cond (eqb number 0) (record { number = 0; value = value; written = written }) (record { number = number; value = 0; written = [] })
+
+-- "Bytes past a written result stay untouched": what the buffer holds after the call.
+unfoldable pub after : Outcome → List ℕ → List ℕ
+after o buffer = o .written ++ drop (length (o .written)) buffer
+
+-- ---- checking
+
+unfoldable pub checkJob : List ℕ → Outcome
+checkJob s = outcome (checkQuestions s) 0 []
+
+-- ---- scheduling
+
+-- "Scheduling writes a sheet of three parts with the marks copied unchanged."
+unfoldable pub scheduled : List ℕ → List ℕ
+scheduled s =
+    let marks = marksPart (split s) in
+    let n = markCount marks in
+    let schedule = scheduleOf marks n in
+    join (marks ∷ schedule ∷ indexBytes (indexOf marks schedule n) ∷ [])
+
+-- "scheduling 1 to 9 and 13": "32 + 27n bytes for n marks", "a work buffer of at least 32n + 1,024 bytes"
+unfoldable pub scheduleQuestions : List ℕ → ℕ → ℕ → List Question
+scheduleQuestions s work room =
+    checkQuestions s ++ ((13 asks leb (32 * sheetCount s + 1024) work && leb (27 * sheetCount s + 32) room) ∷ [])
+
+unfoldable pub scheduleJob : List ℕ → ℕ → ℕ → Outcome
+scheduleJob s work room = outcome (scheduleQuestions s work room) (length (scheduled s)) (scheduled s)
+
+-- "A sheet is scheduled here if its bytes are those that scheduling, answering 0, writes for some sheet."
+abbrev pub ScheduledHere : List ℕ → Type 0
+ScheduledHere s = (given : List ℕ) × (check given ≡ 0) × (s ≡ scheduled given)
+
+-- ---- putting together
+
+unfoldable pub assembleJob : ℕ → List ℕ → List ℕ → List ℕ → ℕ → Outcome
+assembleJob k body1 body2 body3 room =
+    let bodies = given k body1 body2 body3 in
+    outcome (assembleQuestions k bodies room) (length (join bodies)) (join bodies)
+
+-- ---- viewing
+
+-- k of a zoom that is taken
+abbrev pub scale : Option ℕ → ℕ
+scale none = 0
+scale (some k) = k
+
+-- the marks that a view of an accepted sheet shows
+unfoldable pub shownIn : List ℕ → Rectangle → Zoom → ℕ → Bool
+shownIn s e zoom = shown (marksPart (split s)) (schedulePart (split s)) (scale (scaleOf zoom)) e
+
+unfoldable pub viewJob : List ℕ → Rectangle → Zoom → ℕ → Outcome
+viewJob s e zoom room =
+    let show = shownIn s e zoom in
+    outcome (viewQuestions s e zoom room) (countShown show (sheetCount s)) (mapBytes show (sheetCount s))
+
+-- ---- walking
+
+-- "(65,535 from the walk)"
+unfoldable pub walkJob : List ℕ → ℕ → ℕ → Outcome
+walkJob bytes n start =
+    let number = answer (walkQuestions bytes n) in
+    record { number = number; value = cond (eqb number 0) (walk bytes n start) 65535; written = [] }

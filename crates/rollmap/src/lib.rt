@@ -1,0 +1,1 @@
+// The public library: the five jobs.

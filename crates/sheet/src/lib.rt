@@ -1,0 +1,1 @@
+// Contents, parts and questions of a sheet.

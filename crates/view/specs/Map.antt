@@ -1,0 +1,46 @@
+-- 01: the map of one bit a mark, the count, and the walk.
+use Prim.Native.Nat.{ℕ, zero, suc, _+_, _-_, _*_, _/_, _%_, _^_}
+use mathlib.Core.Bool.{Bool, true, false, cond, _&&_}
+use mathlib.Core.List.{List, map}
+use lib.ListN.{length, getD}
+use lib.Dec.{ltb, leb, eqb}
+use Rattle.index.specs.Tree.{upTo}
+
+abbrev pub bit : Bool → ℕ
+bit true = 1
+bit false = 0
+
+-- ---- the bytes that a view writes; `shown m` says whether mark m is shown
+
+-- "bytes after the first ⌈n/8⌉ aren't touched"
+abbrev pub mapSize : ℕ → ℕ
+mapSize n = (n + 7) / 8
+
+-- the lowest `width` bits of the byte whose first mark is `from`
+unfoldable pub mapBits : (ℕ → Bool) → ℕ → ℕ → ℕ
+mapBits shown from zero = 0
+mapBits shown from (suc width) = mapBits shown from width + bit (shown (from + width)) * 2 ^ width
+
+-- "mark m is bit m mod 8 of byte m / 8". "Unused bits of the last byte are 0."
+unfoldable pub mapBytes : (ℕ → Bool) → ℕ → List ℕ
+mapBytes shown n = map (λ j. mapBits (λ m. ltb m n && shown m) (8 * j) 8) (upTo (mapSize n))
+
+-- "The count is the number of shown marks."
+unfoldable pub countShown : (ℕ → Bool) → ℕ → ℕ
+countShown shown zero = 0
+countShown shown (suc n) = countShown shown n + bit (shown n)
+
+-- ---- reading a map
+
+-- mark m's bit
+abbrev pub bitAt : List ℕ → ℕ → ℕ
+bitAt bytes m = getD bytes (m / 8) 0 / 2 ^ (m % 8) % 2
+
+-- the least number with a set bit of the `left` numbers from m on, else 65,535
+unfoldable pub nextSet : List ℕ → ℕ → ℕ → ℕ
+nextSet bytes zero m = 65535
+nextSet bytes (suc left) m = cond (eqb (bitAt bytes m) 1) m (nextSet bytes left (suc m))
+
+-- "given a map, n and a start, the least shown number at or after the start and below n, else 65,535"
+unfoldable pub walk : List ℕ → ℕ → ℕ → ℕ
+walk bytes n start = nextSet bytes (n - start) start

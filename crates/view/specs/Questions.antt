@@ -1,0 +1,42 @@
+-- Questions 10 to 13, and the jobs that ask them: viewing and walking.
+use Prim.Native.Nat.{ℕ}
+use mathlib.Core.Bool.{Bool, true, false, _&&_}
+use mathlib.Core.List.{List, [], _∷_, _++_}
+use mathlib.Core.Option.{Option, none, some}
+use lib.ListN.{length}
+use lib.Dec.{leb}
+use lib.Signed.{leZ}
+use Rattle.sheet.specs.Contents.{split, has}
+use Rattle.sheet.specs.Asking.{Question, _asks_}
+use Rattle.sheet.specs.Questions.{checkQuestions, sheetCount}
+use Rattle.view.specs.declared.Zoom.{Zoom}
+use Rattle.view.specs.Zoom.{scaleOf}
+use Rattle.view.specs.Shown.{Rectangle}
+use Rattle.view.specs.Map.{mapSize}
+
+-- 10. "Are parts 2 and 3 there?"
+unfoldable pub question10 : List (List ℕ) → Bool
+question10 bodies = has bodies 2 && has bodies 3
+
+-- 11. "Is x0 ≤ x1 and y0 ≤ y1?"
+unfoldable pub question11 : Rectangle → Bool
+question11 e = leZ (e .x0) (e .x1) && leZ (e .y0) (e .y1)
+
+-- 12. "Is the zoom taken?"
+abbrev pub isTaken : Option ℕ → Bool
+isTaken none = false
+isTaken (some k) = true
+
+-- "viewing 1 to 13". `room` is the length of the lent map.
+unfoldable pub viewQuestions : List ℕ → Rectangle → Zoom → ℕ → List Question
+viewQuestions s e zoom room =
+    checkQuestions s
+    ++ ((10 asks question10 (split s))
+    ∷ (11 asks question11 e)
+    ∷ (12 asks isTaken (scaleOf zoom))
+    ∷ (13 asks leb (mapSize (sheetCount s)) room)
+    ∷ [])
+
+-- "Walking asks 13": "a walked map, long enough? A walk has n at most 4,096."
+unfoldable pub walkQuestions : List ℕ → ℕ → List Question
+walkQuestions bytes n = (13 asks leb n 4096 && leb (mapSize n) (length bytes)) ∷ []
