@@ -1,9 +1,9 @@
 -- Part 3 of a sheet, the index: the tree that parts 1 and 2 give. `s` is part 1, `p` part 2, `n` the number of marks.
 use Prim.Native.Nat.{ℕ, suc, _+_, _-_, _*_}
-use mathlib.Core.Bool.{Bool, true, cond, _&&_, _||_}
+use mathlib.Core.Bool.{Bool, true, false, cond, _&&_, _||_}
 use mathlib.Core.List.{List, [], _∷_, _++_}
 use lib.IntN.{ℤ, pos, negsuc}
-use lib.Dec.{ltb}
+use lib.Dec.{ltb, eqb}
 use Rattle.numbers.specs.Little.{leBytes}
 use Rattle.fractions.specs.Order.{later, level}
 use Rattle.marks.specs.Marks.{xAt, yAt}
@@ -34,3 +34,14 @@ indexOf s p n = treeOf (beats p) (axisKey s) n true (upTo n)
 unfoldable pub indexBytes : List ℕ → List ℕ
 indexBytes [] = []
 indexBytes (m ∷ l) = leBytes 2 m ++ indexBytes l
+
+-- the same list
+unfoldable pub sameBytes : List ℕ → List ℕ → Bool
+sameBytes [] [] = true
+sameBytes [] (b ∷ t) = false
+sameBytes (a ∷ s) [] = false
+sameBytes (a ∷ s) (b ∷ t) = eqb a b && sameBytes s t
+
+-- "Is part 3 the tree that parts 1 and 2 give?" `t` is part 3.
+unfoldable pub isIndex : List ℕ → List ℕ → List ℕ → ℕ → Bool
+isIndex s p t n = sameBytes t (indexBytes (indexOf s p n))

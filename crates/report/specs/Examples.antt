@@ -10,7 +10,7 @@ use Rattle.marks.specs.Marks.{houseRadius, isKind, isRadius, usedRadius, square
 use Rattle.elimination.specs.Process.{least, put, before, pair, next, run, process}
 use Rattle.elimination.specs.Records.{eliminatorAt, numAt, denAt, isNever, valueAt, records, scheduleOf}
 use Rattle.index.specs.Tree.{treeOf}
-use Rattle.index.specs.Index.{beats, coordinate, axisKey, indexOf, indexBytes}
+use Rattle.index.specs.Index.{beats, coordinate, axisKey, indexOf, indexBytes, sameBytes, isIndex}
 use Rattle.sheet.specs.Contents.{startAt, split, entries, chain, join, marksPart, schedulePart, indexPart}
 use Rattle.sheet.specs.Asking.{answer, every}
 use Rattle.sheet.specs.Questions
@@ -154,9 +154,9 @@ table =
 pub examples : map (λ (r : Row). answers (r .asked)) table ≡ map (λ (r : Row). r .expected) table
 unfolding table answers pairs sheet marks ofBits
     leAt leBytes less same later level houseRadius isKind isRadius usedRadius square touchingOf touching outranks rankKey
-    least put before pair next run process isNever valueAt records scheduleOf treeOf beats coordinate axisKey indexOf indexBytes
+    least put before pair next run process isNever valueAt records scheduleOf treeOf beats coordinate axisKey indexOf indexBytes sameBytes isIndex
     startAt split entries chain join answer every Questions.question1 Questions.question2 Questions.question3 Questions.question4
-    Questions.markQuestions Questions.question7 Questions.namesRight Questions.recordRight Questions.question8 Questions.sameBytes
+    Questions.markQuestions Questions.question7 Questions.namesRight Questions.recordRight Questions.question8
     Questions.question9 Questions.bodyQuestions Questions.checkQuestions Questions.check stopScale wheelScale scaleOf livesAt inside
     shown mapBits mapBytes countShown Viewing.question10 Viewing.question11 Viewing.viewQuestions outcome checkJob scheduled
     shownIn viewJob digits line root zoomDown markLine markLines listing refusal printQuestions printed

@@ -1,6 +1,6 @@
 -- Questions 1 to 9, each by its number, and the jobs that ask them: checking a sheet and putting parts together.
 use Prim.Native.Nat.{ℕ, zero, suc, _+_, _*_, _/_, _%_}
-use mathlib.Core.Bool.{Bool, true, false, _&&_, _||_}
+use mathlib.Core.Bool.{Bool, _&&_, _||_}
 use mathlib.Core.List.{List, [], _∷_, _++_}
 use lib.ListN.{length, take}
 use lib.Dec.{ltb, leb, eqb}
@@ -8,7 +8,7 @@ use Rattle.fractions.specs.declared.Fraction.{Fraction}
 use Rattle.fractions.specs.Order.{later}
 use Rattle.marks.specs.Marks.{kindAt, radiusAt, isKind, isRadius, outranks, touching}
 use Rattle.elimination.specs.Records.{eliminatorAt, fractionAt, isNever, valueAt}
-use Rattle.index.specs.Index.{indexOf, indexBytes}
+use Rattle.index.specs.Index.{isIndex}
 use Rattle.sheet.specs.Contents.{countAt, codeAt, offsetAt, startAt, contentsSize, split, join, has, marksPart, schedulePart, indexPart}
 use Rattle.sheet.specs.Asking.{Question, _asks_, answer, every, ifThere}
 
@@ -69,16 +69,9 @@ recordRight s p n m = isNever p m || (namesRight s p n m && later (valueAt p (el
 unfoldable pub question8 : List ℕ → List ℕ → ℕ → Bool
 question8 s p n = every (recordRight s p n) n
 
--- the same list
-unfoldable pub sameBytes : List ℕ → List ℕ → Bool
-sameBytes [] [] = true
-sameBytes [] (b ∷ t) = false
-sameBytes (a ∷ s) [] = false
-sameBytes (a ∷ s) (b ∷ t) = eqb a b && sameBytes s t
-
 -- 9. "Is part 3 the tree that parts 1 and 2 give?"
 unfoldable pub question9 : List ℕ → List ℕ → List ℕ → ℕ → Bool
-question9 s p t n = sameBytes t (indexBytes (indexOf s p n))
+question9 = isIndex
 
 -- ---- the lists of questions
 
