@@ -1,0 +1,40 @@
+//! The roll map, read plainly.
+//!
+//! What is defined here is written literally from document 01, for clarity and
+//! not for speed, and owes nothing to the proved library, which is compared with
+//! it. Comments name the section of 01 that a definition comes from. Two faster
+//! ways to schedule stand next to the process as 01 tells it, and [`sample`]
+//! makes up sheets for tests and benchmarks.
+//!
+//! A call that 01 can refuse answers `Result<_, Refusal>`; the error is the
+//! number of the first question of 01, 'Questions put in turn', whose answer is
+//! no. Buffers are not written here: a call takes the lengths of the buffers it
+//! would borrow and answers the bytes it would write.
+
+#![forbid(unsafe_code)]
+
+pub mod contents;
+pub mod fraction;
+pub mod mark;
+pub mod process;
+pub mod record;
+pub mod report;
+pub mod rules;
+pub mod sample;
+pub mod sheet;
+pub mod tree;
+pub mod view;
+
+mod bytes;
+
+/// The number of a question of 01 that was answered with no.
+pub type Refusal = u32;
+
+/// Puts one question: a no becomes its number.
+pub(crate) fn ask(number: Refusal, yes: bool) -> Result<(), Refusal> {
+    if yes {
+        Ok(())
+    } else {
+        Err(number)
+    }
+}

@@ -1,0 +1,228 @@
+//! A mark, its radius, when two touch, and rank (01, 'A mark' and 'Touching,
+//! rank, removal').
+
+use std::cmp::Ordering;
+
+use crate::bytes::field;
+use crate::fraction::Fraction;
+
+/// Bytes a mark takes in part 1.
+pub const MARK_BYTES: usize = 11;
+
+/// The most marks a sheet has.
+pub const MOST_MARKS: usize = 4_096;
+
+/// The largest radius a mark is written with.
+pub const LARGEST_RADIUS: u16 = 16_383;
+
+/// The first kind that does not exist.
+pub const FIRST_UNKNOWN_KIND: u8 = 200;
+
+/// The fields of a mark in the order they are written: place in map units,
+/// radius in screen pixels, priority, kind, and a tag nobody interprets.
+#[derive(Clone, Copy, Debug, PartialEq, Eq)]
+pub struct Mark {
+    pub x: i16,
+    pub y: i16,
+    pub radius: u16,
+    pub priority: u16,
+    pub kind: u8,
+    pub tag: u16,
+}
+
+impl Mark {
+    /// The mark of kind 0 and tag 0 with these fields, the way 01 gives its
+    /// examples.
+    pub const fn plain(x: i16, y: i16, radius: u16, priority: u16) -> Self {
+        Self {
+            x,
+            y,
+            radius,
+            priority,
+            kind: 0,
+            tag: 0,
+        }
+    }
+
+    /// Reads the 11 bytes of a mark.
+    pub fn read(bytes: &[u8; MARK_BYTES]) -> Self {
+        Self {
+            x: i16::from_le_bytes(field(bytes, 0)),
+            y: i16::from_le_bytes(field(bytes, 2)),
+            radius: u16::from_le_bytes(field(bytes, 4)),
+            priority: u16::from_le_bytes(field(bytes, 6)),
+            kind: bytes[8],
+            tag: u16::from_le_bytes(field(bytes, 9)),
+        }
+    }
+
+    /// Writes the 11 bytes of a mark.
+    pub fn write(&self) -> [u8; MARK_BYTES] {
+        let mut bytes = [0; MARK_BYTES];
+        bytes[0..2].copy_from_slice(&self.x.to_le_bytes());
+        bytes[2..4].copy_from_slice(&self.y.to_le_bytes());
+        bytes[4..6].copy_from_slice(&self.radius.to_le_bytes());
+        bytes[6..8].copy_from_slice(&self.priority.to_le_bytes());
+        bytes[8] = self.kind;
+        bytes[9..11].copy_from_slice(&self.tag.to_le_bytes());
+        bytes
+    }
+
+    /// The radius the mark grows with: its own, or the house radius of its kind
+    /// where it is written with 0. None where that kind does not exist.
+    pub fn used_radius(&self) -> Option<u16> {
+        match self.radius {
+            0 => house_radius(self.kind),
+            own => Some(own),
+        }
+    }
+}
+
+/// The house radius of a kind, none for a kind that does not exist.
+pub fn house_radius(kind: u8) -> Option<u16> {
+    match kind {
+        0..=9 => Some(40),      // note
+        10..=49 => Some(60),    // spot
+        50..=99 => Some(90),    // streak
+        100..=149 => Some(120), // moisture patch
+        150..=199 => Some(200), // break
+        200..=255 => None,
+    }
+}
+
+/// Reads part 1: all its marks, a body whose length is a multiple of 11.
+pub fn read_marks(part_1: &[u8]) -> Vec<Mark> {
+    let marks = part_1.chunks_exact(MARK_BYTES);
+    marks.map(|mark| Mark::read(&field(mark, 0))).collect()
+}
+
+/// Writes part 1.
+pub fn write_marks(marks: &[Mark]) -> Vec<u8> {
+    marks.iter().flat_map(Mark::write).collect()
+}
+
+/// The touching value of two marks: the squared distance of their places over
+/// the squared sum of their used radii, as these two whole numbers.
+///
+/// # Panics
+///
+/// On marks that questions 5 and 6 refuse.
+pub fn touching_value(a: &Mark, b: &Mark) -> Fraction {
+    let dx = (i64::from(a.x) - i64::from(b.x)).unsigned_abs();
+    let dy = (i64::from(a.y) - i64::from(b.y)).unsigned_abs();
+    let radii = |mark: &Mark| u64::from(mark.used_radius().expect("the kind exists"));
+    let reach = radii(a) + radii(b);
+    Fraction {
+        numerator: dx * dx + dy * dy,
+        denominator: u32::try_from(reach * reach).expect("both radii are taken"),
+    }
+}
+
+/// Rank as an order of mark numbers, highest rank first: higher priority, then
+/// lower number.
+pub fn rank_order(marks: &[Mark], a: usize, b: usize) -> Ordering {
+    let by_priority = marks[b].priority.cmp(&marks[a].priority);
+    by_priority.then(a.cmp(&b))
+}
+
+/// Whether mark number `a` ranks higher than mark number `b`.
+pub fn outranks(marks: &[Mark], a: usize, b: usize) -> bool {
+    rank_order(marks, a, b).is_lt()
+}
+
+#[cfg(test)]
+mod tests {
+    use super::*;
+
+    const MARK: Mark = Mark {
+        x: -2,
+        y: 259,
+        radius: 16_383,
+        priority: 65_534,
+        kind: 199,
+        tag: 4_660,
+    };
+
+    fn at(x: i16, y: i16, radius: u16) -> Mark {
+        Mark {
+            x,
+            y,
+            radius,
+            ..MARK
+        }
+    }
+
+    #[test]
+    fn the_fields_stand_in_order_and_little_endian() {
+        let bytes = [
+            0xfe, 0xff, 0x03, 0x01, 0xff, 0x3f, 0xfe, 0xff, 199, 0x34, 0x12,
+        ];
+        assert_eq!(MARK.write(), bytes);
+        assert_eq!(Mark::read(&bytes), MARK);
+    }
+
+    #[test]
+    fn the_house_radius_changes_at_each_first_kind() {
+        let firsts = [(0, 40), (10, 60), (50, 90), (100, 120), (150, 200)];
+        for (first, radius) in firsts {
+            assert_eq!(house_radius(first), Some(radius));
+        }
+        let lasts = [(9, 40), (49, 60), (99, 90), (149, 120), (199, 200)];
+        for (last, radius) in lasts {
+            assert_eq!(house_radius(last), Some(radius));
+        }
+        assert_eq!(house_radius(200), None);
+        assert_eq!(house_radius(255), None);
+    }
+
+    #[test]
+    fn only_radius_0_means_the_house_radius() {
+        assert_eq!(at(0, 0, 0).used_radius(), Some(200));
+        assert_eq!(at(0, 0, 1).used_radius(), Some(1));
+        let unknown = Mark { kind: 200, ..MARK };
+        assert_eq!(
+            Mark {
+                radius: 0,
+                ..unknown
+            }
+            .used_radius(),
+            None
+        );
+        assert_eq!(
+            Mark {
+                radius: 7,
+                ..unknown
+            }
+            .used_radius(),
+            Some(7)
+        );
+    }
+
+    #[test]
+    fn the_largest_touching_numbers_are_those_of_01() {
+        let far = touching_value(
+            &at(i16::MIN, i16::MIN, 16_383),
+            &at(i16::MAX, i16::MAX, 16_383),
+        );
+        assert_eq!(far, Fraction::new(8_589_672_450, 1_073_610_756));
+    }
+
+    #[test]
+    fn touching_is_unreduced_symmetric_and_by_used_radius() {
+        let (a, b) = (at(10, -20, 0), at(-20, 20, 300));
+        assert_eq!(touching_value(&a, &b), Fraction::new(2_500, 250_000));
+        assert_eq!(touching_value(&b, &a), touching_value(&a, &b));
+    }
+
+    #[test]
+    fn rank_is_by_priority_then_by_lower_number() {
+        let of = |priority| Mark { priority, ..MARK };
+        let marks = [of(5), of(9), of(5), of(65_535)];
+        let mut numbers = vec![0, 1, 2, 3];
+        numbers.sort_by(|&a, &b| rank_order(&marks, a, b));
+        assert_eq!(numbers, [3, 1, 0, 2]);
+        assert!(outranks(&marks, 0, 2));
+        assert!(!outranks(&marks, 2, 0));
+        assert!(!outranks(&marks, 2, 2));
+    }
+}

@@ -1,0 +1,194 @@
+//! Sheets made up from a seed, the same ones on every machine, for tests and
+//! benchmarks. All their marks are ones that 01 takes.
+
+use crate::mark::{Mark, LARGEST_RADIUS};
+
+/// A small generator of numbers (shifts and exclusive ors of one 64-bit word).
+#[derive(Clone, Debug)]
+pub struct Generator {
+    state: u64,
+}
+
+impl Generator {
+    /// The generator of a seed.
+    pub fn new(seed: u64) -> Self {
+        // An odd factor spreads small seeds over the word, which must not be 0.
+        let spread = seed.wrapping_add(1).wrapping_mul(0x9e37_79b9_7f4a_7c15);
+        Self {
+            state: spread.max(1),
+        }
+    }
+
+    /// The next 64 bits.
+    pub fn draw(&mut self) -> u64 {
+        self.state ^= self.state << 13;
+        self.state ^= self.state >> 7;
+        self.state ^= self.state << 17;
+        self.state
+    }
+
+    /// A number from 0 to `bound` - 1; the bound is above 0.
+    pub fn below(&mut self, bound: u32) -> u32 {
+        ((self.draw() >> 32) % u64::from(bound)) as u32
+    }
+
+    /// A number from `low` to `high`, both included.
+    pub fn between(&mut self, low: i16, high: i16) -> i16 {
+        let choices = i32::from(high) - i32::from(low) + 1;
+        let offset = self.below(choices.unsigned_abs()) as i32;
+        (i32::from(low) + offset) as i16
+    }
+
+    /// One of some choices, of which there is at least one.
+    pub fn choose<T: Copy>(&mut self, choices: &[T]) -> T {
+        choices[self.below(choices.len() as u32) as usize]
+    }
+}
+
+/// How the marks of a sample lie.
+#[derive(Clone, Copy, Debug, PartialEq, Eq)]
+pub enum Shape {
+    /// Anywhere, with all kinds and priorities.
+    Uniform,
+    /// Around a few places.
+    Clustered,
+    /// On one horizontal line.
+    Line,
+    /// All at one place.
+    OnePlace,
+    /// On the points of a small grid with few radii and priorities: full of ties.
+    Grid,
+    /// Anywhere, with the largest radius or nearly so.
+    HugeRadius,
+    /// At the ends and the middle of the range of places, with extreme radii.
+    Extreme,
+}
+
+impl Shape {
+    /// Every shape.
+    pub const ALL: [Self; 7] = [
+        Self::Uniform,
+        Self::Clustered,
+        Self::Line,
+        Self::OnePlace,
+        Self::Grid,
+        Self::HugeRadius,
+        Self::Extreme,
+    ];
+}
+
+/// The n marks of a shape and a seed.
+pub fn marks(shape: Shape, n: usize, seed: u64) -> Vec<Mark> {
+    let mut generator = Generator::new(seed);
+    let sites = sites(&mut generator, n);
+    let marks = (0..n).map(|_| mark(&mut generator, shape, &sites, n));
+    marks.collect()
+}
+
+/// The middles of the clusters, about one for every 64 marks.
+fn sites(generator: &mut Generator, n: usize) -> Vec<(i16, i16)> {
+    let inner = |generator: &mut Generator| generator.between(-32_000, 32_000);
+    (0..1 + n / 64)
+        .map(|_| (inner(generator), inner(generator)))
+        .collect()
+}
+
+/// One mark of a shape.
+fn mark(generator: &mut Generator, shape: Shape, sites: &[(i16, i16)], n: usize) -> Mark {
+    let (x, y) = place(generator, shape, sites, n);
+    let small = 1 + generator.below(200) as u16;
+    let (radius, priority) = match shape {
+        Shape::Grid => (generator.choose(&[10, 10, 20]), generator.below(3) as u16),
+        Shape::HugeRadius => (LARGEST_RADIUS + 1 - small, generator.below(65_536) as u16),
+        Shape::Extreme => (
+            generator.choose(&[0, 1, LARGEST_RADIUS]),
+            generator.choose(&[0, 65_535]),
+        ),
+        Shape::OnePlace | Shape::Line => (small, generator.below(4) as u16),
+        Shape::Uniform | Shape::Clustered => (
+            generator.choose(&[0, small, small]),
+            generator.below(65_536) as u16,
+        ),
+    };
+    Mark {
+        x,
+        y,
+        radius,
+        priority,
+        kind: generator.below(200) as u8,
+        tag: generator.below(65_536) as u16,
+    }
+}
+
+/// The place of one mark of a shape.
+fn place(generator: &mut Generator, shape: Shape, sites: &[(i16, i16)], n: usize) -> (i16, i16) {
+    let side = 1 + n.isqrt() as u32;
+    let (site_x, site_y) = sites[0];
+    match shape {
+        Shape::Uniform | Shape::HugeRadius => (anywhere(generator), anywhere(generator)),
+        Shape::Clustered => {
+            let (x, y) = generator.choose(sites);
+            (
+                x + generator.between(-500, 500),
+                y + generator.between(-500, 500),
+            )
+        }
+        Shape::Line => (anywhere(generator), site_y),
+        Shape::OnePlace => (site_x, site_y),
+        Shape::Grid => (
+            50 * generator.below(side) as i16,
+            50 * generator.below(side) as i16,
+        ),
+        Shape::Extreme => {
+            let ends = [i16::MIN, i16::MIN + 1, 0, i16::MAX - 1, i16::MAX];
+            (generator.choose(&ends), generator.choose(&ends))
+        }
+    }
+}
+
+/// A coordinate from the whole range.
+fn anywhere(generator: &mut Generator) -> i16 {
+    generator.between(i16::MIN, i16::MAX)
+}
+
+#[cfg(test)]
+mod tests {
+    use super::*;
+    use crate::mark::write_marks;
+    use crate::sheet::{check, join};
+
+    #[test]
+    fn every_sample_has_n_marks_that_are_taken() {
+        for shape in Shape::ALL {
+            for n in [0, 1, 100, 4_096] {
+                let marks = marks(shape, n, 1);
+                assert_eq!(marks.len(), n);
+                assert_eq!(check(&join(&[&write_marks(&marks)])), 0);
+            }
+        }
+    }
+
+    #[test]
+    fn seeds_give_different_samples() {
+        for shape in Shape::ALL {
+            assert_ne!(marks(shape, 50, 0), marks(shape, 50, 1));
+            assert_ne!(marks(shape, 50, 0), marks(shape, 50, u64::MAX));
+        }
+    }
+
+    #[test]
+    fn the_samples_lie_as_their_shape_says() {
+        let (line, point) = (marks(Shape::Line, 99, 5), marks(Shape::OnePlace, 99, 5));
+        assert!(line.iter().all(|mark| mark.y == line[0].y));
+        assert!(line.iter().any(|mark| mark.x != line[0].x));
+        assert!(point
+            .iter()
+            .all(|mark| (mark.x, mark.y) == (point[0].x, point[0].y)));
+        let huge = marks(Shape::HugeRadius, 99, 5);
+        assert!(huge.iter().all(|mark| mark.radius >= 16_000));
+        let extreme = marks(Shape::Extreme, 99, 5);
+        assert!(extreme
+            .iter()
+            .any(|mark| mark.x == i16::MIN && mark.y == i16::MAX));
+    }
+}

@@ -1,0 +1,308 @@
+//! The proved examples P1 to P12 of 01, and its 'Plausible and false'.
+
+use oracle::fraction::Fraction;
+use oracle::mark::{outranks, rank_order, touching_value, write_marks, Mark};
+use oracle::process::schedule_by_process;
+use oracle::record::{read_records, removals, write_records, Record};
+use oracle::report::print;
+use oracle::rules::{keep_both, Breach};
+use oracle::sheet::{check, join, open, schedule, split};
+use oracle::tree;
+use oracle::view::{is_set, view, Edges, Zoom};
+
+/// The marks of P1.
+const P1: [Mark; 4] = [
+    Mark::plain(0, 0, 10, 9),
+    Mark::plain(100, 0, 10, 5),
+    Mark::plain(200, 0, 10, 5),
+    Mark::plain(0, 3, 5, 1),
+];
+
+/// The rectangle of P3 and P4.
+const P3: Edges = Edges {
+    x0: 50,
+    x1: 250,
+    y0: -10,
+    y1: 10,
+};
+
+/// The sheet of one part with these marks.
+fn one_part(marks: &[Mark]) -> Vec<u8> {
+    join(&[&write_marks(marks)])
+}
+
+/// The sheet of three parts that scheduling these marks writes.
+fn scheduled(marks: &[Mark]) -> Vec<u8> {
+    let n = marks.len();
+    schedule(&one_part(marks), 32 * n + 1_024, 32 + 27 * n).unwrap()
+}
+
+/// The records that scheduling these marks writes.
+fn records(marks: &[Mark]) -> Vec<Record> {
+    let sheet = scheduled(marks);
+    read_records(split(&sheet).unwrap()[1])
+}
+
+/// The record with these three numbers.
+fn record(eliminator: u16, numerator: u64, denominator: u32) -> Record {
+    Record {
+        eliminator,
+        value: Fraction::new(numerator, denominator),
+    }
+}
+
+/// What a view of P1 with the rectangle of P3 answers at this zoom.
+fn view_p1(zoom: Zoom) -> Result<(Vec<u8>, u32), u32> {
+    view(&scheduled(&P1), P3, zoom, 1)
+}
+
+#[test]
+fn p1() {
+    let expected = [
+        record(65_535, 0, 0),
+        record(0, 10_000, 400),
+        record(0, 40_000, 400),
+        record(0, 9, 225),
+    ];
+    assert_eq!(records(&P1), expected);
+    let text = "marks 4\n0 -\n1 0 10000 400 320\n2 0 40000 400 640\n3 0 9 225 12\n";
+    assert_eq!(print(&one_part(&P1)), text);
+}
+
+#[test]
+fn p2() {
+    let sheet = scheduled(&P1);
+    assert_eq!(split(&sheet).unwrap()[2], [0, 0, 1, 0, 3, 0, 2, 0]);
+}
+
+#[test]
+fn p3() {
+    assert_eq!(view_p1(Zoom::Wheel(1.0)), Ok((vec![0x06], 2)));
+}
+
+#[test]
+fn p4() {
+    assert_eq!(view_p1(Zoom::Wheel(5.0)), Ok((vec![0x04], 1)));
+}
+
+#[test]
+fn p5() {
+    let marks = [Mark::plain(7, 7, 1, 5), Mark::plain(7, 7, 1, 5)];
+    assert_eq!(records(&marks), [Record::NEVER, record(0, 0, 4)]);
+}
+
+#[test]
+fn p6() {
+    let low = Mark::plain(-32_768, -32_768, 1, 0);
+    let high = Mark::plain(32_767, 32_767, 1, 0);
+    let expected = [Record::NEVER, record(0, 8_589_672_450, 4)];
+    assert_eq!(records(&[low, high]), expected);
+}
+
+#[test]
+fn p7() {
+    assert_eq!(check(&one_part(&[Mark::plain(0, 0, 16_383, 0)])), 0);
+    assert_eq!(check(&one_part(&[Mark::plain(0, 0, 16_384, 0)])), 6);
+}
+
+#[test]
+fn p8() {
+    let of = |kind| Mark {
+        kind,
+        ..Mark::plain(0, 0, 0, 0)
+    };
+    assert_eq!(of(199).used_radius(), Some(200));
+    let other = Mark::plain(30, 40, 300, 9);
+    assert_eq!(records(&[of(199), other])[0], record(1, 2_500, 250_000));
+    assert_eq!(check(&one_part(&[of(200)])), 5);
+}
+
+#[test]
+fn p9() {
+    for taken in [1.0 / 64.0, 1_024.0] {
+        assert!(view_p1(Zoom::Wheel(taken)).is_ok());
+    }
+    for refused in [1.0 / 128.0, 1_024.0 + 1.0 / 64.0] {
+        assert_eq!(view_p1(Zoom::Wheel(refused)), Err(12));
+    }
+}
+
+#[test]
+fn p10() {
+    let sheet = [1, 0, 1, 0, 0x0c, 0, 0, 0, 0, 0, 0, 0];
+    assert_eq!(check(&sheet), 0);
+    assert_eq!(one_part(&[]), sheet);
+    assert!(open(&sheet).unwrap().marks.is_empty());
+}
+
+#[test]
+fn p11() {
+    let marks = [
+        Mark::plain(60, 0, 2, 5),
+        Mark::plain(-100, 0, 10, 9),
+        Mark::plain(0, 0, 10, 1),
+    ];
+    assert_eq!(records(&marks)[2], record(1, 10_000, 400));
+}
+
+#[test]
+fn p12() {
+    // At stop 16, zoom 1,024, mark 2 of P1 is long gone.
+    assert_eq!(view_p1(Zoom::Stop(16)), Ok((vec![0x00], 0)));
+    assert_eq!(view_p1(Zoom::Stop(17)), Err(12));
+}
+
+/// The number that checking gives for the sheet of these marks and records, with
+/// the tree they give.
+fn check_with(marks: &[Mark], records: &[Record]) -> u32 {
+    let tree = tree::write_tree(&tree::build(marks, records));
+    check(&join(&[
+        &write_marks(marks),
+        &write_records(records),
+        &tree,
+    ]))
+}
+
+#[test]
+fn false_that_mark_2_of_p1_goes_at_25_by_mark_1() {
+    let mut changed = records(&P1);
+    assert_eq!(check_with(&P1, &changed), 0);
+    changed[2] = record(1, 10_000, 400);
+    assert_eq!(changed[1].value, changed[2].value);
+    let broken = keep_both(&P1, &removals(&changed));
+    assert_eq!(broken, Err(Breach::Second(2)));
+    assert_eq!(check_with(&P1, &changed), 8);
+}
+
+#[test]
+fn false_that_removal_values_may_be_rounded() {
+    let mut rounded = records(&P1);
+    rounded[3] = record(0, 0, 225);
+    let broken = keep_both(&P1, &removals(&rounded));
+    assert_eq!(broken, Err(Breach::Second(3)));
+    assert_eq!(check_with(&P1, &rounded), 8);
+    rounded[3] = record(0, 225, 225);
+    let broken = keep_both(&P1, &removals(&rounded));
+    assert_eq!(broken, Err(Breach::First(0, 3)));
+    assert_eq!(check_with(&P1, &rounded), 8);
+}
+
+/// The process told with touching values compared after a division.
+fn schedule_by_quotient(marks: &[Mark], quotient: impl Fn(Fraction) -> f64) -> Vec<Record> {
+    let mut records = vec![Record::NEVER; marks.len()];
+    let numbers = || 0..marks.len();
+    loop {
+        let lives = |mark: usize| records[mark] == Record::NEVER;
+        let pairs = numbers().flat_map(|high| numbers().map(move |low| (high, low)));
+        let living = pairs
+            .filter(|&(high, low)| outranks(marks, high, low) && lives(high) && lives(low))
+            .map(|(high, low)| (touching_value(&marks[high], &marks[low]), high, low));
+        let first = living.min_by(|a, b| {
+            let by_value = quotient(a.0).total_cmp(&quotient(b.0));
+            by_value.then(rank_order(marks, a.1, b.1))
+        });
+        let Some((value, high, low)) = first else {
+            return records;
+        };
+        records[low] = Record::removed(high, value);
+    }
+}
+
+/// A double's quotient of the two numbers.
+fn in_doubles(value: Fraction) -> f64 {
+    value.numerator as f64 / f64::from(value.denominator)
+}
+
+#[test]
+fn false_that_values_may_be_compared_after_whole_division() {
+    // Mark 2 meets mark 1 at 4/4 and mark 0 at 5/4, which whole division makes 1.
+    let marks = [
+        Mark::plain(-2, 1, 1, 9),
+        Mark::plain(2, 0, 1, 5),
+        Mark::plain(0, 0, 1, 1),
+    ];
+    assert_eq!(records(&marks)[2], record(1, 4, 4));
+    let divided = schedule_by_quotient(&marks, |value| in_doubles(value).floor());
+    assert_eq!(divided[2], record(0, 5, 4));
+    let broken = keep_both(&marks, &removals(&divided));
+    assert_eq!(broken, Err(Breach::First(1, 2)));
+    let exact = schedule_by_quotient(&marks, in_doubles);
+    assert_eq!(exact, schedule_by_process(&marks));
+}
+
+#[test]
+fn false_that_values_may_be_compared_as_doubles() {
+    // Mark 2's values with marks 0 and 1 have cross products that differ by 1,
+    // and one and the same quotient as a double.
+    let marks = [
+        Mark::plain(32_632, 25_043, 1, 9),
+        Mark::plain(29_241, 28_704, 6, 5),
+        Mark::plain(-32_768, -32_768, 16_383, 1),
+    ];
+    let by_mark_1 = record(1, 7_623_922_865, 268_599_321);
+    let by_mark_0 = record(0, 7_619_271_721, 268_435_456);
+    assert_eq!(records(&marks)[2], by_mark_1);
+    let divided = schedule_by_quotient(&marks, in_doubles);
+    assert_eq!(divided[2], by_mark_0);
+    let broken = keep_both(&marks, &removals(&divided));
+    assert_eq!(broken, Err(Breach::First(1, 2)));
+}
+
+/// A schedule in which a mark goes at the least touching value with any
+/// higher-ranked mark, removed or not.
+fn schedule_with_ghosts(marks: &[Mark]) -> Vec<Record> {
+    let numbers = 0..marks.len();
+    let ghost = |mark: usize| {
+        let higher = (0..marks.len()).filter(|&other| outranks(marks, other, mark));
+        let met = higher.map(|other| (other, touching_value(&marks[other], &marks[mark])));
+        let first = met.min_by(|a, b| a.1.compare(b.1).then(rank_order(marks, a.0, b.0)));
+        first.map_or(Record::NEVER, |(other, value)| {
+            Record::removed(other, value)
+        })
+    };
+    numbers.map(ghost).collect()
+}
+
+#[test]
+fn false_that_a_removed_mark_still_blocks_others() {
+    // Mark 1 goes at 6.25, long before it would meet mark 2 at 25.
+    let marks = [
+        Mark::plain(0, 0, 10, 9),
+        Mark::plain(50, 0, 10, 5),
+        Mark::plain(150, 0, 10, 1),
+    ];
+    assert_eq!(records(&marks)[2], record(0, 22_500, 400));
+    let blocked = schedule_with_ghosts(&marks);
+    assert_eq!(blocked[2], record(1, 10_000, 400));
+    let broken = keep_both(&marks, &removals(&blocked));
+    assert_eq!(broken, Err(Breach::Second(2)));
+    assert_eq!(check_with(&marks, &blocked), 8);
+}
+
+/// The marks in the rectangle that a search down the tree comes to, the living
+/// left aside; a cut search ends where a root is outside the rectangle.
+fn search(marks: &[Mark], tree: &[u16], edges: Edges, cut: bool) -> Vec<usize> {
+    let Some((&root, others)) = tree.split_first() else {
+        return Vec::new();
+    };
+    let root = usize::from(root);
+    let (x, y) = (marks[root].x, marks[root].y);
+    let inside = (edges.x0..=edges.x1).contains(&x) && (edges.y0..=edges.y1).contains(&y);
+    if cut && !inside {
+        return Vec::new();
+    }
+    let (left, right) = others.split_at(others.len().div_ceil(2));
+    let mut found = search(marks, left, edges, cut);
+    found.extend(search(marks, right, edges, cut));
+    found.extend(inside.then_some(root));
+    found
+}
+
+#[test]
+fn false_that_a_search_ends_at_a_root_outside_the_rectangle() {
+    let (map, _) = view_p1(Zoom::Wheel(1.0)).unwrap();
+    let shown: Vec<usize> = (0..4).filter(|&mark| is_set(&map, mark)).collect();
+    let tree = tree::build(&P1, &records(&P1));
+    assert_eq!(search(&P1, &tree, P3, false), shown);
+    assert!(search(&P1, &tree, P3, true).is_empty());
+}

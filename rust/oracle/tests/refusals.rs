@@ -1,0 +1,562 @@
+//! Each question of 01 answered with no, on both sides of its limits, and in the
+//! order the questions are put.
+
+use oracle::fraction::Fraction;
+use oracle::mark::{write_marks, Mark};
+use oracle::record::{write_records, Record};
+use oracle::report::print;
+use oracle::sample::{marks, Shape};
+use oracle::sheet::{assemble, check, join, schedule};
+use oracle::tree;
+use oracle::view::{view, walk, Edges, Zoom};
+
+const P1: [Mark; 4] = [
+    Mark::plain(0, 0, 10, 9),
+    Mark::plain(100, 0, 10, 5),
+    Mark::plain(200, 0, 10, 5),
+    Mark::plain(0, 3, 5, 1),
+];
+
+const EVERYWHERE: Edges = Edges {
+    x0: i16::MIN,
+    x1: i16::MAX,
+    y0: i16::MIN,
+    y1: i16::MAX,
+};
+
+const UNKNOWN_KIND: Mark = Mark {
+    kind: 200,
+    ..Mark::plain(0, 0, 1, 0)
+};
+
+const LARGE_RADIUS: Mark = Mark::plain(0, 0, 16_384, 0);
+
+/// The largest work and written buffers that scheduling asks for.
+const WORK: usize = 32 * 4_096 + 1_024;
+const OUT: usize = 32 + 27 * 4_096;
+
+/// The sheet of one part with these marks.
+fn one_part(marks: &[Mark]) -> Vec<u8> {
+    join(&[&write_marks(marks)])
+}
+
+/// The sheet of three parts with these marks and records and their tree.
+fn three_parts(marks: &[Mark], records: &[Record]) -> Vec<u8> {
+    with_tree(marks, records, &tree::build(marks, records))
+}
+
+/// The sheet of three parts with these marks, records and tree.
+fn with_tree(marks: &[Mark], records: &[Record], tree: &[u16]) -> Vec<u8> {
+    join(&[
+        &write_marks(marks),
+        &write_records(records),
+        &tree::write_tree(tree),
+    ])
+}
+
+/// The record with these three numbers.
+fn record(eliminator: u16, numerator: u64, denominator: u32) -> Record {
+    Record {
+        eliminator,
+        value: Fraction::new(numerator, denominator),
+    }
+}
+
+/// The schedule of P1.
+fn p1_records() -> [Record; 4] {
+    [
+        Record::NEVER,
+        record(0, 10_000, 400),
+        record(0, 40_000, 400),
+        record(0, 9, 225),
+    ]
+}
+
+/// The number of P1's sheet with one record changed.
+fn check_p1_with(mark: usize, changed: Record) -> u32 {
+    let mut records = p1_records();
+    records[mark] = changed;
+    check(&three_parts(&P1, &records))
+}
+
+/// A sheet with these entries (code, offset, length) and this many zero bytes
+/// after them.
+fn raw(entries: &[(u16, u32, u32)], body: usize) -> Vec<u8> {
+    let mut sheet = (entries.len() as u16).to_le_bytes().to_vec();
+    for (code, offset, length) in entries {
+        sheet.extend(code.to_le_bytes());
+        sheet.extend(offset.to_le_bytes());
+        sheet.extend(length.to_le_bytes());
+    }
+    sheet.extend(vec![0; body]);
+    sheet
+}
+
+#[test]
+fn question_1_two_bytes_and_a_number_of_parts() {
+    assert_eq!(check(&[]), 1);
+    assert_eq!(check(&[1]), 1);
+    assert_eq!(check(&raw(&[], 0)), 1);
+    let four = [(1, 42, 0), (2, 42, 0), (3, 42, 0), (4, 42, 0)];
+    assert_eq!(check(&raw(&four, 0)), 1);
+    assert_eq!(check(&raw(&[(9, 0, 0); 4], 0)), 1);
+    // 257 parts, by both bytes of the number, with all of its contents.
+    assert_eq!(check(&raw(&[(1, 12, 0); 257], 0)), 1);
+}
+
+#[test]
+fn question_1_the_whole_contents() {
+    let sheets = [
+        raw(&[(1, 12, 0)], 0),
+        raw(&[(1, 22, 0), (2, 22, 0)], 0),
+        raw(&[(1, 32, 0), (2, 32, 0), (3, 32, 0)], 0),
+    ];
+    for sheet in sheets {
+        assert_eq!(check(&sheet), 0);
+        for length in 0..sheet.len() {
+            assert_eq!(check(&sheet[..length]), 1, "{length}");
+        }
+    }
+    assert_eq!(check(&raw(&[(7, 0, 0), (7, 0, 0)], 0)[..21]), 1);
+}
+
+#[test]
+fn question_2_codes_in_order() {
+    for code in [0, 2, 257, 65_535] {
+        assert_eq!(check(&raw(&[(code, 12, 0)], 0)), 2, "{code}");
+    }
+    assert_eq!(check(&raw(&[(1, 22, 0), (1, 22, 0)], 0)), 2);
+    assert_eq!(check(&raw(&[(1, 22, 0), (3, 22, 0)], 0)), 2);
+    assert_eq!(check(&raw(&[(2, 22, 0), (1, 22, 0)], 0)), 2);
+    let third = [(1, 32, 0), (2, 32, 0), (4, 32, 0)];
+    assert_eq!(check(&raw(&third, 0)), 2);
+}
+
+#[test]
+fn question_2_is_put_of_all_codes_before_any_body() {
+    assert_eq!(check(&raw(&[(1, 0, 5), (3, 22, 0)], 0)), 2);
+    assert_eq!(check(&raw(&[(1, 0, 5), (2, 22, 0)], 0)), 3);
+}
+
+#[test]
+fn question_3_offsets_and_ends() {
+    assert_eq!(check(&raw(&[(1, 11, 0)], 0)), 3);
+    assert_eq!(check(&raw(&[(1, 13, 0)], 0)), 3);
+    assert_eq!(check(&raw(&[(1, 12, 11)], 11)), 0);
+    assert_eq!(check(&raw(&[(1, 12, 11)], 10)), 3);
+    assert_eq!(check(&raw(&[(1, 12, 11)], 12)), 3);
+    assert_eq!(check(&raw(&[(1, 12, u32::MAX)], 0)), 3);
+    let joined = |second| raw(&[(1, 22, 11), (2, second, 14)], 25);
+    assert_eq!(check(&joined(33)), 8); // a record of zeros
+    assert_eq!(check(&joined(32)), 3);
+    assert_eq!(check(&joined(34)), 3);
+}
+
+#[test]
+fn question_3_an_empty_body_stands_in_its_place_too() {
+    assert_eq!(check(&raw(&[(1, 22, 0), (2, 0, 0)], 0)), 3);
+    assert_eq!(check(&raw(&[(1, 22, 0), (2, 22, 0)], 0)), 0);
+}
+
+#[test]
+fn question_3_ends_do_not_wrap() {
+    // In 32 bits the first body would end at 0 and the second with the sheet.
+    let wrapping = [(1, 22, u32::MAX - 21), (2, 0, 22)];
+    assert_eq!(check(&raw(&wrapping, 0)), 3);
+    // Here the last end would be the sheet's length modulo 2 to the power 32.
+    let third = [(1, 32, 0), (2, 32, 5), (3, 37, u32::MAX - 4)];
+    assert_eq!(check(&raw(&third, 0)), 3);
+}
+
+#[test]
+fn question_4_length_of_part_1() {
+    for length in [1, 10, 12, 21] {
+        assert_eq!(check(&join(&[&vec![0; length]])), 4, "{length}");
+    }
+    assert_eq!(check(&join(&[&[0; 11]])), 0);
+    assert_eq!(check(&join(&[&vec![0; 45_056]])), 0);
+    assert_eq!(check(&join(&[&vec![0; 45_057]])), 4);
+    assert_eq!(check(&join(&[&vec![0; 45_067]])), 4);
+}
+
+#[test]
+fn question_4_comes_after_3_and_before_5() {
+    let mut body = write_marks(&[UNKNOWN_KIND]);
+    body.push(0);
+    let mut sheet = join(&[&body]);
+    assert_eq!(check(&sheet), 4);
+    sheet.push(0);
+    assert_eq!(check(&sheet), 3);
+}
+
+#[test]
+fn questions_5_and_6_limits() {
+    let of = |kind| Mark {
+        kind,
+        ..Mark::plain(0, 0, 0, 0)
+    };
+    assert_eq!(check(&one_part(&[of(199)])), 0);
+    assert_eq!(check(&one_part(&[of(200)])), 5);
+    assert_eq!(check(&one_part(&[of(255)])), 5);
+    let wide = |radius| Mark::plain(0, 0, radius, 0);
+    assert_eq!(check(&one_part(&[wide(16_383)])), 0);
+    assert_eq!(check(&one_part(&[wide(16_384)])), 6);
+    assert_eq!(check(&one_part(&[wide(65_535)])), 6);
+}
+
+#[test]
+fn questions_5_and_6_are_put_mark_by_mark() {
+    let good = Mark::plain(0, 0, 1, 0);
+    let both = Mark {
+        kind: 200,
+        ..LARGE_RADIUS
+    };
+    assert_eq!(check(&one_part(&[LARGE_RADIUS, UNKNOWN_KIND])), 6);
+    assert_eq!(check(&one_part(&[UNKNOWN_KIND, LARGE_RADIUS])), 5);
+    assert_eq!(check(&one_part(&[good, good, both])), 5);
+    assert_eq!(check(&one_part(&[good, good, LARGE_RADIUS])), 6);
+}
+
+#[test]
+fn question_7_lengths_of_parts_2_and_3() {
+    let part_1 = write_marks(&P1);
+    let part_2 = write_records(&p1_records());
+    let part_3 = tree::write_tree(&[0, 1, 3, 2]);
+    assert_eq!(check(&join(&[&part_1, &part_2])), 0);
+    assert_eq!(check(&join(&[&part_1, &part_2, &part_3])), 0);
+    for length in [0, 14, 42, 55, 57, 70] {
+        let body = vec![0; length];
+        assert_eq!(check(&join(&[&part_1, &body])), 7, "{length}");
+    }
+    for length in [0, 4, 6, 7, 9, 10] {
+        let body = vec![0; length];
+        assert_eq!(check(&join(&[&part_1, &part_2, &body])), 7, "{length}");
+    }
+    assert_eq!(check(&join(&[&[], &[0; 14]])), 7);
+    assert_eq!(check(&join(&[&[], &[], &[0; 2]])), 7);
+}
+
+#[test]
+fn question_7_comes_after_6_and_before_8() {
+    let bad_records = [record(0, 0, 0); 4];
+    let part_2 = write_records(&bad_records);
+    assert_eq!(check(&join(&[&write_marks(&P1), &part_2, &[]])), 7);
+    assert_eq!(check(&join(&[&write_marks(&P1), &part_2, &[0; 8]])), 8);
+    let part_1 = write_marks(&[P1[0], LARGE_RADIUS]);
+    assert_eq!(check(&join(&[&part_1, &[0; 3]])), 6);
+}
+
+#[test]
+fn question_8_the_never_record_is_whole() {
+    assert_eq!(check_p1_with(1, Record::NEVER), 0);
+    assert_eq!(check_p1_with(1, record(65_535, 0, 400)), 8);
+    assert_eq!(check_p1_with(1, record(65_535, 1, 0)), 8);
+    assert_eq!(check_p1_with(1, record(65_535, 10_000, 400)), 8);
+    assert_eq!(check_p1_with(1, record(65_534, 0, 0)), 8);
+    assert_eq!(check_p1_with(1, record(0, 0, 0)), 8);
+}
+
+#[test]
+fn question_8_the_eliminator_is_a_higher_ranked_mark_below_n() {
+    assert_eq!(check_p1_with(1, record(4, 10_000, 400)), 8);
+    assert_eq!(check_p1_with(1, record(256, 10_000, 400)), 8);
+    // Mark 1 itself, and mark 2 of equal priority and higher number.
+    assert_eq!(check_p1_with(1, record(1, 0, 400)), 8);
+    assert_eq!(check_p1_with(1, record(2, 10_000, 400)), 8);
+    // The highest-ranked mark has nobody to go for.
+    assert_eq!(check_p1_with(0, record(2, 40_000, 400)), 8);
+    // A higher number may still rank higher.
+    let swapped = [P1[1], P1[0]];
+    let records = [record(1, 10_000, 400), Record::NEVER];
+    assert_eq!(check(&three_parts(&swapped, &records)), 0);
+}
+
+#[test]
+fn question_8_the_numbers_are_the_unreduced_ones() {
+    for (numerator, denominator) in [
+        (25, 1),
+        (20_000, 800),
+        (5_000, 200),
+        (10_001, 400),
+        (9_999, 400),
+        (10_000, 401),
+        (10_000 + (1 << 32), 400),
+        (10_000, 400 + (1 << 16)),
+        (400, 10_000),
+    ] {
+        let changed = record(0, numerator, denominator);
+        assert_eq!(check_p1_with(1, changed), 8, "{changed:?}");
+    }
+}
+
+#[test]
+fn question_8_the_eliminator_is_removed_strictly_later() {
+    // Mark 1 goes at the very value it is named for.
+    assert_eq!(check_p1_with(2, record(1, 10_000, 400)), 8);
+    // The same with equal values that are written differently.
+    let marks = [P1[0], P1[1], Mark::plain(160, 0, 2, 1)];
+    let mut records = [Record::NEVER, record(0, 10_000, 400), record(1, 3_600, 144)];
+    assert_eq!(check(&three_parts(&marks, &records)), 8);
+    // One map unit nearer, mark 2 goes before mark 1 does.
+    let nearer = [P1[0], P1[1], Mark::plain(159, 0, 2, 1)];
+    records[2] = record(1, 59 * 59, 144);
+    assert_eq!(check(&three_parts(&nearer, &records)), 0);
+}
+
+#[test]
+fn question_8_reads_records_of_any_size() {
+    let largest = record(1, u64::MAX, u32::MAX);
+    assert_eq!(check_p1_with(0, largest), 8);
+    assert_eq!(check_p1_with(0, record(1, u64::MAX, 0)), 8);
+    assert_eq!(check_p1_with(3, largest), 8);
+}
+
+#[test]
+fn question_8_takes_schedules_that_are_not_ours() {
+    let never = [Record::NEVER; 4];
+    assert_eq!(check(&three_parts(&P1, &never)), 0);
+    // Mark 1 stays, so mark 2 may go for it, and mark 3 too late.
+    let mut records = never;
+    records[2] = record(1, 10_000, 400);
+    records[3] = record(1, 10_009, 225);
+    assert_eq!(check(&three_parts(&P1, &records)), 0);
+}
+
+#[test]
+fn question_9_another_tree() {
+    let number = |tree: &[u16]| check(&with_tree(&P1, &p1_records(), tree));
+    assert_eq!(number(&[0, 1, 3, 2]), 0);
+    let others = [
+        [0, 1, 2, 3],
+        [0, 3, 1, 2],
+        [0, 2, 1, 3],
+        [1, 0, 3, 2],
+        [0, 0, 0, 0],
+        [0, 1, 3, 4],
+        [0, 1, 3, 65_535],
+        [0, 1, 3, 258],
+        [256, 1, 3, 2],
+    ];
+    for tree in others {
+        assert_eq!(number(&tree), 9, "{tree:?}");
+    }
+}
+
+#[test]
+fn question_9_goes_by_the_records_there() {
+    let marks = [P1[1], P1[2], P1[0]];
+    let ours = [
+        record(2, 10_000, 400),
+        record(2, 40_000, 400),
+        Record::NEVER,
+    ];
+    assert_eq!(check(&with_tree(&marks, &ours, &[2, 0, 1])), 0);
+    let never = [Record::NEVER; 3];
+    assert_eq!(check(&with_tree(&marks, &never, &[2, 0, 1])), 9);
+    assert_eq!(check(&with_tree(&marks, &never, &[0, 2, 1])), 0);
+}
+
+#[test]
+fn question_9_comes_after_8() {
+    let mut records = p1_records();
+    assert_eq!(check(&with_tree(&P1, &records, &[0; 4])), 9);
+    records[3] = record(0, 1, 25);
+    assert_eq!(check(&with_tree(&P1, &records, &[0; 4])), 8);
+}
+
+/// What a view answers that shows all it can.
+fn view_all(sheet: &[u8]) -> Result<(Vec<u8>, u32), u32> {
+    view(sheet, EVERYWHERE, Zoom::Stop(0), 512)
+}
+
+#[test]
+fn question_10_parts_2_and_3_are_there() {
+    let part_1 = write_marks(&P1);
+    let part_2 = write_records(&p1_records());
+    assert_eq!(view_all(&join(&[&part_1])), Err(10));
+    assert_eq!(view_all(&join(&[&part_1, &part_2])), Err(10));
+    assert_eq!(
+        view_all(&three_parts(&P1, &p1_records())),
+        Ok((vec![0x0f], 4))
+    );
+}
+
+#[test]
+fn question_10_there_is_not_longer_than_0() {
+    assert_eq!(view_all(&join(&[&[]])), Err(10));
+    assert_eq!(view_all(&join(&[&[], &[]])), Err(10));
+    let empty = join(&[&[], &[], &[]]);
+    assert_eq!(view(&empty, EVERYWHERE, Zoom::Stop(0), 0), Ok((vec![], 0)));
+}
+
+#[test]
+fn question_11_edges_in_order() {
+    let sheet = three_parts(&P1, &p1_records());
+    let number = |x0, x1, y0, y1| {
+        let edges = Edges { x0, x1, y0, y1 };
+        view(&sheet, edges, Zoom::Stop(0), 1).map(|(_, count)| count)
+    };
+    assert_eq!(number(100, 100, 0, 0), Ok(1));
+    assert_eq!(number(101, 100, 0, 0), Err(11));
+    assert_eq!(number(100, 100, 1, 0), Err(11));
+    assert_eq!(number(i16::MAX, i16::MIN, 0, 0), Err(11));
+    assert_eq!(number(i16::MIN, i16::MAX, i16::MIN, i16::MAX), Ok(4));
+}
+
+#[test]
+fn view_puts_9_to_13_in_order() {
+    let sheet = three_parts(&P1, &p1_records());
+    let wrong_tree = with_tree(&P1, &p1_records(), &[0, 1, 2, 3]);
+    let crossed = Edges {
+        x0: 1,
+        x1: 0,
+        ..EVERYWHERE
+    };
+    let (bad, good) = (Zoom::Stop(17), Zoom::Stop(16));
+    assert_eq!(view(&wrong_tree, crossed, bad, 0), Err(9));
+    assert_eq!(view(&one_part(&P1), crossed, bad, 0), Err(10));
+    assert_eq!(view(&sheet, crossed, bad, 0), Err(11));
+    assert_eq!(view(&sheet, EVERYWHERE, bad, 0), Err(12));
+    assert_eq!(view(&sheet, EVERYWHERE, good, 0), Err(13));
+    assert_eq!(view(&sheet, EVERYWHERE, good, 1), Ok((vec![0x01], 1)));
+}
+
+#[test]
+fn question_12_zooms() {
+    let sheet = three_parts(&P1, &p1_records());
+    let number = |zoom| view(&sheet, EVERYWHERE, zoom, 1).map(|(_, count)| count);
+    assert_eq!(number(Zoom::Stop(0)), Ok(4));
+    assert_eq!(number(Zoom::Stop(80)), Err(12));
+    assert_eq!(number(Zoom::Wheel(0.0)), Err(12));
+    assert_eq!(number(Zoom::Wheel(f32::NAN)), Err(12));
+    // Mark 3 goes at zoom 1/5, between 12/64 and 13/64.
+    assert_eq!(number(Zoom::Wheel(12.0 / 64.0)), Ok(4));
+    assert_eq!(number(Zoom::Wheel(12.5 / 64.0)), Err(12));
+    assert_eq!(number(Zoom::Wheel(13.0 / 64.0)), Ok(3));
+}
+
+#[test]
+fn question_13_of_a_map() {
+    for n in [1, 8, 9, 16, 17] {
+        let marks = marks(Shape::Line, n, 1);
+        let sheet = three_parts(&marks, &vec![Record::NEVER; n]);
+        let bytes = n.div_ceil(8);
+        let short = view(&sheet, EVERYWHERE, Zoom::Stop(16), bytes - 1);
+        assert_eq!(short, Err(13));
+        let (map, count) = view(&sheet, EVERYWHERE, Zoom::Stop(16), bytes).unwrap();
+        assert_eq!((map.len(), count as usize), (bytes, n));
+    }
+}
+
+#[test]
+fn question_13_of_scheduling() {
+    for n in [0, 1, 4] {
+        let sheet = one_part(&P1[..n]);
+        let (work, out) = (32 * n + 1_024, 32 + 27 * n);
+        assert_eq!(schedule(&sheet, work, out).unwrap().len(), out);
+        assert_eq!(schedule(&sheet, work - 1, out), Err(13));
+        assert_eq!(schedule(&sheet, work, out - 1), Err(13));
+    }
+    assert_eq!(schedule(&one_part(&[UNKNOWN_KIND]), 0, 0), Err(5));
+}
+
+#[test]
+fn scheduling_does_not_heal_a_bad_part_2_or_3() {
+    let (part_1, part_2) = (write_marks(&P1), write_records(&p1_records()));
+    let sheets = [
+        (join(&[&part_1, &part_2[1..]]), 7),
+        (join(&[&part_1, &[0; 56]]), 8),
+        (join(&[&part_1, &part_2, &[0; 8]]), 9),
+    ];
+    for (sheet, number) in sheets {
+        assert_eq!(schedule(&sheet, WORK, OUT), Err(number));
+    }
+}
+
+#[test]
+fn question_1_of_putting_together_is_about_the_number_only() {
+    for count in [0, 4, 257, u32::MAX] {
+        assert_eq!(assemble(count, [&[], &[], &[]], OUT), Err(1), "{count}");
+    }
+    for count in 1..=3 {
+        let sheet = assemble(count, [&[], &[], &[]], OUT).unwrap();
+        assert_eq!(sheet.len(), 2 + 10 * count as usize);
+    }
+}
+
+#[test]
+fn putting_together_asks_4_to_9_and_then_13() {
+    let part_1 = write_marks(&P1);
+    let part_2 = write_records(&p1_records());
+    let part_3 = tree::write_tree(&[0, 1, 3, 2]);
+    let unknown = write_marks(&[UNKNOWN_KIND]);
+    let large = write_marks(&[LARGE_RADIUS]);
+    let cases: [(u32, [&[u8]; 3], u32); 6] = [
+        (1, [&part_1[1..], &[], &[]], 4),
+        (1, [&unknown, &[], &[]], 5),
+        (1, [&large, &[], &[]], 6),
+        (3, [&part_1, &part_2, &part_3[1..]], 7),
+        (3, [&part_1, &[0; 56], &part_3], 8),
+        (3, [&part_1, &part_2, &[0; 8]], 9),
+    ];
+    for (count, bodies, number) in cases {
+        assert_eq!(assemble(count, bodies, 0), Err(number));
+    }
+    let bodies: [&[u8]; 3] = [&part_1, &part_2, &part_3];
+    assert_eq!(assemble(3, bodies, 139), Err(13));
+    assert_eq!(assemble(3, bodies, 140).unwrap(), join(&bodies));
+}
+
+#[test]
+fn putting_together_ignores_further_bodies() {
+    let part_1 = write_marks(&P1);
+    let junk = [0xff; 5];
+    let one = assemble(1, [&part_1, &junk, &junk], 56).unwrap();
+    assert_eq!(one, one_part(&P1));
+    assert_eq!(assemble(2, [&part_1, &junk, &junk], OUT), Err(7));
+}
+
+#[test]
+fn question_13_of_a_walk() {
+    assert_eq!(walk(&[0x04], 3, 0), (0, 2));
+    assert_eq!(walk(&[], 3, 0), (13, 65_535));
+    assert_eq!(walk(&[0; 513], 4_097, 0), (13, 65_535));
+    assert_eq!(walk(&[0; 513], 4_096, 0), (0, 65_535));
+}
+
+#[test]
+fn question_14_a_longer_input_gets_14_before_all_else() {
+    assert_eq!(print(&[0; 65_536]), "refused 1\n");
+    assert_eq!(print(&[0; 65_537]), "refused 14\n");
+}
+
+#[test]
+fn question_14_whole_sheets_about_the_longest_input() {
+    let sheet_of = |n: usize| {
+        let marks = marks(Shape::Uniform, n, 2);
+        three_parts(&marks, &vec![Record::NEVER; n])
+    };
+    let (mut shorter, mut longer) = (sheet_of(2_426), sheet_of(2_427));
+    assert_eq!((shorter.len(), longer.len()), (65_534, 65_561));
+    assert_eq!((check(&shorter), check(&longer)), (0, 0));
+    assert_eq!(print(&shorter), "refused 14\n");
+    assert_eq!(print(&longer), "refused 14\n");
+    // A wrong tree comes before too many marks, and after too many bytes.
+    *shorter.last_mut().unwrap() ^= 0x80;
+    *longer.last_mut().unwrap() ^= 0x80;
+    assert_eq!(print(&shorter), "refused 9\n");
+    assert_eq!(print(&longer), "refused 14\n");
+}
+
+#[test]
+fn question_14_at_most_2_000_marks() {
+    let mut many = marks(Shape::Grid, 2_001, 1);
+    let text = print(&one_part(&many[..2_000]));
+    assert_eq!(text.lines().count(), 2_001);
+    assert!(text.starts_with("marks 2000\n"));
+    assert_eq!(print(&one_part(&many)), "refused 14\n");
+    many[2_000].kind = 200;
+    assert_eq!(print(&one_part(&many)), "refused 5\n");
+    let too_many = marks(Shape::Grid, 4_097, 1);
+    assert_eq!(print(&one_part(&too_many)), "refused 4\n");
+}
