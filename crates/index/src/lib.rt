@@ -1,1 +1,222 @@
-// Building and checking the index.
+// Part 3 of a sheet, the index: its check. `marks`, `schedule` and `index` are the bytes of parts 1, 2 and 3; an `axis` is true for x.
+use fractions::Fraction;
+use fractions::Value;
+ghost use mathlib.Core.Path.{_≡_};
+ghost use mathlib.Core.Bool.{true, _&&_};
+ghost use mathlib.Core.Logic.{_↔_};
+ghost use Prim.Native.Nat.{_+_, _*_, _<_, _≤_, min, max};
+ghost use lib.ListN.{length};
+ghost use Rattle.elimination.specs.Records.{valueAt};
+ghost use Rattle.index.specs.Index.{beats, shifted, coordinate, axisKey, isIndex};
+ghost use Rattle.index.specs.Valid.{heads};
+ghost use Rattle.index.specs.Blocks.{entryAt, block};
+ghost use Rattle.index.specs.Check.{keyBound, findingOf, joinSpans, side, joinFindings, AllScheduled, Ready, Whole, AllBelow};
+
+// ---- who is removed later
+
+// The removal value that a mark's record names.
+pub fn value_at(schedule: &[u8], m: usize) -> Value
+    requires { ⌜ 14 * m + 14 ≤ length (now schedule) ⌝ }
+    ensures { λ r. ⌜ r ≡ valueAt (now (schedule .entry)) m ⌝ }
+{
+    let at = 14 * m;
+    let den = numbers::read_u32(schedule, at + 10);
+    if den == 0 {
+        return Value::Never;
+    }
+    let num = numbers::read(schedule, at + 2, 8);
+    Value::At(Fraction { num, den })
+}
+
+// Is a removed later than b, or at an equal value with the lower number?
+pub fn beats(schedule: &[u8], a: usize, b: usize) -> bool
+    requires { ⌜ (14 * a + 14 ≤ length (now schedule)) × (14 * b + 14 ≤ length (now schedule)) ⌝ }
+    ensures { λ r. ⌜ r ≡ beats (now (schedule .entry)) a b ⌝ }
+{
+    let v = value_at(schedule, a);
+    let w = value_at(schedule, b);
+    if fractions::later(v, w) {
+        return true;
+    }
+    if fractions::level(v, w) {
+        return a < b;
+    }
+    false
+}
+
+// ---- the keys by x and by y
+
+fn shifted(x: i16) -> u64
+    ensures { λ r. ⌜ (r ≡ shifted x) × (r < 65536) ⌝ }
+{
+    (x as i32 + 32768) as u64
+}
+
+// A mark's x or y, shifted to be at least 0.
+pub fn coordinate(marks: &[u8], axis: bool, m: usize) -> u64
+    requires { ⌜ 11 * m + 11 ≤ length (now marks) ⌝ }
+    ensures { λ r. ⌜ (r ≡ coordinate (now (marks .entry)) axis m) × (r < 65536) ⌝ }
+{
+    if axis {
+        return shifted(marks::place_x(marks, m));
+    }
+    shifted(marks::place_y(marks, m))
+}
+
+// The coordinate and the number, as one number.
+pub fn axis_key(marks: &[u8], axis: bool, m: usize) -> u64
+    requires { ⌜ (11 * m + 11 ≤ length (now marks)) × (m < 65536) ⌝ }
+    ensures { λ r. ⌜ (r ≡ axisKey (now (marks .entry)) axis m) × (r < keyBound) ⌝ }
+{
+    coordinate(marks, axis, m) * 65536 + m as u64
+}
+
+// ---- the check of a block
+
+// Number i of the index.
+pub fn entry(index: &[u8], i: usize) -> usize
+    requires { ⌜ 2 * i + 2 ≤ length (now index) ⌝ }
+    ensures { λ r. ⌜ (r ≡ entryAt (now (index .entry)) i) × (r < 65536) ⌝ }
+{
+    numbers::read_u16(index, 2 * i) as usize
+}
+
+// The keys of a block on one axis: none is below `low`, and all are below `high`.
+pub struct Span {
+    pub low: u64,
+    pub high: u64,
+}
+
+// What the check finds of a block: whether it is a tree, and its keys by x and by y.
+pub struct Finding {
+    pub ok: bool,
+    pub x: Span,
+    pub y: Span,
+}
+
+fn both(a: bool, b: bool) -> bool
+    ensures { λ r. ⌜ r ≡ a && b ⌝ }
+{
+    if a { b } else { false }
+}
+
+fn least(a: u64, b: u64) -> u64
+    ensures { λ r. ⌜ r ≡ min a b ⌝ }
+{
+    if a <= b { a } else { b }
+}
+
+fn greatest(a: u64, b: u64) -> u64
+    ensures { λ r. ⌜ r ≡ max a b ⌝ }
+{
+    if a <= b { b } else { a }
+}
+
+// The span of a root with this key and of two halves.
+fn join_spans(key: u64, a: Span, b: Span) -> Span
+    requires { ⌜ key < keyBound ⌝ }
+    ensures { λ r. ⌜ r ≡ joinSpans key a b ⌝ }
+{
+    Span {
+        low: least(key, least(a.low, b.low)),
+        high: greatest(key + 1, greatest(a.high, b.high)),
+    }
+}
+
+fn side(axis: bool, f: Finding) -> Span
+    ensures { λ r. ⌜ r ≡ side axis f ⌝ }
+{
+    if axis { f.x } else { f.y }
+}
+
+// Two halves joined under a root with the keys kx and ky; `heads` says whether the root beats the heads of both.
+fn join_findings(axis: bool, heads: bool, kx: u64, ky: u64, a: Finding, b: Finding) -> Finding
+    requires { ⌜ (kx < keyBound) × (ky < keyBound) ⌝ }
+    ensures { λ r. ⌜ r ≡ joinFindings axis heads kx ky a b ⌝ }
+{
+    let left = side(axis, a);
+    let right = side(axis, b);
+    let root = both(heads, left.high <= right.low);
+    Finding {
+        ok: both(root, both(a.ok, b.ok)),
+        x: join_spans(kx, a.x, b.x),
+        y: join_spans(ky, a.y, b.y),
+    }
+}
+
+// Does the root beat the head of a half, where the half has one?
+fn beats_head(schedule: &[u8], index: &[u8], root: usize, lo: usize, size: usize) -> bool
+    requires { ⌜ (14 * root + 14 ≤ length (now schedule)) × (2 * (lo + size) ≤ length (now index)) × AllScheduled (now schedule) (now index) ⌝ }
+    ensures { λ r. ⌜ r ≡ heads (beats (now (schedule .entry))) root (block (entryAt (now (index .entry))) lo size) ⌝ }
+{
+    if size == 0 {
+        return true;
+    }
+    beats(schedule, root, entry(index, lo))
+}
+
+// What the check finds of the `size` numbers of the index from number `lo` on.
+fn check_block(
+    marks: &[u8],
+    schedule: &[u8],
+    index: &[u8],
+    lo: usize,
+    size: usize,
+    axis: bool,
+) -> Finding
+    requires { ⌜ Ready (now marks) (now schedule) (now index) lo size ⌝ }
+    ensures { λ r. ⌜ r ≡ findingOf (now (marks .entry)) (now (schedule .entry)) axis (block (entryAt (now (index .entry))) lo size) ⌝ }
+{
+    if size == 0 {
+        let none = Span {
+            low: 4294967296,
+            high: 0,
+        };
+        return Finding {
+            ok: true,
+            x: none,
+            y: none,
+        };
+    }
+    let root = entry(index, lo);
+    let h = size / 2;
+    let rest = size - 1 - h;
+    let p = lo + 1;
+    let q = p + h;
+    let a = check_block(marks, schedule, index, p, h, !axis);
+    let b = check_block(marks, schedule, index, q, rest, !axis);
+    let ha = beats_head(schedule, index, root, p, h);
+    let hb = beats_head(schedule, index, root, q, rest);
+    let kx = axis_key(marks, true, root);
+    let ky = axis_key(marks, false, root);
+    join_findings(axis, both(ha, hb), kx, ky, a, b)
+}
+
+// ---- question 9
+
+// Is every number of the index below n?
+fn all_below(index: &[u8], n: usize) -> bool
+    requires { ⌜ 2 * n ≤ length (now index) ⌝ }
+    ensures { λ r. ⌜ (r ≡ true) ↔ AllBelow (now (index .entry)) n ⌝ }
+{
+    let mut i = 0;
+    while i < n {
+        if n <= entry(index, i) {
+            return false;
+        }
+        i += 1;
+    }
+    true
+}
+
+// Is the index the tree that the n marks and their schedule give?
+pub fn is_index(marks: &[u8], schedule: &[u8], index: &[u8], n: usize) -> bool
+    requires { ⌜ Whole (now marks) (now schedule) (now index) n ⌝ }
+    ensures { λ r. ⌜ r ≡ isIndex (now (marks .entry)) (now (schedule .entry)) (now (index .entry)) n ⌝ }
+{
+    if all_below(index, n) {
+        let found = check_block(marks, schedule, index, 0, n, true);
+        return found.ok;
+    }
+    false
+}

@@ -1,6 +1,6 @@
 -- 01, "A mark" and "Touching, rank, removal" up to the process. `s` is part 1 of a sheet, the marks' bytes, and `m` a mark's number.
 use Prim.Native.Nat.{ℕ, _+_, _-_, _*_}
-use mathlib.Core.Bool.{Bool, true, false, cond, _&&_, _||_}
+use mathlib.Core.Bool.{Bool, cond, _&&_, _||_}
 use mathlib.Core.List.{List}
 use lib.Dec.{ltb, leb, eqb}
 use lib.IntN.{ℤ, _-ℤ_, natAbs}

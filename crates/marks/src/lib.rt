@@ -1,7 +1,154 @@
-// The fields of a mark, its used radius, touching and rank.
+// The fields of a mark, its used radius, touching and rank. `s` is part 1 of a sheet and `m` a mark's number.
+use fractions::Fraction;
+ghost use mathlib.Core.Path.{_≡_};
+ghost use Prim.Native.Nat.{_+_, _*_, _<_, _≤_};
+ghost use lib.ListN.{length};
+ghost use lib.IntN.{_-ℤ_, natAbs};
+ghost use Rattle.fractions.specs.Order.{Small};
+ghost use Rattle.marks.specs.Marks.{xAt, yAt, radiusAt, priorityAt, kindAt, houseOf, usedRadius, usedAt};
+ghost use Rattle.marks.specs.Marks.{square, touchingOf, touching, outranks, rankKey};
+
+// ---- the fields
+
+pub fn place_x(s: &[u8], m: usize) -> i16
+    requires { ⌜ 11 * m + 11 ≤ length (now s) ⌝ }
+    ensures { λ r. ⌜ r ≡ xAt (now (s .entry)) m ⌝ }
+{
+    numbers::read_i16(s, 11 * m)
+}
+
+pub fn place_y(s: &[u8], m: usize) -> i16
+    requires { ⌜ 11 * m + 11 ≤ length (now s) ⌝ }
+    ensures { λ r. ⌜ r ≡ yAt (now (s .entry)) m ⌝ }
+{
+    numbers::read_i16(s, 11 * m + 2)
+}
+
+// The radius as written, which may be 0.
+pub fn written_radius_at(s: &[u8], m: usize) -> u16
+    requires { ⌜ 11 * m + 11 ≤ length (now s) ⌝ }
+    ensures { λ r. ⌜ r ≡ radiusAt (now (s .entry)) m ⌝ }
+{
+    numbers::read_u16(s, 11 * m + 4)
+}
+
+pub fn priority_at(s: &[u8], m: usize) -> u16
+    requires { ⌜ 11 * m + 11 ≤ length (now s) ⌝ }
+    ensures { λ r. ⌜ r ≡ priorityAt (now (s .entry)) m ⌝ }
+{
+    numbers::read_u16(s, 11 * m + 6)
+}
+
+pub fn kind_at(s: &[u8], m: usize) -> u8
+    requires { ⌜ 11 * m + 11 ≤ length (now s) ⌝ }
+    ensures { λ r. ⌜ r ≡ kindAt (now (s .entry)) m ⌝ }
+{
+    numbers::read(s, 11 * m + 8, 1) as u8
+}
+
+// ---- the kind and the radius
 
 // The house radius of a kind, or refusal 5.
 pub enum House {
     Radius(u16),
     Refused,
+}
+
+pub fn house_radius(kind: u8) -> House
+    ensures { λ r. ⌜ r ≡ houseOf kind ⌝ }
+{
+    match kind {
+        0..=9 => House::Radius(40),
+        10..=49 => House::Radius(60),
+        50..=99 => House::Radius(90),
+        100..=149 => House::Radius(120),
+        150..=199 => House::Radius(200),
+        _ => House::Refused,
+    }
+}
+
+// The radius that counts: 0 means the house radius. Kinds above 199 do not exist; the definition gives them the last
+// kind's radius, so that no used radius is 0.
+pub fn used_radius(radius: u16, kind: u8) -> u16
+    ensures { λ r. ⌜ r ≡ usedRadius radius kind ⌝ }
+{
+    if radius != 0 {
+        return radius;
+    }
+    match house_radius(kind) {
+        House::Radius(house) => house,
+        House::Refused => 200,
+    }
+}
+
+pub fn radius_at(s: &[u8], m: usize) -> u16
+    requires { ⌜ 11 * m + 11 ≤ length (now s) ⌝ }
+    ensures { λ r. ⌜ r ≡ usedAt (now (s .entry)) m ⌝ }
+{
+    used_radius(written_radius_at(s, m), kind_at(s, m))
+}
+
+// ---- touching
+
+// The difference of two places needs 17 bits, so it is taken at 32.
+pub fn difference(a: i16, b: i16) -> i32
+    ensures { λ r. ⌜ r ≡ a -ℤ b ⌝ }
+{
+    a as i32 - b as i32
+}
+
+// The square of a difference needs 32 bits without a sign, so it is taken at 64.
+pub fn squared(d: i32) -> u64
+    requires { ⌜ natAbs d ≤ 65535 ⌝ }
+    ensures { λ r. ⌜ r ≡ square d ⌝ }
+{
+    let e = d as i64;
+    (e * e) as u64
+}
+
+// The touching value of two marks, given by their places and used radii.
+pub fn touching_of(ax: i16, ay: i16, ar: u16, bx: i16, by: i16, br: u16) -> Fraction
+    requires { ⌜ (ar ≤ 16383) × (br ≤ 16383) ⌝ }
+    ensures { λ r. ⌜ (r ≡ touchingOf ax ay ar bx by br) × Small r ⌝ }
+{
+    let radii = ar as u32 + br as u32;
+    let num = squared(difference(ax, bx)) + squared(difference(ay, by));
+    let den = radii * radii;
+    Fraction { num: num, den: den }
+}
+
+// The same of marks a and b of a sheet.
+pub fn touching(s: &[u8], a: usize, b: usize) -> Fraction
+    requires { ⌜ (11 * a + 11 ≤ length (now s)) × (11 * b + 11 ≤ length (now s)) ⌝ }
+    requires { ⌜ (usedAt (now s) a ≤ 16383) × (usedAt (now s) b ≤ 16383) ⌝ }
+    ensures { λ r. ⌜ (r ≡ touching (now (s .entry)) a b) × Small r ⌝ }
+{
+    touching_of(
+        place_x(s, a),
+        place_y(s, a),
+        radius_at(s, a),
+        place_x(s, b),
+        place_y(s, b),
+        radius_at(s, b),
+    )
+}
+
+// ---- rank
+
+// Does mark a rank higher than mark b?
+pub fn outranks(s: &[u8], a: usize, b: usize) -> bool
+    requires { ⌜ (11 * a + 11 ≤ length (now s)) × (11 * b + 11 ≤ length (now s)) ⌝ }
+    ensures { λ r. ⌜ r ≡ outranks (now (s .entry)) a b ⌝ }
+{
+    let p = priority_at(s, a);
+    let q = priority_at(s, b);
+    q < p || p == q && a < b
+}
+
+// The rank as one number, the smaller the higher.
+pub fn rank_key(s: &[u8], m: usize) -> u64
+    requires { ⌜ (11 * m + 11 ≤ length (now s)) × (m < 4096) ⌝ }
+    ensures { λ r. ⌜ r ≡ rankKey (now (s .entry)) m ⌝ }
+{
+    (65535 - priority_at(s, m) as u64) * 4096 + m as u64
 }

@@ -18,10 +18,11 @@ use Rattle.view.specs.declared.Zoom.{Zoom}
 use Rattle.view.specs.declared.Zoom.the-variants.{Stop, Wheel}
 use Rattle.view.specs.Zoom.{stopScale, wheelScale, scaleOf}
 use Rattle.view.specs.Shown.{Rectangle, livesAt, inside, shown}
-use Rattle.view.specs.Map.{mapBits, mapBytes, countShown, nextSet, walk}
+use Rattle.bitmap.specs.Map.{mapByte, mapPart, mapBytes, countShown, nextSet, walk}
 use Rattle.view.specs.Questions as Viewing
 use Rattle.rollmap.specs.Jobs.{Outcome, outcome, checkJob, scheduled, scheduleQuestions, scheduleJob, shownIn, viewJob}
-use Rattle.report.specs.Text.{text, digits, line, root, zoomDown, markLine, markLines, listing, refusal, printQuestions, printed}
+use Rattle.text.specs.Text.{digits, rootStep, root, zoomDown}
+use Rattle.report.specs.Text.{text, line, markLine, markLines, listing, refusal, printQuestions, printed}
 
 -- ---- inputs by their fields
 
@@ -158,6 +159,6 @@ unfolding table answers pairs sheet marks ofBits
     startAt split entries chain join answer every Questions.question1 Questions.question2 Questions.question3 Questions.question4
     Questions.markQuestions Questions.question7 Questions.namesRight Questions.recordRight Questions.question8
     Questions.question9 Questions.bodyQuestions Questions.checkQuestions Questions.check stopScale wheelScale scaleOf livesAt inside
-    shown mapBits mapBytes countShown Viewing.question10 Viewing.question11 Viewing.viewQuestions outcome checkJob scheduled
-    shownIn viewJob digits line root zoomDown markLine markLines listing refusal printQuestions printed
+    shown mapByte mapPart mapBytes countShown Viewing.question10 Viewing.question11 Viewing.viewQuestions outcome checkJob scheduled
+    shownIn viewJob digits line rootStep root zoomDown markLine markLines listing refusal printQuestions printed
 examples = refl

@@ -1,51 +1,29 @@
 -- 01, "The printed schedule".
-use Prim.Native.Nat.{ℕ, zero, suc, _+_, _*_, _/_, _%_}
+use Prim.Native.Nat.{ℕ, zero, suc}
 use Prim.Native.String.{String, [] as empty, _∷_ as _then_}
 use Prim.Native.Char.{code}
-use mathlib.Core.Bool.{cond, _&&_}
+use mathlib.Core.Bool.{cond}
 use mathlib.Core.List.{List, [], _∷_, _++_}
 use lib.ListN.{length}
-use lib.Dec.{ltb, leb, eqb}
-use Rattle.fractions.specs.declared.Fraction.{Fraction}
+use lib.Dec.{leb, eqb}
+use Rattle.text.specs.Text.{decimal, zoomDown}
 use Rattle.elimination.specs.Process.{Removal, stays, gone, process}
 use Rattle.elimination.specs.Records.{marksOf}
 use Rattle.sheet.specs.Contents.{split, marksPart}
 use Rattle.sheet.specs.Asking.{Question, _asks_, answer}
 use Rattle.sheet.specs.Questions.{sheetCount, checkQuestions}
 
--- ---- texts and numbers as bytes
+-- ---- texts as bytes
 
 abbrev pub text : String → List ℕ
 text empty = []
 text (_then_ c s) = code c ∷ text s
-
--- the decimal digits of v, which has at most `width` of them
-unfoldable pub digits : ℕ → ℕ → List ℕ
-digits zero v = []
-digits (suc width) v = cond (ltb v 10) [] (digits width (v / 10)) ++ ((48 + v % 10) ∷ [])
-
--- a number of up to 8 bytes has at most 20 digits
-abbrev pub decimal : ℕ → List ℕ
-decimal = digits 20
 
 -- "Fields stand one space apart; every line ends with a line feed."
 unfoldable pub line : List (List ℕ) → List ℕ
 line [] = 10 ∷ []
 line (f ∷ []) = f ++ (10 ∷ [])
 line (f ∷ g ∷ rest) = f ++ (32 ∷ line (g ∷ rest))
-
--- ---- the removal zoom
-
--- the largest r with r² ≤ v, for v below 4 to the power `width`: the root of v / 4, doubled, and one more where that fits
-unfoldable pub root : ℕ → ℕ → ℕ
-root zero v = 0
-root (suc width) v =
-    let r = 2 * root width (v / 4) in
-    cond (leb (suc r * suc r) v) (suc r) r
-
--- "the removal zoom in 64ths, rounded down (the largest k with k² times denominator ≤ 4096 times numerator)"
-unfoldable pub zoomDown : Fraction → ℕ
-zoomDown f = root 32 (4096 * f .num / f .den)
 
 -- ---- the lines
 

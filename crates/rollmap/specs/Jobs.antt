@@ -14,7 +14,7 @@ use Rattle.sheet.specs.Questions.{markCount, sheetCount, checkQuestions, check,
 use Rattle.view.specs.declared.Zoom.{Zoom}
 use Rattle.view.specs.Zoom.{scaleOf}
 use Rattle.view.specs.Shown.{Rectangle, shown}
-use Rattle.view.specs.Map.{mapBytes, countShown, walk}
+use Rattle.bitmap.specs.Map.{mapBytes, countShown, walk}
 use Rattle.view.specs.Questions.{viewQuestions, walkQuestions}
 
 -- ---- outcomes

@@ -1,5 +1,5 @@
--- What a zoom is, who is shown, the map, and the questions of viewing and walking.
+-- What a zoom is, who is shown, and the questions of viewing and walking.
 pub mod Zoom
+pub mod ZoomLaws
 pub mod Shown
-pub mod Map
 pub mod Questions

@@ -12,7 +12,7 @@ use Rattle.sheet.specs.Questions.{checkQuestions, sheetCount}
 use Rattle.view.specs.declared.Zoom.{Zoom}
 use Rattle.view.specs.Zoom.{scaleOf}
 use Rattle.view.specs.Shown.{Rectangle}
-use Rattle.view.specs.Map.{mapSize}
+use Rattle.bitmap.specs.Map.{mapSize}
 
 -- 10. "Are parts 2 and 3 there?"
 unfoldable pub question10 : List (List ℕ) → Bool

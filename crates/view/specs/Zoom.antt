@@ -1,11 +1,14 @@
 -- 01, "The view and its map": the zoom. z² is k²/4096 with k = 64z.
-use Prim.Native.Nat.{ℕ, _*_, _/_, _%_, _^_}
+use Prim.Native.Nat.{ℕ, _*_, _/_, _%_, _^_, _≤_}
 use mathlib.Core.Bool.{Bool, true, false, cond, _&&_}
 use mathlib.Core.Option.{Option, none, some}
 use lib.Dec.{leb, eqb}
 use lib.Ieee.{Float, nan, inf, fin, up, down}
+use lib.Ieee.Exact.{HasValue}
 use Rattle.view.specs.declared.Zoom.{Zoom}
 use Rattle.view.specs.declared.Zoom.the-variants.{Stop, Wheel}
+use Rattle.view.specs.declared.Scale.{Scale}
+use Rattle.view.specs.declared.Scale.the-variants.{Taken, Refused}
 
 -- "Stop s, 0 to 16, means 64z = 2 to the power s."
 unfoldable pub stopScale : ℕ → Option ℕ
@@ -25,3 +28,12 @@ wheelScale (fin false m e) =
 unfoldable pub scaleOf : Zoom → Option ℕ
 scaleOf (Stop s) = stopScale s
 scaleOf (Wheel w) = wheelScale w
+
+-- The same of a wheel value without computing: w is the real number k / 64, and k is from 1 to 65,536. Laws has that they agree.
+abbrev pub Is64 : Float → ℕ → Type 0
+Is64 w k = (1 ≤ k) × (k ≤ 65536) × HasValue w false k 64
+
+-- what the code's answer stands for: k, or refusal 12
+abbrev pub scaleIs : Scale → Option ℕ
+scaleIs (Taken k) = some k
+scaleIs Refused = none

@@ -1,14 +1,9 @@
--- 01: the map of one bit a mark, the count, and the walk.
+-- 01, "The view and its map": the map of one bit a mark, the count, and the walk.
 use Prim.Native.Nat.{ℕ, zero, suc, _+_, _-_, _*_, _/_, _%_, _^_}
 use mathlib.Core.Bool.{Bool, true, false, cond, _&&_}
-use mathlib.Core.List.{List, map}
-use lib.ListN.{length, getD}
-use lib.Dec.{ltb, leb, eqb}
-use Rattle.index.specs.Tree.{upTo}
-
-abbrev pub bit : Bool → ℕ
-bit true = 1
-bit false = 0
+use mathlib.Core.List.{List, [], _∷_, _++_}
+use lib.ListN.{getD}
+use lib.Dec.{ltb, eqb}
 
 -- ---- the bytes that a view writes; `shown m` says whether mark m is shown
 
@@ -16,14 +11,23 @@ bit false = 0
 abbrev pub mapSize : ℕ → ℕ
 mapSize n = (n + 7) / 8
 
--- the lowest `width` bits of the byte whose first mark is `from`
-unfoldable pub mapBits : (ℕ → Bool) → ℕ → ℕ → ℕ
-mapBits shown from zero = 0
-mapBits shown from (suc width) = mapBits shown from width + bit (shown (from + width)) * 2 ^ width
+abbrev pub bit : Bool → ℕ
+bit true = 1
+bit false = 0
 
--- "mark m is bit m mod 8 of byte m / 8". "Unused bits of the last byte are 0."
+-- "mark m is bit m mod 8 of byte m / 8": the first `width` bits of the byte whose first mark is `from`
+unfoldable pub mapByte : (ℕ → Bool) → ℕ → ℕ → ℕ
+mapByte shown from zero = 0
+mapByte shown from (suc width) = mapByte shown from width + bit (shown (from + width)) * 2 ^ width
+
+-- the first `size` bytes
+unfoldable pub mapPart : (ℕ → Bool) → ℕ → List ℕ
+mapPart shown zero = []
+mapPart shown (suc size) = mapPart shown size ++ (mapByte shown (8 * size) 8 ∷ [])
+
+-- the map of n marks: "Unused bits of the last byte are 0."
 unfoldable pub mapBytes : (ℕ → Bool) → ℕ → List ℕ
-mapBytes shown n = map (λ j. mapBits (λ m. ltb m n && shown m) (8 * j) 8) (upTo (mapSize n))
+mapBytes shown n = mapPart (λ m. ltb m n && shown m) (mapSize n)
 
 -- "The count is the number of shown marks."
 unfoldable pub countShown : (ℕ → Bool) → ℕ → ℕ

@@ -1,0 +1,3 @@
+mod Machine
+mod Words
+mod Turns

@@ -1,0 +1,53 @@
+-- What the other crates cite of maps, the count and the walk. Their proofs are in Lemmas.
+use Prim.Native.Nat.{ℕ, _*_, _/_, _%_, _≤_, _<_}
+use mathlib.Core.Path.{_≡_}
+use mathlib.Core.Bool.{Bool}
+use mathlib.Core.List.{List, _++_}
+use native.Mathlib.Omega.{arith}
+use lib.ListN.{length, getD, drop}
+use Rattle.numbers.specs.Little.{Bytes}
+use Rattle.bitmap.specs.Map.{mapSize, mapBytes, countShown, bitAt, walk}
+use Rattle.bitmap.specs.Facts.{Shows, Cleared, Walked, countBits}
+use Rattle.bitmap.specs.Lemmas.Bits.{bit-zero}
+use Rattle.bitmap.specs.Lemmas.Counts as Counts
+use Rattle.bitmap.specs.Lemmas.Maps as Maps
+use Rattle.bitmap.specs.Lemmas.Walks as Walks
+
+-- ---- the map
+
+module _ (shown : ℕ → Bool) (n : ℕ) where
+  -- The definition's bytes show the marks, whatever stands after them.
+  pub map-shows : (rest : List ℕ) → Shows shown n (mapBytes shown n ++ rest)
+  map-shows = Maps.map-shows shown n
+
+  pub map-length : length (mapBytes shown n) ≡ mapSize n
+  map-length = Maps.map-length shown n
+
+-- A list of bytes that shows the marks, and is `before` from the map's end on, is the definition's.
+pub map-is : {shown : ℕ → Bool} {n : ℕ} {after : List ℕ} → Shows shown n after → Bytes after
+    → (before : List ℕ) → mapSize n ≤ length before → length after ≡ length before
+    → ((i : ℕ) → mapSize n ≤ i → getD after i 0 ≡ getD before i 0)
+    → after ≡ mapBytes shown n ++ drop (mapSize n) before
+map-is = Maps.map-is
+
+-- After clearing, the bits of the cleared bytes are 0.
+pub cleared-bit : {size : ℕ} {before after : List ℕ} → Cleared size before after
+    → (m : ℕ) → m < 8 * size → bitAt after m ≡ 0
+cleared-bit {after = after} c m h = bit-zero (getD after (m / 8) 0) (m % 8) (c .zeros (m / 8) (omega arith))
+
+-- ---- the count
+
+-- Of a map that shows the marks, the set bits of its bytes are as many as the shown marks.
+pub count-shown : {shown : ℕ → Bool} {n : ℕ} {map : List ℕ} → Shows shown n map
+    → countBits (bitAt map) (8 * mapSize n) ≡ countShown shown n
+count-shown {shown} {n} {map} s = Counts.count-shown shown n map s
+
+-- ---- the walk
+
+-- From 0 on, a walk hands out exactly the numbers below n whose bits are set, rising.
+pub walked : (map : List ℕ) (n start : ℕ) → n ≤ 4096 → Walked map n start (walk map n start)
+walked map n start few = Walks.walked map n few start
+
+-- The rule leaves one answer.
+pub walked-is : {map : List ℕ} {n start r : ℕ} → n ≤ 4096 → Walked map n start r → r ≡ walk map n start
+walked-is {map} {n} {start} few w = Walks.walked-same w (walked map n start few)

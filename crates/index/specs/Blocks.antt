@@ -1,0 +1,33 @@
+-- A tree in its places: place `lo` holds the root of a block, and the places after it the two halves of the others, one behind the other.
+-- `e i` is what stands at place i.
+use Prim.Native.Nat.{ℕ, zero, suc, _+_, _-_, _*_, _/_}
+use mathlib.Core.Path.{_≡_}
+use mathlib.Core.Bool.{Bool, true, not}
+use mathlib.Core.List.{List, [], _∷_, _++_}
+use Rattle.numbers.specs.Little.{leAt}
+use Rattle.index.specs.Count.{count, non}
+use Rattle.index.specs.Valid.{isTree, Split}
+
+-- "2 bytes a mark": number i of the index `t`
+abbrev pub entryAt : List ℕ → ℕ → ℕ
+entryAt t i = leAt 2 t (2 * i)
+
+-- what stands at the `size` places from `lo` on
+abbrev pub block : (ℕ → ℕ) → ℕ → ℕ → List ℕ
+block e lo zero = []
+block e lo (suc size) = e lo ∷ block e (suc lo) size
+
+-- the halves of all but the root, the larger first
+abbrev pub leftOf : (ℕ → ℕ) → ℕ → ℕ → List ℕ
+leftOf e lo size = block e (lo + 1) (size / 2)
+
+abbrev pub rightOf : (ℕ → ℕ) → ℕ → ℕ → List ℕ
+rightOf e lo size = block e (lo + 1 + size / 2) (size - 1 - size / 2)
+
+-- A block that is a tree: its root beats all others, and its halves are apart on the axis and trees on the other axis.
+pub record Halves (beats : ℕ → ℕ → Bool) (key : Bool → ℕ → ℕ) (axis : Bool) (e : ℕ → ℕ) (lo size : ℕ) : Type 0 where
+  pub whole : block e lo size ≡ e lo ∷ (leftOf e lo size ++ rightOf e lo size)
+  pub beaten : count (non (beats (e lo))) (leftOf e lo size ++ rightOf e lo size) ≡ 0
+  pub split : Split (key axis) (leftOf e lo size) (rightOf e lo size)
+  pub left : isTree beats key (not axis) (leftOf e lo size) ≡ true
+  pub right : isTree beats key (not axis) (rightOf e lo size) ≡ true

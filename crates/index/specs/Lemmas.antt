@@ -1,0 +1,14 @@
+-- The lemmas behind Laws, in the order in which they build on one another.
+pub mod Count
+pub mod Numbers
+pub mod Sorting
+pub mod Trees
+pub mod Unique
+pub mod TreeOf
+pub mod Beats
+pub mod Blocks
+pub mod Keys
+pub mod Findings
+pub mod Bytes
+pub mod Whole
+pub mod Search

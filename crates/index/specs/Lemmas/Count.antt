@@ -1,0 +1,135 @@
+-- Laws of counting, each by adding up over the list.
+use Prim.Native.Nat.{ℕ, suc, _+_, _≤_}
+use native.Mathlib.Omega.{arith}
+use mathlib.Core.Path.{_≡_, refl, sym, ap, _∙_}
+use mathlib.Core.Bool.{Bool, true, false, not, cond, _&&_, false≢true}
+use mathlib.Core.List.{List, [], _∷_, _++_}
+use lib.ListN.{length, take, drop, take-append-drop}
+use lib.Dec.{eqb}
+use borrow.Author.Tests.{eqb-true, eq-eqb}
+use Rattle.index.specs.Count.{bit, count, _≈_, times, non, both}
+use Rattle.index.specs.Tree.{without}
+
+-- ---- tests
+
+pub by-cases : {A : Type 0} (b : Bool) → (b ≡ true → A) → (b ≡ false → A) → A
+by-cases true f g = f refl
+by-cases false f g = g refl
+
+-- two tests that pass together are one
+pub same-test : (b c : Bool) → (b ≡ true → c ≡ true) → (c ≡ true → b ≡ true) → b ≡ c
+same-test true c f g = sym (f refl)
+same-test false true f g = g refl
+same-test false false f g = refl
+
+pub and-left : (b c : Bool) → b && c ≡ true → b ≡ true
+and-left true c h = refl
+and-left false c h = h
+
+pub and-right : (b c : Bool) → b && c ≡ true → c ≡ true
+and-right true c h = h
+and-right false c h = absurd (false≢true h)
+
+pub and-both : {b c : Bool} → b ≡ true → c ≡ true → b && c ≡ true
+and-both {b} {c} p q = ap (λ (z : Bool). z && c) p ∙ q
+
+pub bit-true : {b : Bool} → b ≡ true → bit b ≡ 1
+bit-true e = ap bit e
+
+pub bit-false : {b : Bool} → b ≡ false → bit b ≡ 0
+bit-false e = ap bit e
+
+pub bit-not : (b : Bool) → bit b + bit (not b) ≡ 1
+bit-not true = refl
+bit-not false = refl
+
+pub bit-zero : (b : Bool) → bit b ≡ 0 → b ≡ false
+bit-zero true h = absurd (omega arith)
+bit-zero false h = refl
+
+pub bit-not-zero : (b : Bool) → bit (not b) ≡ 0 → b ≡ true
+bit-not-zero true h = refl
+bit-not-zero false h = absurd (omega arith)
+
+bit-le : (b c : Bool) → (b ≡ true → c ≡ true) → bit b ≤ bit c
+bit-le true c h = omega (arith, ap bit (h refl))
+bit-le false c h = omega arith
+
+bit-split : (b c : Bool) → bit c ≡ bit (b && c) + bit (not b && c)
+bit-split true true = refl
+bit-split true false = refl
+bit-split false true = refl
+bit-split false false = refl
+
+-- ---- counts
+
+pub count-append : (p : ℕ → Bool) (l m : List ℕ) → count p (l ++ m) ≡ count p l + count p m
+count-append p [] m = omega arith
+count-append p (x ∷ l) m = omega (arith, count-append p l m)
+
+pub count-cut : (p : ℕ → Bool) (h : ℕ) (l : List ℕ) → count p l ≡ count p (take h l) + count p (drop h l)
+count-cut p h l = ap (count p) (sym (take-append-drop h l)) ∙ count-append p (take h l) (drop h l)
+
+-- a test that passes less often counts less
+pub count-le : (p q : ℕ → Bool) → ((y : ℕ) → p y ≡ true → q y ≡ true) → (l : List ℕ) → count p l ≤ count q l
+count-le p q h [] = omega arith
+count-le p q h (x ∷ l) = omega (arith, bit-le (p x) (q x) (h x), count-le p q h l)
+
+pub count-not : (p : ℕ → Bool) (l : List ℕ) → count p l + count (non p) l ≡ length l
+count-not p [] = refl
+count-not p (x ∷ l) = omega (arith, bit-not (p x), count-not p l)
+
+pub count-split : (p q : ℕ → Bool) (l : List ℕ) → count p l ≡ count (both q p) l + count (both (non q) p) l
+count-split p q [] = refl
+count-split p q (x ∷ l) = omega (arith, bit-split (q x) (p x), count-split p q l)
+
+count-never : (l : List ℕ) → count (λ y. false) l ≡ 0
+count-never [] = refl
+count-never (x ∷ l) = omega (arith, count-never l)
+
+-- a member that passes counts
+pub times-le : (p : ℕ → Bool) (x : ℕ) → p x ≡ true → (l : List ℕ) → times x l ≤ count p l
+times-le p x h l = count-le (eqb x) p (λ y e. ap p (sym (eqb-true x y e)) ∙ h) l
+
+pub times-self : (x : ℕ) → bit (eqb x x) ≡ 1
+times-self x = bit-true (eq-eqb x x refl)
+
+pub alike-length : (l m : List ℕ) → l ≈ m → length l ≡ length m
+alike-length l m h = omega (arith, h (λ y. true), h (λ y. false), count-not (λ y. true) l, count-not (λ y. true) m)
+
+-- ---- a list without a number
+
+pub without-count : (p : ℕ → Bool) (b : ℕ) (l : List ℕ) → count p (without b l) ≡ count (both (non (eqb b)) p) l
+without-count p b [] = refl
+without-count p b (x ∷ l) = go (eqb b x) (without-count p b l)
+  where
+    go : (c : Bool) → count p (without b l) ≡ count (both (non (eqb b)) p) l
+        → count p (cond c (without b l) (x ∷ without b l)) ≡ bit (not c && p x) + count (both (non (eqb b)) p) l
+    go true e = omega arith
+    go false e = omega arith
+
+pub without-length : (b : ℕ) (l : List ℕ) → length l ≡ times b l + length (without b l)
+without-length b [] = refl
+without-length b (x ∷ l) = go (eqb b x) (without-length b l)
+  where
+    go : (c : Bool) → length l ≡ times b l + length (without b l)
+        → suc (length l) ≡ bit c + times b l + length (cond c (without b l) (x ∷ without b l))
+    go true e = omega arith
+    go false e = omega arith
+
+pub without-le : (p : ℕ → Bool) (b : ℕ) (l : List ℕ) → count p (without b l) ≤ count p l
+without-le p b l = omega (arith, without-count p b l, count-split p (eqb b) l)
+
+-- what stands in l once comes out and goes in front
+pub without-alike : (b : ℕ) (l : List ℕ) → times b l ≡ 1 → l ≈ b ∷ without b l
+without-alike b l h p = omega (arith, count-split p (eqb b) l, without-count p b l, by-cases (p b) passes fails)
+  where
+    passes : p b ≡ true → count (both (eqb b) p) l ≡ bit (p b)
+    passes e =
+        omega
+        (arith, bit-true e, count-le (both (eqb b) p) (eqb b) (λ y q. and-left (eqb b y) (p y) q) l, count-le (eqb b) (both (eqb b) p) (λ y q. and-both q (ap p (sym (eqb-true b y q)) ∙ e)) l)
+
+    fails : p b ≡ false → count (both (eqb b) p) l ≡ bit (p b)
+    fails e =
+        omega
+        (arith, bit-false e, count-never l, count-le (both (eqb b) p) (λ y. false) (λ y q. sym e ∙ ap p (eqb-true b y (and-left (eqb b y) (p y) q)) ∙ and-right (eqb b y) (p y) q) l)

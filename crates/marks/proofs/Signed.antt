@@ -1,0 +1,61 @@
+-- What the machine makes of signed places, their differences and their squares, which it keeps as bits. Assumes nothing.
+use Prim.Native.Nat.{ℕ, _≤_, _<_}
+use mathlib.Core.Path.{_≡_, refl, ap, _∙_}
+use native.Mathlib.Omega.{arith}
+use borrow.Author.Needs.{sfits-of}
+use lib.Dec.{T, leb}
+use lib.IntN.{ℤ, pos, negsuc, natAbs, _-ℤ_, _*ℤ_}
+use lib.Signed.{mag}
+use mir.Syntax.{Width, w16, w32, w64}
+use mir.Val.{hbits, SFits, toZ, ofZ}
+use mir.Facts.{sfits-widen, toZ-ofZ}
+use Rattle.marks.specs.Marks.{square}
+use Rattle.marks.specs.Laws.{difference-bound, square-bound}
+
+-- ---- a cast to a wider type keeps the number
+
+module _ {w : Width} (w′ : Width) {z : ℤ} (wider : T (leb (hbits w) (hbits w′))) (fits : SFits w z) where
+  pub widens : SFits w′ (toZ w (ofZ w z))
+  widens = rw (toZ-ofZ fits) (sfits-widen wider fits)
+
+  pub widened : toZ w′ (ofZ w′ (toZ w (ofZ w z))) ≡ z
+  widened = toZ-ofZ widens ∙ toZ-ofZ fits
+
+-- ---- a place that one call returns, as the next call reads it
+
+pub passed : {z v : ℤ} → mag z < 32768 → z ≡ v → toZ w16 (ofZ w16 z) ≡ v
+passed h e = toZ-ofZ (sfits-of h) ∙ e
+
+-- ---- a difference of places fits 32 bits
+
+mag-le : (z : ℤ) → mag z ≤ natAbs z
+mag-le (pos n) = omega arith
+mag-le (negsuc n) = omega arith
+
+pub difference-fits : {a b : ℤ} → SFits w16 a → SFits w16 b → SFits w32 (a -ℤ b)
+difference-fits {a} {b} p q = record { sfits = omega (arith, mag-le (a -ℤ b), difference-bound a b p q) }
+
+-- ---- its square fits 64 bits and is not negative
+
+square-is : (d : ℤ) → d *ℤ d ≡ pos (square d)
+unfolding square
+square-is (pos n) = refl
+square-is (negsuc n) = refl
+
+pub square-fits : (d : ℤ) → natAbs d ≤ 65535 → SFits w64 (d *ℤ d)
+square-fits d h = rw (square-is d) (record { sfits = omega (arith, square-bound d h) })
+
+pub square-back : (d : ℤ) → natAbs d ≤ 65535 → toZ w64 (ofZ w64 (d *ℤ d)) ≡ pos (square d)
+square-back d h = toZ-ofZ (square-fits d h) ∙ square-is d
+
+-- ---- what a call of `difference` gives, and a call of `squared` on that
+
+module _ {a b d : ℤ} (p : SFits w16 a) (q : SFits w16 b) (e : d ≡ toZ w16 (ofZ w16 a) -ℤ toZ w16 (ofZ w16 b)) where
+  told : toZ w32 (ofZ w32 d) ≡ a -ℤ b
+  told = rw (e, toZ-ofZ p, toZ-ofZ q) (toZ-ofZ (difference-fits p q))
+
+  pub told-bound : natAbs (toZ w32 (ofZ w32 d)) ≤ 65535
+  told-bound = rw told (difference-bound a b p q)
+
+  pub told-square : {r : ℕ} → r ≡ square (toZ w32 (ofZ w32 d)) → r ≡ square (a -ℤ b)
+  told-square f = f ∙ ap square told

@@ -1,0 +1,24 @@
+-- `marks::squared` meets its contract: the square of at most 65,535 fits 64 bits with a sign. Assumes nothing.
+use native.Mathlib.Omega.{arith}
+use mir.Syntax.{w64}
+use Rattle.marks.specs.Laws.{square-bound}
+use Rattle.marks.proofs.Signed.{widens, widened, square-fits, square-back}
+use Rattle.marks.proofs.squared.Statement.{statement}
+use Rattle.marks.proofs.squared.Tie as tie
+
+cast-e : tie.Need-cast-e
+cast-e c = widens w64 tt (c .fits .d)
+
+mul-result : tie.Need-mul-result
+mul-result c = rw (widened w64 tt (c .fits .d)) (square-fits (c .args .d) (c .pre))
+
+cast-result : tie.Need-cast-result
+cast-result c =
+    rw (widened w64 tt (c .fits .d), square-back (c .args .d) (c .pre))
+    (tt, record { fits = omega (arith, square-bound (c .args .d) (c .pre)) })
+
+returns : tie.Need-returns
+returns c = rw (widened w64 tt (c .fits .d), square-back (c .args .d) (c .pre))
+
+pub squared-spec : {M : Type 1} → statement M
+squared-spec = tie.close (tie.spec cast-e mul-result cast-result returns)

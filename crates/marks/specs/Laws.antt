@@ -1,0 +1,166 @@
+-- Laws of radii, touching values and ranks. Assumes nothing.
+use Prim.Native.Nat.{ℕ, zero, suc, _+_, _-_, _*_, _<_, _≤_}
+use mathlib.Core.Path.{_≡_, refl, sym, ap, _∙_}
+use mathlib.Core.Bool.{Bool, true, false, cond, _&&_, _||_, false≢true}
+use mathlib.Core.List.{List}
+use mathlib.Core.Logic.{_↔_}
+use native.Mathlib.Decide.{decLt}
+use native.Mathlib.Nat.{mul-pos, mul-le-mul}
+use native.Mathlib.Omega.{arith}
+use borrow.Author.Tests.{ltb-true, eqb-true, leb-true, lt-ltb, le-ltb, eq-eqb}
+use lib.Dec.{ltb, eqb, eqb·suc-zero}
+use lib.IntN.{ℤ, pos, negsuc, negℤ, natAbs, subℕ, _+ℤ_, _-ℤ_, +ℤ-comm, negℤ-+ℤ, negℤ-negℤ}
+use lib.Signed.{mag}
+use mir.Syntax.{w16}
+use mir.Val.{SFits}
+use Rattle.numbers.specs.Little.{leAt, signed, Bytes}
+use Rattle.numbers.specs.Laws.{le-bound, signed-fits}
+use Rattle.fractions.specs.Order.{Small}
+use Rattle.marks.specs.Marks.{xAt, yAt, radiusAt, kindAt, priorityAt, usedAt, houseRadius, isRadius, usedRadius}
+use Rattle.marks.specs.Marks.{square, touchingOf, touching, outranks, rankKey}
+
+-- ---- radii
+
+-- from 40 to 200
+abbrev HouseSize : ℕ → Type 0
+HouseSize r = (40 ≤ r) × (r ≤ 200)
+
+pick : (t : Bool) (r : ℕ) {rest : ℕ} → HouseSize r → HouseSize rest → HouseSize (cond t r rest)
+pick true r p q = p
+pick false r p q = q
+
+house-size : (kind : ℕ) → HouseSize (houseRadius kind)
+unfolding houseRadius
+house-size kind =
+    pick (ltb kind 10) 40 (omega arith)
+    (pick (ltb kind 50) 60 (omega arith)
+    (pick (ltb kind 100) 90 (omega arith)
+    (pick (ltb kind 150) 120 (omega arith) (omega arith))))
+
+pub house-positive : (kind : ℕ) → 0 < houseRadius kind
+house-positive kind = omega (arith, house-size kind)
+
+pub used-positive : (radius kind : ℕ) → 0 < usedRadius radius kind
+unfolding usedRadius
+used-positive zero kind = house-positive kind
+used-positive (suc radius) kind = rw (eqb·suc-zero radius) (omega arith)
+
+pub used-bound : (radius kind : ℕ) → isRadius radius ≡ true → usedRadius radius kind ≤ 16383
+unfolding usedRadius isRadius
+used-bound zero kind h = omega (arith, house-size kind)
+used-bound (suc radius) kind h = rw (eqb·suc-zero radius) (leb-true (suc radius) 16383 h)
+
+-- ---- places, their differences and the squares of these
+
+-- a place as read is a number of 16 bits with a sign
+pub place-fits : (s : List ℕ) (at : ℕ) → Bytes s → SFits w16 (signed 2 (leAt 2 s at))
+place-fits s at b = signed-fits w16 (leAt 2 s at) (record { fits = le-bound 2 s at b })
+
+sub-abs : (a b most : ℕ) → (0 < most) × (a ≤ most) × (b ≤ most) → natAbs (subℕ a b) ≤ most
+sub-abs a b most h = go (ltb a b)
+  where
+    go : (t : Bool) → natAbs (cond t (negsuc (b - suc a)) (pos (a - b))) ≤ most
+    go true = omega arith
+    go false = omega arith
+
+difference-abs : (a b : ℤ) (half : ℕ) → mag a < half → mag b < half → natAbs (a -ℤ b) < half + half
+difference-abs (pos a) (pos zero) half p q = omega arith
+difference-abs (pos a) (pos (suc b)) half p q = omega (arith, sub-abs a (suc b) half (omega arith))
+difference-abs (pos a) (negsuc b) half p q = omega arith
+difference-abs (negsuc a) (pos zero) half p q = omega (arith, sub-abs 0 (suc a) half (omega arith))
+difference-abs (negsuc a) (pos (suc b)) half p q = omega arith
+difference-abs (negsuc a) (negsuc b) half p q = omega (arith, sub-abs (suc b) (suc a) half (omega arith))
+
+-- two places are at most 65,535 apart on an axis
+pub difference-bound : (a b : ℤ) → SFits w16 a → SFits w16 b → natAbs (a -ℤ b) ≤ 65535
+difference-bound a b p q = omega (arith, difference-abs a b 32768 (p .sfits) (q .sfits))
+
+pub square-bound : (d : ℤ) → natAbs d ≤ 65535 → square d ≤ 4294836225
+unfolding square
+square-bound d h = mul-le-mul h h
+
+abs-negℤ : (z : ℤ) → natAbs (negℤ z) ≡ natAbs z
+abs-negℤ (pos zero) = refl
+abs-negℤ (pos (suc n)) = refl
+abs-negℤ (negsuc n) = refl
+
+difference-turned : (a b : ℤ) → b -ℤ a ≡ negℤ (a -ℤ b)
+difference-turned a b =
+    sym (negℤ-+ℤ a (negℤ b) ∙ ap (λ (z : ℤ). negℤ a +ℤ z) (negℤ-negℤ b) ∙ +ℤ-comm (negℤ a) b)
+
+square-symmetric : (a b : ℤ) → square (a -ℤ b) ≡ square (b -ℤ a)
+unfolding square
+square-symmetric a b = rw (difference-turned a b, abs-negℤ (a -ℤ b))
+
+-- ---- touching values
+
+pub touchingOf-symmetric : (ax ay : ℤ) (ar : ℕ) (bx by : ℤ) (br : ℕ)
+    → touchingOf ax ay ar bx by br ≡ touchingOf bx by br ax ay ar
+unfolding touchingOf
+touchingOf-symmetric ax ay ar bx by br =
+    let e : ar + br ≡ br + ar = omega arith in
+    rw (square-symmetric ax bx, square-symmetric ay by, e)
+
+pub touching-symmetric : (s : List ℕ) (a b : ℕ) → touching s a b ≡ touching s b a
+unfolding touching
+touching-symmetric s a b =
+    touchingOf-symmetric (xAt s a) (yAt s a) (usedAt s a) (xAt s b) (yAt s b) (usedAt s b)
+
+-- for all s a b: a mark past the end of s has a used radius above 0 too
+pub touching-positive : (s : List ℕ) (a b : ℕ) → 0 < (touching s a b) .den
+unfolding touching touchingOf
+touching-positive s a b =
+    let h : 0 < usedAt s a + usedAt s b = omega (arith, used-positive (radiusAt s a) (kindAt s a)) in
+    mul-pos h h
+
+pub touchingOf-small : (ax ay : ℤ) (ar : ℕ) (bx by : ℤ) (br : ℕ)
+    → SFits w16 ax → SFits w16 ay → ar ≤ 16383 → SFits w16 bx → SFits w16 by → br ≤ 16383
+    → Small (touchingOf ax ay ar bx by br)
+unfolding touchingOf
+touchingOf-small ax ay ar bx by br hax hay har hbx hby hbr =
+    let x = square-bound (ax -ℤ bx) (difference-bound ax bx hax hbx) in
+    let y = square-bound (ay -ℤ by) (difference-bound ay by hay hby) in
+    let r : ar + br ≤ 32766 = omega arith in
+    record { num-small = omega arith; den-small = omega (arith, mul-le-mul r r) }
+
+pub touching-small : (s : List ℕ) (a b : ℕ) → Bytes s → usedAt s a ≤ 16383 → usedAt s b ≤ 16383
+    → Small (touching s a b)
+unfolding touching
+touching-small s a b k p q =
+    touchingOf-small (xAt s a) (yAt s a) (usedAt s a) (xAt s b) (yAt s b) (usedAt s b)
+    (place-fits s (11 * a) k) (place-fits s (11 * a + 2) k) p
+    (place-fits s (11 * b) k) (place-fits s (11 * b + 2) k) q
+
+-- ---- rank
+
+pub rank-distinct : (s : List ℕ) (a b : ℕ) → a < 4096 → b < 4096 → rankKey s a ≡ rankKey s b → a ≡ b
+unfolding rankKey
+rank-distinct s a b p q e = omega arith
+
+or-and : {A : Type 0} (x y z : Bool) → x || (y && z) ≡ true → (x ≡ true → A) → (y ≡ true → z ≡ true → A) → A
+or-and true y z e f g = f refl
+or-and false true true e f g = g refl refl
+or-and false true false e f g = absurd (false≢true e)
+or-and false false z e f g = absurd (false≢true e)
+
+-- over the priorities x and y of a and b
+module _ (x y a b : ℕ) (hx : x < 65536) (hy : y < 65536) (ha : a < 4096) (hb : b < 4096) where
+  key-of-rank : ltb y x || (eqb x y && ltb a b) ≡ true → (65535 - x) * 4096 + a < (65535 - y) * 4096 + b
+  key-of-rank e =
+      or-and (ltb y x) (eqb x y) (ltb a b) e (λ h. omega (arith, ltb-true y x h))
+      (λ h l. omega (arith, eqb-true x y h, ltb-true a b l))
+
+  rank-of-key : (65535 - x) * 4096 + a < (65535 - y) * 4096 + b → ltb y x || (eqb x y && ltb a b) ≡ true
+  rank-of-key h =
+      elim (decLt y x) [
+        | yes l ↦ rw (lt-ltb y x l)
+        | no l ↦ rw (le-ltb y x (omega arith), eq-eqb x y (omega arith), lt-ltb a b (omega arith))
+      ]
+
+pub outranks-key : (s : List ℕ) (a b : ℕ) → Bytes s → a < 4096 → b < 4096
+    → (outranks s a b ≡ true) ↔ (rankKey s a < rankKey s b)
+unfolding outranks rankKey
+outranks-key s a b k p q =
+    let x = le-bound 2 s (11 * a + 6) k in
+    let y = le-bound 2 s (11 * b + 6) k in
+    (key-of-rank (priorityAt s a) (priorityAt s b) a b x y p q, rank-of-key (priorityAt s a) (priorityAt s b) a b x y p q)

@@ -1,0 +1,36 @@
+-- Numbers as text, and the integer root.
+use Prim.Native.Nat.{ℕ, zero, suc, _+_, _*_, _/_, _%_}
+use mathlib.Core.Path.{_≡_}
+use mathlib.Core.Bool.{cond}
+use mathlib.Core.List.{List, [], _∷_, _++_}
+use lib.ListN.{length}
+use lib.Seq.{sets}
+use lib.Dec.{ltb, leb}
+use Rattle.fractions.specs.declared.Fraction.{Fraction}
+
+-- the decimal digits of v, which has at most `width` of them
+unfoldable pub digits : ℕ → ℕ → List ℕ
+digits zero v = []
+digits (suc width) v = cond (ltb v 10) [] (digits width (v / 10)) ++ ((48 + v % 10) ∷ [])
+
+-- a number of up to 8 bytes has at most 20 digits
+abbrev pub decimal : ℕ → List ℕ
+decimal v = digits 20 v
+
+-- the root of v from that of v / 4: doubled, and one more where that fits
+unfoldable pub rootStep : ℕ → ℕ → ℕ
+rootStep r v = cond (leb ((2 * r + 1) * (2 * r + 1)) v) (2 * r + 1) (2 * r)
+
+-- the largest r with r² ≤ v, for v below 4 to the power `width`
+unfoldable pub root : ℕ → ℕ → ℕ
+root zero v = 0
+root (suc width) v = rootStep (root width (v / 4)) v
+
+-- 01: "the removal zoom in 64ths, rounded down (the largest k with k² times denominator ≤ 4096 times numerator)"
+unfoldable pub zoomDown : Fraction → ℕ
+zoomDown f = root 32 (4096 * f .num / f .den)
+
+-- `after` is `before` with these bytes at `at`, and `next` is behind them
+pub record Wrote (before after : List ℕ) (at : ℕ) (bytes : List ℕ) (next : ℕ) : Type 0 where
+  pub holds : after ≡ sets before at bytes
+  pub ends : next ≡ at + length bytes
