@@ -132,7 +132,7 @@ module _ (n from : ℕ) (small : n < 2 ^ 64) (inside : from < 64) where
         found = λ h. sym (bit-shift n from (trailingZeros 64 w)) ∙ one-above 64 w (omega arith);
       }
 
--- ---- `ones_in`: the machine counts the lowest bit first, the definition the highest
+-- ---- `ones_in`: the machine's count takes the lowest bit off first, `countBits` the highest
 
 lowest-first : (k n : ℕ) → countBits (bitOf n) (suc k) ≡ n % 2 + countBits (bitOf (n / 2)) k
 unfolding countBits

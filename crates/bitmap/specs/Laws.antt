@@ -44,10 +44,10 @@ count-shown {shown} {n} {map} s = Counts.count-shown shown n map s
 
 -- ---- the walk
 
--- From 0 on, a walk hands out exactly the numbers below n whose bits are set, rising.
+-- The walk keeps its rule, wherever it starts: from 0 on it hands out exactly the numbers below n with a set bit, rising.
 pub walked : (map : List ℕ) (n start : ℕ) → n ≤ 4096 → Walked map n start (walk map n start)
 walked map n start few = Walks.walked map n few start
 
--- The rule leaves one answer.
+-- The rule leaves one answer: what keeps it is the walk's.
 pub walked-is : {map : List ℕ} {n start r : ℕ} → n ≤ 4096 → Walked map n start r → r ≡ walk map n start
 walked-is {map} {n} {start} few w = Walks.walked-same w (walked map n start few)

@@ -6,6 +6,7 @@ ghost use Rattle.numbers.specs.Little.{leAt};
 ghost use Rattle.bitmap.specs.Map.{mapSize, bitAt, walk};
 ghost use Rattle.bitmap.specs.Facts.{bitOf, countBits, BitSet, Cleared, NextBit};
 
+// Mark m's bit, 0 or 1.
 pub fn test_bit(map: &[u8], m: usize) -> u8
     requires { ⌜ m / 8 < length (now map) ⌝ }
     ensures { λ r. ⌜ r ≡ bitAt (now (map .entry)) m ⌝ }
@@ -13,6 +14,7 @@ pub fn test_bit(map: &[u8], m: usize) -> u8
     (map[m / 8] >> (m % 8)) & 1
 }
 
+// Sets mark m's bit.
 pub fn set_bit(map: &mut [u8], m: usize)
     requires { ⌜ m / 8 < length (now map) ⌝ }
     ensures { λ _. ⌜ BitSet (now (map .entry)) m (now (map .exit)) ⌝ }
@@ -51,7 +53,7 @@ fn ones_in(word: u64) -> u32
     u64::count_ones(word)
 }
 
-// The 8 bytes from q on as one number. Those from `end` on count as 0.
+// The 8 bytes from q on as one number. Those from `end` on count as 0, so that the last word is like the others.
 fn word_at(map: &[u8], q: usize, end: usize) -> u64
     requires { ⌜ (q ≤ end) × (end ≤ length (now map)) ⌝ }
     ensures { λ r. ⌜ r ≡ leAt 8 (take end (now (map .entry))) q ⌝ }
@@ -63,7 +65,7 @@ fn word_at(map: &[u8], q: usize, end: usize) -> u64
     numbers::read(map, q, 8)
 }
 
-// How many bits of the first `size` bytes are set.
+// How many bits of the first `size` bytes are set. The map of 4,096 marks has 512 bytes.
 pub fn count(map: &[u8], size: usize) -> usize
     requires { ⌜ (size ≤ length (now map)) × (size ≤ 512) ⌝ }
     ensures { λ r. ⌜ r ≡ countBits (bitAt (now (map .entry))) (8 * size) ⌝ }
@@ -77,7 +79,8 @@ pub fn count(map: &[u8], size: usize) -> usize
     sum
 }
 
-// The least number at or after `start` and below n whose bit is set, else 65,535. A turn looks at the 64 numbers of one word.
+// The least number at or after `start` and below n whose bit is set, else 65,535. A turn looks at the 64 numbers of one
+// word; a set bit of the last word may belong to a number that is not below n.
 pub fn walk(map: &[u8], n: usize, start: usize) -> usize
     requires { ⌜ (n ≤ 4096) × (mapSize n ≤ length (now map)) ⌝ }
     ensures { λ r. ⌜ r ≡ walk (now (map .entry)) n start ⌝ }

@@ -5,3 +5,4 @@ pub mod Ahead
 pub mod Settled
 pub mod Runs
 pub mod RankOrder
+pub mod Records

@@ -7,4 +7,6 @@ pub mod Records
 pub mod Settled
 pub mod RankOrder
 pub mod Theorems
+pub mod Sheet
+pub mod Schedule
 pub mod Lemmas

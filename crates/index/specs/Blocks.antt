@@ -1,5 +1,5 @@
--- A tree in its places: place `lo` holds the root of a block, and the places after it the two halves of the others, one behind the other.
--- `e i` is what stands at place i.
+-- A tree in its places: place `lo` holds the root of a block, and the places after it the two halves of the others, one behind the
+-- other. `e i` is what stands at place i.
 use Prim.Native.Nat.{ℕ, zero, suc, _+_, _-_, _*_, _/_}
 use mathlib.Core.Path.{_≡_}
 use mathlib.Core.Bool.{Bool, true, not}

@@ -17,9 +17,11 @@ use Rattle.index.specs.declared.Finding.{Finding}
 abbrev pub keyBound : ℕ
 keyBound = 4294967296
 
+-- the least key of a list, and one past the greatest
 unfoldable pub spanOf : (ℕ → ℕ) → List ℕ → Span
 spanOf k l = record { low = low k keyBound l; high = top k l }
 
+-- whether a list is a tree, and its keys by x and by y
 unfoldable pub findingOf : List ℕ → List ℕ → Bool → List ℕ → Finding
 findingOf s p axis l =
     record {
@@ -28,15 +30,15 @@ findingOf s p axis l =
       y = spanOf (axisKey s false) l;
     }
 
--- the span of a root's key and the spans of two halves
+-- the span of two halves and a root with the key k
 unfoldable pub joinSpans : ℕ → Span → Span → Span
 joinSpans k a b = record { low = min k (min (a .low) (b .low)); high = max (suc k) (max (a .high) (b .high)) }
 
--- the keys by the axis
+-- the keys by one axis
 abbrev pub side : Bool → Finding → Span
 side axis f = cond axis (f .x) (f .y)
 
--- what two halves and their root, with its keys kx and ky, give: `heads` says whether the root beats the heads of both
+-- two halves and their root, with the keys kx and ky; `heads` says whether the root beats the heads of both
 unfoldable pub joinFindings : Bool → Bool → ℕ → ℕ → Finding → Finding → Finding
 joinFindings axis heads kx ky a b =
     record {
@@ -54,10 +56,16 @@ AllMarked s t = (i : ℕ) → 2 * i + 2 ≤ length t → 11 * entryAt t i + 11 �
 abbrev pub AllScheduled : List ℕ → List ℕ → Type 0
 AllScheduled p t = (i : ℕ) → 2 * i + 2 ≤ length t → 14 * entryAt t i + 14 ≤ length p
 
--- the block is in the index, whose numbers are marks'
+-- the block is in the index, whose numbers are those of marks
 pub record Ready (s p t : List ℕ) (lo size : ℕ) : Type 0 where
   pub fits : 2 * (lo + size) ≤ length t
   pub marked : AllMarked s t
+  pub scheduled : AllScheduled p t
+
+-- the same where a root is compared with the head of a block
+pub record HeadReady (p t : List ℕ) (root lo size : ℕ) : Type 0 where
+  pub root-scheduled : 14 * root + 14 ≤ length p
+  pub fits : 2 * (lo + size) ≤ length t
   pub scheduled : AllScheduled p t
 
 -- the parts of a sheet of n marks

@@ -1,6 +1,6 @@
 -- How a list is told to be a tree without sorting it: each root beats the roots of its two halves, and every key of the first
 -- half is below every key of the second. `beats` and `key` are those of Tree.
-use Prim.Native.Nat.{ℕ, zero, suc, _≤_, max, min}
+use Prim.Native.Nat.{ℕ, zero, suc, max, min}
 use mathlib.Core.Path.{_≡_}
 use mathlib.Core.Bool.{Bool, true, false, not, _&&_}
 use mathlib.Core.List.{List, [], _∷_}
@@ -47,6 +47,7 @@ module _ (beats : ℕ → ℕ → Bool) (key : Bool → ℕ → ℕ) where
       (heads beats r (first e) && heads beats r (second e)) && apart (key axis) (first e) (second e)
       && (valid f (not axis) (first e) && valid f (not axis) (second e))
 
+  -- the same with a bound that is enough
   unfoldable pub isTree : Bool → List ℕ → Bool
   isTree axis l = valid (length l) axis l
 

@@ -2,7 +2,7 @@
 use fractions::Fraction;
 use fractions::Value;
 ghost use mathlib.Core.Path.{_≡_};
-ghost use mathlib.Core.Bool.{true, _&&_};
+ghost use mathlib.Core.Bool.{true};
 ghost use mathlib.Core.Logic.{_↔_};
 ghost use Prim.Native.Nat.{_+_, _*_, _<_, _≤_, min, max};
 ghost use lib.ListN.{length};
@@ -10,7 +10,7 @@ ghost use Rattle.elimination.specs.Records.{valueAt};
 ghost use Rattle.index.specs.Index.{beats, shifted, coordinate, axisKey, isIndex};
 ghost use Rattle.index.specs.Valid.{heads};
 ghost use Rattle.index.specs.Blocks.{entryAt, block};
-ghost use Rattle.index.specs.Check.{keyBound, findingOf, joinSpans, side, joinFindings, AllScheduled, Ready, Whole, AllBelow};
+ghost use Rattle.index.specs.Check.{keyBound, findingOf, joinSpans, side, joinFindings, HeadReady, Ready, Whole, AllBelow};
 
 // ---- who is removed later
 
@@ -46,13 +46,14 @@ pub fn beats(schedule: &[u8], a: usize, b: usize) -> bool
 
 // ---- the keys by x and by y
 
+// A place, shifted to be at least 0.
 fn shifted(x: i16) -> u64
     ensures { λ r. ⌜ (r ≡ shifted x) × (r < 65536) ⌝ }
 {
     (x as i32 + 32768) as u64
 }
 
-// A mark's x or y, shifted to be at least 0.
+// A mark's x or y, shifted.
 pub fn coordinate(marks: &[u8], axis: bool, m: usize) -> u64
     requires { ⌜ 11 * m + 11 ≤ length (now marks) ⌝ }
     ensures { λ r. ⌜ (r ≡ coordinate (now (marks .entry)) axis m) × (r < 65536) ⌝ }
@@ -63,7 +64,7 @@ pub fn coordinate(marks: &[u8], axis: bool, m: usize) -> u64
     shifted(marks::place_y(marks, m))
 }
 
-// The coordinate and the number, as one number.
+// A mark's coordinate and number, as one number: equal coordinates are ordered by number.
 pub fn axis_key(marks: &[u8], axis: bool, m: usize) -> u64
     requires { ⌜ (11 * m + 11 ≤ length (now marks)) × (m < 65536) ⌝ }
     ensures { λ r. ⌜ (r ≡ axisKey (now (marks .entry)) axis m) × (r < keyBound) ⌝ }
@@ -81,23 +82,21 @@ pub fn entry(index: &[u8], i: usize) -> usize
     numbers::read_u16(index, 2 * i) as usize
 }
 
-// The keys of a block on one axis: none is below `low`, and all are below `high`.
-pub struct Span {
-    pub low: u64,
-    pub high: u64,
+// No key reaches this: a coordinate and a number have 16 bits each.
+const KEY_BOUND: u64 = 4294967296;
+
+// The keys of a block on one axis: the least, and one past the greatest.
+struct Span {
+    low: u64,
+    high: u64,
 }
 
-// What the check finds of a block: whether it is a tree, and its keys by x and by y.
-pub struct Finding {
-    pub ok: bool,
-    pub x: Span,
-    pub y: Span,
-}
-
-fn both(a: bool, b: bool) -> bool
-    ensures { λ r. ⌜ r ≡ a && b ⌝ }
-{
-    if a { b } else { false }
+// What the check finds of a block: whether it is a tree, and its keys by x and by y. A block is tested by the findings of its
+// two halves alone, so the whole check takes time in proportion to n.
+struct Finding {
+    ok: bool,
+    x: Span,
+    y: Span,
 }
 
 fn least(a: u64, b: u64) -> u64
@@ -112,7 +111,7 @@ fn greatest(a: u64, b: u64) -> u64
     if a <= b { b } else { a }
 }
 
-// The span of a root with this key and of two halves.
+// The span of two halves and a root with this key.
 fn join_spans(key: u64, a: Span, b: Span) -> Span
     requires { ⌜ key < keyBound ⌝ }
     ensures { λ r. ⌜ r ≡ joinSpans key a b ⌝ }
@@ -129,16 +128,15 @@ fn side(axis: bool, f: Finding) -> Span
     if axis { f.x } else { f.y }
 }
 
-// Two halves joined under a root with the keys kx and ky; `heads` says whether the root beats the heads of both.
+// Two halves and their root, with the keys kx and ky; `heads` says whether the root beats the heads of both.
 fn join_findings(axis: bool, heads: bool, kx: u64, ky: u64, a: Finding, b: Finding) -> Finding
     requires { ⌜ (kx < keyBound) × (ky < keyBound) ⌝ }
     ensures { λ r. ⌜ r ≡ joinFindings axis heads kx ky a b ⌝ }
 {
     let left = side(axis, a);
     let right = side(axis, b);
-    let root = both(heads, left.high <= right.low);
     Finding {
-        ok: both(root, both(a.ok, b.ok)),
+        ok: heads & (left.high <= right.low) & (a.ok & b.ok),
         x: join_spans(kx, a.x, b.x),
         y: join_spans(ky, a.y, b.y),
     }
@@ -146,7 +144,7 @@ fn join_findings(axis: bool, heads: bool, kx: u64, ky: u64, a: Finding, b: Findi
 
 // Does the root beat the head of a half, where the half has one?
 fn beats_head(schedule: &[u8], index: &[u8], root: usize, lo: usize, size: usize) -> bool
-    requires { ⌜ (14 * root + 14 ≤ length (now schedule)) × (2 * (lo + size) ≤ length (now index)) × AllScheduled (now schedule) (now index) ⌝ }
+    requires { ⌜ HeadReady (now schedule) (now index) root lo size ⌝ }
     ensures { λ r. ⌜ r ≡ heads (beats (now (schedule .entry))) root (block (entryAt (now (index .entry))) lo size) ⌝ }
 {
     if size == 0 {
@@ -168,8 +166,9 @@ fn check_block(
     ensures { λ r. ⌜ r ≡ findingOf (now (marks .entry)) (now (schedule .entry)) axis (block (entryAt (now (index .entry))) lo size) ⌝ }
 {
     if size == 0 {
+        // Without keys the least is past every key, and none is below `high`.
         let none = Span {
-            low: 4294967296,
+            low: KEY_BOUND,
             high: 0,
         };
         return Finding {
@@ -179,17 +178,18 @@ fn check_block(
         };
     }
     let root = entry(index, lo);
-    let h = size / 2;
-    let rest = size - 1 - h;
+    // Of the others the first half is the larger: half of `size`, rounded down, since `size` counts the root too.
+    let first = size / 2;
+    let second = size - 1 - first;
     let p = lo + 1;
-    let q = p + h;
-    let a = check_block(marks, schedule, index, p, h, !axis);
-    let b = check_block(marks, schedule, index, q, rest, !axis);
-    let ha = beats_head(schedule, index, root, p, h);
-    let hb = beats_head(schedule, index, root, q, rest);
+    let q = p + first;
+    let left = check_block(marks, schedule, index, p, first, !axis);
+    let right = check_block(marks, schedule, index, q, second, !axis);
+    let beats_left = beats_head(schedule, index, root, p, first);
+    let beats_right = beats_head(schedule, index, root, q, second);
     let kx = axis_key(marks, true, root);
     let ky = axis_key(marks, false, root);
-    join_findings(axis, both(ha, hb), kx, ky, a, b)
+    join_findings(axis, beats_left & beats_right, kx, ky, left, right)
 }
 
 // ---- question 9

@@ -6,6 +6,7 @@ use mathlib.Core.List.{List, [], _∷_, _++_}
 use mathlib.Core.Option.{Option, none, some}
 use lib.ListN.{length, drop}
 use lib.Dec.{leb, eqb}
+use Rattle.numbers.specs.Little.{Bytes}
 use Rattle.elimination.specs.Records.{scheduleOf}
 use Rattle.index.specs.Index.{indexOf, indexBytes}
 use Rattle.sheet.specs.Contents.{split, join, marksPart, schedulePart}
@@ -42,13 +43,19 @@ checkJob s = outcome (checkQuestions s) 0 []
 
 -- ---- scheduling
 
--- "Scheduling writes a sheet of three parts with the marks copied unchanged."
+-- the parts that it writes for part 1, `s`: "a sheet of three parts, with the marks copied unchanged"
+abbrev pub newSchedule : List ℕ → List ℕ
+newSchedule s = scheduleOf s (markCount s)
+
+abbrev pub newIndex : List ℕ → List ℕ
+newIndex s = indexBytes (indexOf s (newSchedule s) (markCount s))
+
+abbrev pub newBodies : List ℕ → List (List ℕ)
+newBodies s = s ∷ newSchedule s ∷ newIndex s ∷ []
+
+-- What scheduling writes for a sheet.
 unfoldable pub scheduled : List ℕ → List ℕ
-scheduled s =
-    let marks = marksPart (split s) in
-    let n = markCount marks in
-    let schedule = scheduleOf marks n in
-    join (marks ∷ schedule ∷ indexBytes (indexOf marks schedule n) ∷ [])
+scheduled s = join (newBodies (marksPart (split s)))
 
 -- "scheduling 1 to 9 and 13": "32 + 27n bytes for n marks", "a work buffer of at least 32n + 1,024 bytes"
 unfoldable pub scheduleQuestions : List ℕ → ℕ → ℕ → List Question
@@ -59,8 +66,11 @@ unfoldable pub scheduleJob : List ℕ → ℕ → ℕ → Outcome
 scheduleJob s work room = outcome (scheduleQuestions s work room) (length (scheduled s)) (scheduled s)
 
 -- "A sheet is scheduled here if its bytes are those that scheduling, answering 0, writes for some sheet."
-abbrev pub ScheduledHere : List ℕ → Type 0
-ScheduledHere s = (given : List ℕ) × (check given ≡ 0) × (s ≡ scheduled given)
+pub record ScheduledHere (s : List ℕ) : Type 0 where
+  pub given-sheet : List ℕ
+  pub bytes : Bytes given-sheet
+  pub accepted : check given-sheet ≡ 0
+  pub written : s ≡ scheduled given-sheet
 
 -- ---- putting together
 

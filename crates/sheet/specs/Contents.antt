@@ -1,5 +1,5 @@
 -- 01, "The sheet: contents, then bodies". `s` is a sheet's bytes; a sheet's bodies are a list, that of code 1 first.
-use Prim.Native.Nat.{ℕ, zero, suc, _+_, _*_}
+use Prim.Native.Nat.{ℕ, zero, suc, _+_, _*_, _^_, _<_}
 use mathlib.Core.Bool.{Bool}
 use mathlib.Core.List.{List, [], _∷_, _++_, map}
 use lib.ListN.{length, getD, take, drop}
@@ -54,6 +54,11 @@ chain (b ∷ bodies) = b ++ chain bodies
 -- the sheet of these bodies
 unfoldable pub join : List (List ℕ) → List ℕ
 join bodies = leBytes 2 (length bodies) ++ (entries 1 (contentsSize (length bodies)) bodies ++ chain bodies)
+
+-- bodies whose number, offsets and lengths fit the fields that hold them
+pub record Writable (bodies : List (List ℕ)) : Type 0 where
+  pub count-fits : length bodies < 2 ^ 16
+  pub size-fits : length (join bodies) < 2 ^ 32
 
 -- ---- the parts
 

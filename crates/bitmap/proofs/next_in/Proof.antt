@@ -1,4 +1,4 @@
--- `bitmap::next_in` meets its contract: the zeros below the lowest set bit of the shifted word, as Machine says. Assumes nothing.
+-- `bitmap::next_in` meets its contract: it counts the zeros below a set bit, as Machine says. Assumes nothing.
 use Prim.Native.Nat.{_/_, _^_}
 use native.Mathlib.Omega.{arith}
 use borrow.Author.Needs.{needs}

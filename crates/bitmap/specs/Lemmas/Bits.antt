@@ -16,6 +16,7 @@ bit-half n i = bit-shift n 1 i ∙ ap (bitOf n) (one-add i)
 pub half-small : (k n : ℕ) → n < 2 ^ suc k → n / 2 < 2 ^ k
 half-small k n h = let e = pow-suc 2 k in omega arith
 
+-- a number below 2 ^ j has no set bit from j on
 pub bit-past : (n j i : ℕ) → n < 2 ^ j → j ≤ i → bitOf n i ≡ 0
 bit-past n j i h k = ap (λ (x : ℕ). x % 2) (div-eq-of-lt (lt-of-lt-of-le h (pow-mono k)))
 
@@ -38,10 +39,12 @@ bit-high w lo hi i h =
     let d : (lo + hi * 2 ^ w) / 2 ^ w ≡ hi = rw (add-mul-div-right lo hi (pow-pos w), div-eq-of-lt h) (zero-add hi) in
     sym (bit-shift (lo + hi * 2 ^ w) w i) ∙ ap (λ (x : ℕ). bitOf x i) d
 
+-- two numbers of k bits are equal where their bits are
 pub bits-same : (k a b : ℕ) → a < 2 ^ k → b < 2 ^ k → ((i : ℕ) → i < k → bitOf a i ≡ bitOf b i) → a ≡ b
 bits-same zero a b p q h = omega arith
 bits-same (suc k) a b p q h =
-    let high =
-    bits-same k (a / 2) (b / 2) (half-small k a p) (half-small k b q)
-    (λ i l. bit-half a i ∙ h (suc i) (omega arith) ∙ sym (bit-half b i)) in
+    let high = bits-same k (a / 2) (b / 2) (half-small k a p) (half-small k b q) rest in
     omega (arith, h 0 (omega arith), high)
+  where
+    rest : (i : ℕ) → i < k → bitOf (a / 2) i ≡ bitOf (b / 2) i
+    rest i l = bit-half a i ∙ h (suc i) (omega arith) ∙ sym (bit-half b i)

@@ -1,4 +1,4 @@
--- The bytes of a map, bit by bit, and that a list with these bits and bytes is the map. Assumes nothing.
+-- The bytes of a map, bit by bit, and that a list of bytes with these bits is the map. Assumes nothing.
 use Prim.Native.Nat.{ℕ, zero, suc, _+_, _-_, _*_, _/_, _%_, _^_, _≤_, _<_}
 use mathlib.Core.Path.{_≡_, refl, sym, ap, _∙_}
 use mathlib.Core.Bool.{Bool, true, false, _&&_}
@@ -67,7 +67,9 @@ part-byte shown (suc size) i h =
 
 module _ (shown : ℕ → Bool) (size : ℕ) (rest : List ℕ) where
   front-byte : (i : ℕ) → i < size → getD (mapPart shown size ++ rest) i 0 ≡ mapByte shown (8 * i) 8
-  front-byte i h = List·getD-append (mapPart shown size) rest 0 i (omega (arith, part-length shown size)) ∙ part-byte shown size i h
+  front-byte i h =
+      let long = part-length shown size in
+      List·getD-append (mapPart shown size) rest 0 i (omega arith) ∙ part-byte shown size i h
 
   front-bit : (m : ℕ) → m < 8 * size → bitAt (mapPart shown size ++ rest) m ≡ bit (shown m)
   front-bit m h =

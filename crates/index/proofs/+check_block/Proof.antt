@@ -13,7 +13,6 @@ use Rattle.index.proofs.check_block.Kinds as kinds
 use Rattle.index.proofs.+check_block.Lts-check_block as lts
 use Rattle.index.proofs.axis_key.Reads as axis-key
 use Rattle.index.proofs.beats_head.Reads as beats-head
-use Rattle.index.proofs.both.Reads as both
 use Rattle.index.proofs.entry.Reads as entry
 use Rattle.index.proofs.join_findings.Reads as join-findings
 use Rattle.index.proofs.+check_block.{statement}
@@ -37,8 +36,6 @@ module _ (t : ℕ) where
     beats-head.Learnt,
     axis-key.Asked,
     axis-key.Learnt,
-    both.Asked,
-    both.Learnt,
     join-findings.Asked,
     join-findings.Learnt,
   )
@@ -50,11 +47,11 @@ module _ (t : ℕ) where
   entry-requires : lts.Need-entry-requires claims given reads.Post
   entry-requires c κs = omega arith
 
-  sub-rest : lts.Need-sub-rest claims given reads.Post
-  sub-rest c = omega arith
+  sub-second : lts.Need-sub-second claims given reads.Post
+  sub-second c = omega arith
 
-  sub-rest-2 : lts.Need-sub-rest-2 claims given reads.Post
-  sub-rest-2 c = omega arith
+  sub-second-2 : lts.Need-sub-second-2 claims given reads.Post
+  sub-second-2 c = omega arith
 
   add-p : lts.Need-add-p claims given reads.Post
   add-p c = omega arith
@@ -64,60 +61,58 @@ module _ (t : ℕ) where
 
   check-block-requires : lts.Need-check-block-requires claims given reads.Post
   check-block-requires c κs =
-      let a = c .before .before .before .before .before in
-      (omega arith, ready-left (a .pre .1) (c .before .if1 .left))
+      let r = c .before .before .before .before .before .pre .1 in
+      (omega arith, ready-left r (c .before .if1 .left))
 
   check-block-requires-2 : lts.Need-check-block-requires-2 claims given reads.Post
   check-block-requires-2 c κs =
-      let a = c .before .before .before .before .before .before in
-      (omega arith, ready-right (a .pre .1) (c .before .before .if1 .left))
+      let r = c .before .before .before .before .before .before .pre .1 in
+      (omega arith, ready-right r (c .before .before .if1 .left))
 
   beats-head-requires : lts.Need-beats-head-requires claims given reads.Post
   beats-head-requires c κs =
-      let a = c .before .before .before .before .before .before .before in
-      (root-scheduled (a .pre .1) (c .before .before .before .if1 .left) (c .before .before .entry .ensures .0), omega arith, a .pre .1 .scheduled)
+      let k = c .before .before in
+      let r = k .before .before .before .before .before .pre .1 in
+      record { root-scheduled = root-scheduled r (k .before .if1 .left) (k .entry .ensures .0); fits = omega arith; scheduled = r .scheduled }
 
   beats-head-requires-2 : lts.Need-beats-head-requires-2 claims given reads.Post
   beats-head-requires-2 c κs =
-      let a = c .before .before .before .before .before .before .before .before in
-      (root-scheduled (a .pre .1) (c .before .before .before .before .if1 .left) (c .before .before .before .entry .ensures .0), omega arith, a .pre .1 .scheduled)
+      let k = c .before .before .before in
+      let r = k .before .before .before .before .before .pre .1 in
+      record { root-scheduled = root-scheduled r (k .before .if1 .left) (k .entry .ensures .0); fits = omega arith; scheduled = r .scheduled }
 
   axis-key-requires : lts.Need-axis-key-requires claims given reads.Post
   axis-key-requires c κs =
-      let a = c .before .before .before .before .before .before .before .before .before in
-      let e = c .before .before .before .before .entry .ensures in
-      (root-marked (a .pre .1) (c .before .before .before .before .before .if1 .left) (e .0), e .1)
+      let k = c .before .before .before .before in
+      let r = k .before .before .before .before .before .pre .1 in
+      (root-marked r (k .before .if1 .left) (k .entry .ensures .0), k .entry .ensures .1)
 
   axis-key-requires-2 : lts.Need-axis-key-requires-2 claims given reads.Post
   axis-key-requires-2 c κs =
-      let a = c .before .before .before .before .before .before .before .before .before .before in
-      let e = c .before .before .before .before .before .entry .ensures in
-      (root-marked (a .pre .1) (c .before .before .before .before .before .before .if1 .left) (e .0), e .1)
-
-  both-requires : lts.Need-both-requires claims given reads.Post
-  both-requires c κs = tt
+      let k = c .before .before .before .before .before in
+      let r = k .before .before .before .before .before .pre .1 in
+      (root-marked r (k .before .if1 .left) (k .entry .ensures .0), k .entry .ensures .1)
 
   join-findings-requires : lts.Need-join-findings-requires claims given reads.Post
-  join-findings-requires c κs = (c .before .before .axis-key .ensures .1, c .before .axis-key2 .ensures .1)
+  join-findings-requires c κs = (c .before .axis-key .ensures .1, c .axis-key2 .ensures .1)
 
   returns-2 : lts.Need-returns-2 claims given reads.Post
   returns-2 c =
-      let k₄ = c .before .before .before .before in
-      let k₈ = k₄ .before .before .before .before in
-      let bytes = k₈ .before .before .shared-slice-known3 .given in
-      let a = k₈ .before .before .before .before .before .args in
+      let h = c .before .before .before in
+      let k = h .before .before .before .before in
+      let bytes = k .before .before .shared-slice-known3 .given in
+      let a = k .before .before .before .before .before .args in
       finding-made (now (a .marks)) (now (a .schedule)) (now (a .index)) (λ i. omega (arith, bytes i)) (a .axis) (a .lo) (a .size)
-      (k₈ .before .if1 .left) (k₈ .entry .ensures .0) (k₄ .before .before .before .check-block .ensures)
-      (k₄ .before .before .check-block2 .ensures) (k₄ .before .beats-head .ensures) (k₄ .beats-head2 .ensures)
-      (c .before .before .before .axis-key .ensures .0) (c .before .before .axis-key2 .ensures .0) (c .before .both .ensures)
-      (c .join-findings .ensures)
+      (k .before .if1 .left) (k .entry .ensures .0) (h .before .before .before .check-block .ensures)
+      (h .before .before .check-block2 .ensures) (h .before .beats-head .ensures) (h .beats-head2 .ensures)
+      (c .before .before .axis-key .ensures .0) (c .before .axis-key2 .ensures .0) (c .join-findings .ensures)
 
 pub +check-block-spec : {M : Type 1} → statement M
 +check-block-spec = close size-of λ t. lts.spec (claims t) (given t) reads.Post
     (returns t)
     (entry-requires t)
-    (sub-rest t)
-    (sub-rest-2 t)
+    (sub-second t)
+    (sub-second-2 t)
     (add-p t)
     (add-q t)
     (check-block-requires t)
@@ -126,6 +121,5 @@ pub +check-block-spec : {M : Type 1} → statement M
     (beats-head-requires-2 t)
     (axis-key-requires t)
     (axis-key-requires-2 t)
-    (both-requires t)
     (join-findings-requires t)
     (returns-2 t)

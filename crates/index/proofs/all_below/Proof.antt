@@ -4,7 +4,7 @@ use Prim.Native.Nat.{ℕ, _≤_, _<_, _-_}
 use native.Mathlib.Omega.{arith}
 use mathlib.Core.Path.{refl}
 use mathlib.Core.Bool.{false≢true}
-use borrow.Author.Count.{below-none, below-more}
+use borrow.Author.Count.{below-more}
 use borrow.Author.Needs.{needs}
 use Rattle.index.specs.Blocks.{entryAt}
 use Rattle.index.proofs.all_below.Statement.{statement}
@@ -34,7 +34,9 @@ loop-less : tie.Need-loop-less Inv-loop μ-loop
 loop-less c = search needs
 
 loop-again : tie.Need-loop-again Inv-loop μ-loop
-loop-again c = (search needs, below-more _ _ (c .before .before .before .loop .inv .1) (omega (arith, c .before .entry .ensures .0)))
+loop-again c =
+    let k = c .before .before .before in
+    (search needs, below-more _ _ (k .loop .inv .1) (omega (arith, c .before .entry .ensures .0)))
 
 returns-2 : tie.Need-returns-2 Inv-loop μ-loop
 returns-2 c = (λ e k h. c .before .loop .inv .1 k (omega arith), λ all. refl)

@@ -1,5 +1,4 @@
 -- `index::axis_key` meets its contract: a coordinate below 65,536 leaves room for the number. Assumes nothing.
-use native.Mathlib.Omega.{arith}
 use borrow.Author.Needs.{needs}
 use Rattle.index.specs.Index.{axisKey}
 use Rattle.index.proofs.axis_key.Statement.{statement}

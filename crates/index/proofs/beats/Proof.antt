@@ -15,18 +15,28 @@ later-requires c κs = search needs
 
 returns : tie.Need-returns
 unfolding beats
-returns c = rw (← c .before .before .before .value-at .ensures, ← c .before .before .value-at2 .ensures, ← c .before .later .ensures, c .if1 .taken)
+returns c =
+    let k = c .before in
+    rw (← k .before .before .value-at .ensures, ← k .before .value-at2 .ensures, ← k .later .ensures, c .if1 .taken)
 
 level-requires : tie.Need-level-requires
 level-requires c κs = search needs
 
 returns-2 : tie.Need-returns-2
 unfolding beats
-returns-2 c = rw (← c .before .before .before .before .before .value-at .ensures, ← c .before .before .before .before .value-at2 .ensures, ← c .before .before .before .later .ensures, c .before .before .if1 .left, ← c .before .level .ensures, c .if2 .taken)
+returns-2 c =
+    let l = c .before in
+    let k = l .before .before in
+    rw (← k .before .before .value-at .ensures, ← k .before .value-at2 .ensures, ← k .later .ensures, l .before .if1 .left)
+    (rw (← l .level .ensures, c .if2 .taken))
 
 returns-3 : tie.Need-returns-3
 unfolding beats
-returns-3 c = rw (← c .before .before .before .before .before .value-at .ensures, ← c .before .before .before .before .value-at2 .ensures, ← c .before .before .before .later .ensures, c .before .before .if1 .left, ← c .before .level .ensures, c .if2 .left)
+returns-3 c =
+    let l = c .before in
+    let k = l .before .before in
+    rw (← k .before .before .value-at .ensures, ← k .before .value-at2 .ensures, ← k .later .ensures, l .before .if1 .left)
+    (rw (← l .level .ensures, c .if2 .left))
 
 pub beats-spec : {M : Type 1} → statement M
 beats-spec =

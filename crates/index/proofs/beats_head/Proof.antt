@@ -15,8 +15,8 @@ entry-requires c κs = search needs
 
 beats-requires : tie.Need-beats-requires
 beats-requires c κs =
-    let a = c .before .before .before .before in
-    (a .pre .0, omega (arith, c .entry .ensures .0, a .pre .2 (a .args .lo) (omega arith)))
+    let k = c .before .before .before .before in
+    (k .pre .root-scheduled, omega (arith, c .entry .ensures .0, k .pre .scheduled (k .args .lo) (omega arith)))
 
 returns-2 : tie.Need-returns-2
 returns-2 c =

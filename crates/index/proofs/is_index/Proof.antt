@@ -14,22 +14,26 @@ all-below-requires c κs = search needs
 
 check-block-requires : tie.Need-check-block-requires
 check-block-requires c κs =
-    let a = c .before .before .before .before .before in
-    whole-ready (now (a .args .marks)) (now (a .args .schedule)) (now (a .args .index)) (a .args .n) (a .pre) (c .before .all-below .ensures .0 (c .if1 .taken))
+    let k = c .before .before .before .before .before in
+    let a = k .args in
+    whole-ready (now (a .marks)) (now (a .schedule)) (now (a .index)) (a .n) (k .pre)
+    (c .before .all-below .ensures .0 (c .if1 .taken))
 
 returns : tie.Need-returns
 returns c =
-    let k = c .before .before in
-    let a = k .before .before .before .before in
-    let bytes = k .before .shared-slice-known3 .given in
-    whole-is (now (a .args .marks)) (now (a .args .schedule)) (now (a .args .index)) (a .args .n) (a .pre) (λ i. omega (arith, bytes i))
-    (k .all-below .ensures .0 (c .before .if1 .taken)) (c .check-block .ensures)
+    let b = c .before .before in
+    let k = b .before .before .before .before in
+    let a = k .args in
+    let bytes = b .before .shared-slice-known3 .given in
+    whole-is (now (a .marks)) (now (a .schedule)) (now (a .index)) (a .n) (k .pre) (λ i. omega (arith, bytes i))
+    (b .all-below .ensures .0 (c .before .if1 .taken)) (c .check-block .ensures)
 
 returns-2 : tie.Need-returns-2
 returns-2 c =
-    let a = c .before .before .before .before .before in
+    let k = c .before .before .before .before .before in
+    let a = k .args in
     sym
-    (whole-not (now (a .args .marks)) (now (a .args .schedule)) (now (a .args .index)) (a .args .n) (a .pre)
+    (whole-not (now (a .marks)) (now (a .schedule)) (now (a .index)) (a .n) (k .pre)
     (λ all. false≢true (sym (c .if1 .left) ∙ c .before .all-below .ensures .1 all)))
 
 pub is-index-spec : {M : Type 1} → statement M

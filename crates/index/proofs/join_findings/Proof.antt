@@ -10,15 +10,6 @@ side-requires c κs = search needs
 side-requires-2 : tie.Need-side-requires-2
 side-requires-2 c κs = search needs
 
-both-requires : tie.Need-both-requires
-both-requires c κs = search needs
-
-both-requires-2 : tie.Need-both-requires-2
-both-requires-2 c κs = search needs
-
-both-requires-3 : tie.Need-both-requires-3
-both-requires-3 c κs = search needs
-
 join-spans-requires : tie.Need-join-spans-requires
 join-spans-requires c κs = search needs
 
@@ -35,9 +26,6 @@ join-findings-spec =
     (tie.spec
     side-requires
     side-requires-2
-    both-requires
-    both-requires-2
-    both-requires-3
     join-spans-requires
     join-spans-requires-2
     returns)

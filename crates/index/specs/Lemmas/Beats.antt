@@ -83,43 +83,62 @@ module _ (p : List ℕ) where
   unfolding valueAt
   value-sound m = by-cases (eqb (denAt p m) 0) (λ e. rw e tt) (λ e. rw e (omega (arith, eqb-false (denAt p m) 0 e)))
 
-  -- a's value is no sooner than b's, and where they are equal a is the lower number
-  beats-yes : (a b : ℕ) → beats p a b ≡ true → NoLater (valueAt p b) (valueAt p a) × (NoLater (valueAt p a) (valueAt p b) → a < b)
+  -- mark a is removed no later than mark b
+  abbrev Within : ℕ → ℕ → Type 0
+  Within a b = NoLater (valueAt p a) (valueAt p b)
+
+  within-trans : (a b c : ℕ) → Within a b → Within b c → Within a c
+  within-trans a b c = noLater-trans (valueAt p a) (valueAt p b) (valueAt p c) (value-sound b)
+
+  -- who beats is removed no sooner, and where the values are equal is the lower number
+  beats-yes : (a b : ℕ) → beats p a b ≡ true → Within b a × (Within a b → a < b)
   unfolding beats
   beats-yes a b = ahead (valueAt p a) (valueAt p b) a b
 
-  beats-no : (a b : ℕ) → beats p a b ≡ false → NoLater (valueAt p a) (valueAt p b) × (NoLater (valueAt p b) (valueAt p a) → b ≤ a)
+  beats-no : (a b : ℕ) → beats p a b ≡ false → Within a b × (Within b a → b ≤ a)
   unfolding beats
   beats-no a b = behind (valueAt p a) (valueAt p b) a b
-
-  through : (a b c : ℕ) → NoLater (valueAt p a) (valueAt p b) → NoLater (valueAt p b) (valueAt p c) → NoLater (valueAt p a) (valueAt p c)
-  through a b c = noLater-trans (valueAt p a) (valueAt p b) (valueAt p c) (value-sound b)
 
   pub beats-order : Order (beats p)
   beats-order = record { asym = asym; trans = trans; total = total }
     where
       asym : (a b : ℕ) → beats p a b ≡ true → beats p b a ≡ false
-      asym a b h = by-cases (beats p b a) (λ q. absurd (clash (beats-yes a b h) (beats-yes b a q))) (λ q. q)
+      asym a b h = by-cases (beats p b a) (λ q. absurd (clash q)) (λ q. q)
         where
-          clash : NoLater (valueAt p b) (valueAt p a) × (NoLater (valueAt p a) (valueAt p b) → a < b)
-              → NoLater (valueAt p a) (valueAt p b) × (NoLater (valueAt p b) (valueAt p a) → b < a) → ⊥
-          clash x y = omega (arith, x .1 (y .0), y .1 (x .0))
+          clash : beats p b a ≡ true → ⊥
+          clash q =
+              let x = beats-yes a b h in
+              let y = beats-yes b a q in
+              omega (arith, x .1 (y .0), y .1 (x .0))
 
       trans : (a b c : ℕ) → beats p a b ≡ true → beats p b c ≡ true → beats p a c ≡ true
-      trans a b c h k = by-cases (beats p a c) (λ q. q) (λ q. absurd (clash (beats-yes a b h) (beats-yes b c k) (beats-no a c q)))
+      trans a b c h k = by-cases (beats p a c) (λ q. q) (λ q. absurd (clash q))
         where
-          clash : NoLater (valueAt p b) (valueAt p a) × (NoLater (valueAt p a) (valueAt p b) → a < b)
-              → NoLater (valueAt p c) (valueAt p b) × (NoLater (valueAt p b) (valueAt p c) → b < c)
-              → NoLater (valueAt p a) (valueAt p c) × (NoLater (valueAt p c) (valueAt p a) → c ≤ a) → ⊥
-          clash x y z =
-              omega (arith, x .1 (through a c b (z .0) (y .0)), y .1 (through b a c (x .0) (z .0)), z .1 (through c b a (y .0) (x .0)))
+          -- otherwise all three are equal, and a < b < c ≤ a
+          clash : beats p a c ≡ false → ⊥
+          clash q =
+              let x = beats-yes a b h in
+              let y = beats-yes b c k in
+              let z = beats-no a c q in
+              omega (
+                arith,
+                x .1 (within-trans a c b (z .0) (y .0)),
+                y .1 (within-trans b a c (x .0) (z .0)),
+                z .1 (within-trans c b a (y .0) (x .0)),
+              )
 
       total : (a b : ℕ) → beats p a b ≡ false → beats p b a ≡ false → a ≡ b
-      total a b h k = omega (arith, beats-no a b h .1 (beats-no b a k .0), beats-no b a k .1 (beats-no a b h .0))
+      total a b h k =
+          let x = beats-no a b h in
+          let y = beats-no b a k in
+          omega (arith, x .1 (y .0), y .1 (x .0))
 
   -- who beats a mark that is removed later than f is removed later than f
-  pub beats-later : (a b : ℕ) (f : Fraction) → beats p a b ≡ true → later (valueAt p b) (At f) ≡ true → later (valueAt p a) (At f) ≡ true
-  beats-later a b f h l = later-iff (valueAt p a) f .1 (up (valueAt p b) (valueAt p a) (value-sound a) (beats-yes a b h .0) (later-iff (valueAt p b) f .0 l))
+  pub beats-later : (a b : ℕ) (f : Fraction) → beats p a b ≡ true → later (valueAt p b) (At f) ≡ true
+      → later (valueAt p a) (At f) ≡ true
+  beats-later a b f h l =
+      later-iff (valueAt p a) f .1
+      (up (valueAt p b) (valueAt p a) (value-sound a) (beats-yes a b h .0) (later-iff (valueAt p b) f .0 l))
     where
       up : (v w : Value) → Sound w → NoLater v w → Later v f → Later w f
       up v Never d n k = tt

@@ -2,18 +2,18 @@
 use Prim.Native.Nat.{ℕ, zero, suc, _+_, _-_, _/_, _≤_, _<_}
 use native.Mathlib.Omega.{arith}
 use native.Mathlib.Nat.{add-zero, sub-zero}
-use mathlib.Core.Path.{_≡_, refl, ap, ap₂, _∙_}
+use mathlib.Core.Path.{_≡_, refl, sym, ap, ap₂, _∙_}
 use mathlib.Core.Bool.{Bool, true}
 use mathlib.Core.Logic.{_≢_}
-use mathlib.Core.List.{List, [], _∷_}
-use lib.ListN.{length, getD, take, drop}
+use mathlib.Core.List.{List, [], _∷_, _++_}
+use lib.ListN.{length, getD, take, drop, take-append-drop}
 use lib.Dec.{eqb}
 use borrow.Author.Tests.{eqb-true, eqb-false}
 use Rattle.index.specs.Count.{count, non}
 use Rattle.index.specs.Tree.{half, first, second}
 use Rattle.index.specs.Valid.{heads}
 use Rattle.index.specs.Blocks.{block, leftOf, rightOf}
-use Rattle.index.specs.Lemmas.Count.{by-cases, bit-true, bit-not, bit-not-zero}
+use Rattle.index.specs.Lemmas.Count.{by-cases, bit-not-true, bit-not-zero}
 
 -- all but the root
 abbrev pub othersOf : (ℕ → ℕ) → ℕ → ℕ → List ℕ
@@ -24,12 +24,12 @@ module _ (e : ℕ → ℕ) where
   block-length lo zero = refl
   block-length lo (suc m) = ap suc (block-length (suc lo) m)
 
-  block-take : (lo m h : ℕ) → h ≤ m → take h (block e lo m) ≡ block e lo h
+  pub block-take : (lo m h : ℕ) → h ≤ m → take h (block e lo m) ≡ block e lo h
   block-take lo m zero g = refl
   block-take lo zero (suc h) g = absurd (omega arith)
   block-take lo (suc m) (suc h) g = ap (λ (l : List ℕ). e lo ∷ l) (block-take (suc lo) m h (omega arith))
 
-  block-drop : (lo m h : ℕ) → h ≤ m → drop h (block e lo m) ≡ block e (lo + h) (m - h)
+  pub block-drop : (lo m h : ℕ) → h ≤ m → drop h (block e lo m) ≡ block e (lo + h) (m - h)
   block-drop lo m zero g = rw (add-zero lo, sub-zero m)
   block-drop lo zero (suc h) g = absurd (omega arith)
   block-drop lo (suc m) (suc h) g =
@@ -53,18 +53,29 @@ module _ (e : ℕ → ℕ) where
     pub block-right : second (othersOf e lo size) ≡ rightOf e lo size
     block-right = rw halves (block-drop (lo + 1) (size - 1) (size / 2) (omega arith))
 
+    pub block-others : othersOf e lo size ≡ leftOf e lo size ++ rightOf e lo size
+    block-others = sym (take-append-drop (half (length (othersOf e lo size))) (othersOf e lo size)) ∙ ap₂ _++_ block-left block-right
+
+    pub block-whole : block e lo size ≡ e lo ∷ (leftOf e lo size ++ rightOf e lo size)
+    block-whole = rw (← block-others) block-root
+
   pub heads-block : (beats : ℕ → ℕ → Bool) (r lo size : ℕ) → size ≢ 0 → heads beats r (block e lo size) ≡ beats r (e lo)
   heads-block beats r lo zero h = absurd (omega arith)
   heads-block beats r lo (suc size) h = refl
 
   -- a test that every member passes counts none that fail, and the reverse
-  pub block-all : (p : ℕ → Bool) (lo m : ℕ) → ((i : ℕ) → lo ≤ i → i < lo + m → p (e i) ≡ true) → count (non p) (block e lo m) ≡ 0
+  pub block-all : (p : ℕ → Bool) (lo m : ℕ) → ((i : ℕ) → lo ≤ i → i < lo + m → p (e i) ≡ true)
+      → count (non p) (block e lo m) ≡ 0
   block-all p lo zero h = refl
   block-all p lo (suc m) h =
-      omega
-      (arith, bit-not (p (e lo)), bit-true (h lo (omega arith) (omega arith)), block-all p (suc lo) m (λ i a b. h i (omega arith) (omega arith)))
+      omega (
+        arith,
+        bit-not-true (h lo (omega arith) (omega arith)),
+        block-all p (suc lo) m (λ i a b. h i (omega arith) (omega arith)),
+      )
 
-  pub all-block : (p : ℕ → Bool) (lo m : ℕ) → count (non p) (block e lo m) ≡ 0 → (i : ℕ) → lo ≤ i → i < lo + m → p (e i) ≡ true
+  pub all-block : (p : ℕ → Bool) (lo m : ℕ) → count (non p) (block e lo m) ≡ 0
+      → (i : ℕ) → lo ≤ i → i < lo + m → p (e i) ≡ true
   all-block p lo zero h i a b = absurd (omega arith)
   all-block p lo (suc m) h i a b =
       by-cases (eqb lo i) (λ q. rw (← eqb-true lo i q) (bit-not-zero (p (e lo)) (omega arith)))

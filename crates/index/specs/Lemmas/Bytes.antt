@@ -3,13 +3,13 @@ use Prim.Native.Nat.{ℕ, zero, suc, _+_, _*_, _<_, _≤_}
 use native.Mathlib.Omega.{arith}
 use native.Mathlib.Nat.{zero-add}
 use mathlib.Core.Path.{_≡_, refl, ap₂, _∙_}
-use mathlib.Core.Bool.{Bool, true, false, _&&_, false≢true}
+use mathlib.Core.Bool.{true, false≢true}
 use mathlib.Core.List.{List, [], _∷_, _++_}
 use lib.ListN.{length, getD, take, drop, length-append}
 use lib.Seq.{take-all, take-add, drop-drop}
 use lib.Dec.{eqb, ltb}
 use borrow.Author.Tests.{eqb-true, eq-eqb, ltb-true}
-use Rattle.numbers.specs.Little.{leAt, leBytes, Bytes}
+use Rattle.numbers.specs.Little.{leBytes, Bytes}
 use Rattle.numbers.specs.Laws.{le-length, le-after, read-back, write-back}
 use Rattle.index.specs.Count.{count, non, below}
 use Rattle.index.specs.Index.{indexBytes, sameBytes}
@@ -39,7 +39,8 @@ index-length (m ∷ l) = omega (arith, length-append (leBytes 2 m) (indexBytes l
 pub index-read : (l : List ℕ) → count (non (below 65536)) l ≡ 0 → (i : ℕ) → i < length l → entryAt (indexBytes l) i ≡ getD l i 0
 unfolding indexBytes
 index-read [] h i g = absurd (omega arith)
-index-read (m ∷ l) h zero g = read-back 2 [] (indexBytes l) m 0 refl (ltb-true m 65536 (bit-not-zero (ltb m 65536) (omega arith)))
+index-read (m ∷ l) h zero g =
+    read-back 2 [] (indexBytes l) m 0 refl (ltb-true m 65536 (bit-not-zero (ltb m 65536) (omega arith)))
 index-read (m ∷ l) h (suc i) g =
     let e : 2 * suc i ≡ length (leBytes 2 m) + 2 * i = omega (arith, le-length 2 m) in
     rw e (le-after 2 (leBytes 2 m) (indexBytes l) (2 * i) ∙ index-read l (omega arith) i (omega arith))
@@ -48,7 +49,8 @@ pub entries-back : (l : List ℕ) → count (non (below 65536)) l ≡ 0 → bloc
 entries-back l h = block-is (entryAt (indexBytes l)) 0 l (λ i g. rw (zero-add i) (index-read l h i g))
 
 -- the numbers of a block give its bytes
-block-bytes : (t : List ℕ) → Bytes t → (lo m : ℕ) → 2 * (lo + m) ≤ length t → indexBytes (block (entryAt t) lo m) ≡ take (2 * m) (drop (2 * lo) t)
+block-bytes : (t : List ℕ) → Bytes t → (lo m : ℕ) → 2 * (lo + m) ≤ length t
+    → indexBytes (block (entryAt t) lo m) ≡ take (2 * m) (drop (2 * lo) t)
 unfolding indexBytes
 block-bytes t b lo zero h = refl
 block-bytes t b lo (suc m) h =

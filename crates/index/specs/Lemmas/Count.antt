@@ -39,7 +39,10 @@ bit-true e = ap bit e
 pub bit-false : {b : Bool} → b ≡ false → bit b ≡ 0
 bit-false e = ap bit e
 
-pub bit-not : (b : Bool) → bit b + bit (not b) ≡ 1
+pub bit-not-true : {b : Bool} → b ≡ true → bit (not b) ≡ 0
+bit-not-true e = ap (λ (b : Bool). bit (not b)) e
+
+bit-not : (b : Bool) → bit b + bit (not b) ≡ 1
 bit-not true = refl
 bit-not false = refl
 
@@ -83,6 +86,10 @@ pub count-split : (p q : ℕ → Bool) (l : List ℕ) → count p l ≡ count (b
 count-split p q [] = refl
 count-split p q (x ∷ l) = omega (arith, bit-split (q x) (p x), count-split p q l)
 
+-- both tests pass no more often than the first
+pub both-le : (p q : ℕ → Bool) (l : List ℕ) → count (both p q) l ≤ count p l
+both-le p q l = count-le (both p q) p (λ y e. and-left (p y) (q y) e) l
+
 count-never : (l : List ℕ) → count (λ y. false) l ≡ 0
 count-never [] = refl
 count-never (x ∷ l) = omega (arith, count-never l)
@@ -124,12 +131,24 @@ without-le p b l = omega (arith, without-count p b l, count-split p (eqb b) l)
 pub without-alike : (b : ℕ) (l : List ℕ) → times b l ≡ 1 → l ≈ b ∷ without b l
 without-alike b l h p = omega (arith, count-split p (eqb b) l, without-count p b l, by-cases (p b) passes fails)
   where
+    -- the test at b
+    at-b : (y : ℕ) → eqb b y ≡ true → p b ≡ p y
+    at-b y q = ap p (eqb-true b y q)
+
     passes : p b ≡ true → count (both (eqb b) p) l ≡ bit (p b)
     passes e =
-        omega
-        (arith, bit-true e, count-le (both (eqb b) p) (eqb b) (λ y q. and-left (eqb b y) (p y) q) l, count-le (eqb b) (both (eqb b) p) (λ y q. and-both q (ap p (sym (eqb-true b y q)) ∙ e)) l)
+        omega (
+          arith,
+          bit-true e,
+          both-le (eqb b) p l,
+          count-le (eqb b) (both (eqb b) p) (λ y q. and-both q (sym (at-b y q) ∙ e)) l,
+        )
 
     fails : p b ≡ false → count (both (eqb b) p) l ≡ bit (p b)
     fails e =
-        omega
-        (arith, bit-false e, count-never l, count-le (both (eqb b) p) (λ y. false) (λ y q. sym e ∙ ap p (eqb-true b y (and-left (eqb b y) (p y) q)) ∙ and-right (eqb b y) (p y) q) l)
+        omega (
+          arith,
+          bit-false e,
+          count-never l,
+          count-le (both (eqb b) p) (λ y. false) (λ y q. sym e ∙ at-b y (and-left (eqb b y) (p y) q) ∙ and-right (eqb b y) (p y) q) l,
+        )

@@ -1,31 +1,33 @@
 -- What the check finds of a block is what it finds of the halves, joined under the root.
-use Prim.Native.Nat.{ℕ, zero, suc, _+_, _-_, _*_, _/_, _<_, _≤_, max, min}
+use Prim.Native.Nat.{ℕ, suc, _+_, _-_, _*_, _/_, _≤_, max, min}
 use native.Mathlib.Omega.{arith}
 use mathlib.Core.Path.{_≡_, refl, sym, ap, ap₂, _∙_}
-use mathlib.Core.Bool.{Bool, true, false, not, cond, _&&_}
+use mathlib.Core.Bool.{Bool, true, false, not, _&&_}
 use mathlib.Core.Logic.{_≢_}
 use mathlib.Core.List.{List, [], _∷_, _++_}
 use lib.ListN.{length, take-append-drop}
 use lib.Dec.{leb, ltb}
-use borrow.Author.Tests.{le-leb, lt-ltb, ltb-true, ltb-false, le-ltb, not-true}
+use borrow.Author.Tests.{le-leb, lt-ltb, ltb-true}
 use Rattle.numbers.specs.Little.{Bytes}
 use Rattle.numbers.specs.Laws.{le-bound}
 use Rattle.index.specs.Count.{count, non, below, under}
 use Rattle.index.specs.Tree.{half, first, second}
 use Rattle.index.specs.Index.{beats, axisKey}
-use Rattle.index.specs.Valid.{top, low, apart, heads, valid, isTree}
+use Rattle.index.specs.Valid.{top, low, apart, heads, isTree}
 use Rattle.index.specs.Blocks.{entryAt, block, leftOf, rightOf}
 use Rattle.index.specs.Check.{keyBound, spanOf, findingOf, joinSpans, side, joinFindings, Ready}
 use Rattle.index.specs.declared.Span.{Span}
 use Rattle.index.specs.declared.Finding.{Finding}
-use Rattle.index.specs.Lemmas.Count.{by-cases, bit-not-zero, count-le, count-not}
+use Rattle.index.specs.Lemmas.Count.{bit-not-zero, count-le, count-not}
 use Rattle.index.specs.Lemmas.Sorting.{under-top}
 use Rattle.index.specs.Lemmas.Trees.{count-halves, tree-step}
 use Rattle.index.specs.Lemmas.Blocks.{othersOf, block-root, block-left, block-right, block-all}
 use Rattle.index.specs.Lemmas.Keys.{key-small}
 
+-- ---- by a key
+
 module _ (k : ℕ → ℕ) where
-  -- ---- least and greatest keys of a list from those of its halves
+  -- the least and the greatest key of a list from those of its halves
 
   low-le : (c : ℕ) (l : List ℕ) → low k c l ≤ c
   low-le c [] = omega arith
@@ -41,7 +43,7 @@ module _ (k : ℕ → ℕ) where
 
   span-step : (r : ℕ) (e : List ℕ) → spanOf k (r ∷ e) ≡ joinSpans (k r) (spanOf k (first e)) (spanOf k (second e))
   unfolding spanOf joinSpans
-  span-step r e = ap₂ span (ap (min (k r)) (low-is)) (ap (max (suc (k r))) top-is)
+  span-step r e = ap₂ span (ap (min (k r)) low-is) (ap (max (suc (k r))) top-is)
     where
       span : ℕ → ℕ → Span
       span l h = record { low = l; high = h }
@@ -55,7 +57,7 @@ module _ (k : ℕ → ℕ) where
       top-is : top k e ≡ max (top k (first e)) (top k (second e))
       top-is = ap (top k) whole ∙ top-append (first e) (second e)
 
-  -- ---- the test by the spans
+  -- the test by the spans
 
   low-first : (c y : ℕ) (m : List ℕ) → k y ≤ c → low k (k y) m ≡ min (k y) (low k c m)
   low-first c y [] h = omega arith
@@ -70,12 +72,18 @@ module _ (k : ℕ → ℕ) where
       small : k y ≤ keyBound
       small = omega (arith, ltb-true (k y) keyBound (bit-not-zero (ltb (k y) keyBound) (omega arith)))
 
+-- ---- by both axes
+
 module _ (s p : List ℕ) where
   keys-small : (axis : Bool) (l : List ℕ) → count (non (below 65536)) l ≡ 0 → count (non (under (axisKey s axis) keyBound)) l ≡ 0
   keys-small axis l z =
-      let k : ℕ → ℕ = axisKey s axis in
-      omega
-      (arith, count-not (below 65536) l, count-not (under k keyBound) l, count-le (below 65536) (under k keyBound) (λ y e. lt-ltb (k y) keyBound (key-small s axis y (ltb-true y 65536 e))) l)
+      omega (arith, count-not (below 65536) l, count-not (under k keyBound) l, count-le (below 65536) (under k keyBound) small l)
+    where
+      k : ℕ → ℕ
+      k = axisKey s axis
+
+      small : (y : ℕ) → below 65536 y ≡ true → under k keyBound y ≡ true
+      small y e = lt-ltb (k y) keyBound (key-small s axis y (ltb-true y 65536 e))
 
   side-is : (axis ax : Bool) (l : List ℕ) → side axis (findingOf s p ax l) ≡ spanOf (axisKey s axis) l
   unfolding findingOf
@@ -91,41 +99,47 @@ module _ (s p : List ℕ) where
 
     apart-too : leb (side axis left .high) (side axis right .low) ≡ apart (axisKey s axis) (first e) (second e)
     apart-too =
+        let halves = count-halves (non (below 65536)) e in
         rw (side-is axis (not axis) (first e), side-is axis (not axis) (second e))
-        (apart-is (axisKey s axis) (first e) (second e) (keys-small axis (first e) (omega (arith, count-halves (non (below 65536)) e))) (keys-small axis (second e) (omega (arith, count-halves (non (below 65536)) e))))
+        (apart-is (axisKey s axis) (first e) (second e) (keys-small axis (first e) (omega arith))
+        (keys-small axis (second e) (omega arith)))
 
-    finding-step : findingOf s p axis (r ∷ e)
-        ≡ joinFindings axis (heads (beats p) r (first e) && heads (beats p) r (second e)) (axisKey s true r) (axisKey s false r) left right
+    abbrev heads-beaten : Bool
+    heads-beaten = heads (beats p) r (first e) && heads (beats p) r (second e)
+
+    finding-step : findingOf s p axis (r ∷ e) ≡ joinFindings axis heads-beaten (axisKey s true r) (axisKey s false r) left right
     unfolding findingOf joinFindings
     finding-step = λ i. record { ok = ok-is i; x = span-step (axisKey s true) r e i; y = span-step (axisKey s false) r e i }
       where
         ok-is : isTree (beats p) (axisKey s) axis (r ∷ e)
-            ≡ (heads (beats p) r (first e) && heads (beats p) r (second e) && leb (side axis left .high) (side axis right .low) && (left .ok && right .ok))
-        ok-is = tree-step (beats p) (axisKey s) axis r e
-            ∙ ap (λ (b : Bool). heads (beats p) r (first e) && heads (beats p) r (second e) && b && (left .ok && right .ok)) (sym apart-too)
+            ≡ (heads-beaten && leb (side axis left .high) (side axis right .low) && (left .ok && right .ok))
+        ok-is =
+            tree-step (beats p) (axisKey s) axis r e ∙ ap (λ (b : Bool). heads-beaten && b && (left .ok && right .ok)) (sym apart-too)
 
--- the same of a block of an index
-module _ (s p t : List ℕ) (bytes : Bytes t) where
-  block-small : (lo size : ℕ) → count (non (below 65536)) (block (entryAt t) lo size) ≡ 0
-  block-small lo size = block-all (entryAt t) (below 65536) lo size (λ i a b. lt-ltb (entryAt t i) 65536 (le-bound 2 t (2 * i) bytes))
+-- ---- the same of a block of an index
 
-  finding-block : (axis : Bool) (lo size : ℕ) → size ≢ 0 → findingOf s p axis (block (entryAt t) lo size)
-      ≡ joinFindings axis
-      (heads (beats p) (entryAt t lo) (leftOf (entryAt t) lo size) && heads (beats p) (entryAt t lo) (rightOf (entryAt t) lo size))
-      (axisKey s true (entryAt t lo)) (axisKey s false (entryAt t lo))
-      (findingOf s p (not axis) (leftOf (entryAt t) lo size)) (findingOf s p (not axis) (rightOf (entryAt t) lo size))
-  finding-block axis lo size some =
-      let e = entryAt t in
+module _ (s p t : List ℕ) (bytes : Bytes t) (axis : Bool) (lo size : ℕ) (some : size ≢ 0) where
+  abbrev e : ℕ → ℕ
+  e = entryAt t
+
+  others-small : count (non (below 65536)) (othersOf e lo size) ≡ 0
+  others-small = block-all e (below 65536) (lo + 1) (size - 1) (λ i a b. lt-ltb (e i) 65536 (le-bound 2 t (2 * i) bytes))
+
+  finding-block : findingOf s p axis (block e lo size)
+      ≡ joinFindings axis (heads (beats p) (e lo) (leftOf e lo size) && heads (beats p) (e lo) (rightOf e lo size))
+      (axisKey s true (e lo)) (axisKey s false (e lo))
+      (findingOf s p (not axis) (leftOf e lo size)) (findingOf s p (not axis) (rightOf e lo size))
+  finding-block =
       rw (block-root e lo size some, ← block-left e lo size some, ← block-right e lo size some)
-      (finding-step s p axis (e lo) (othersOf e lo size) (block-small (lo + 1) (size - 1)))
+      (finding-step s p axis (e lo) (othersOf e lo size) others-small)
 
-  -- as the code makes it
-  pub finding-made : (axis : Bool) (lo size : ℕ) → size ≢ 0 → {root kx ky : ℕ} {ha hb h : Bool} {a b f : Finding} → root ≡ entryAt t lo
-      → a ≡ findingOf s p (not axis) (leftOf (entryAt t) lo size) → b ≡ findingOf s p (not axis) (rightOf (entryAt t) lo size)
-      → ha ≡ heads (beats p) root (leftOf (entryAt t) lo size) → hb ≡ heads (beats p) root (rightOf (entryAt t) lo size)
-      → kx ≡ axisKey s true root → ky ≡ axisKey s false root → h ≡ (ha && hb) → f ≡ joinFindings axis h kx ky a b
-      → f ≡ findingOf s p axis (block (entryAt t) lo size)
-  finding-made axis lo size some root a b ha hb kx ky h f = cc (finding-block axis lo size some)
+  -- as the code makes it, with a name for each result
+  pub finding-made : {root kx ky : ℕ} {ha hb : Bool} {a b f : Finding} → root ≡ e lo
+      → a ≡ findingOf s p (not axis) (leftOf e lo size) → b ≡ findingOf s p (not axis) (rightOf e lo size)
+      → ha ≡ heads (beats p) root (leftOf e lo size) → hb ≡ heads (beats p) root (rightOf e lo size)
+      → kx ≡ axisKey s true root → ky ≡ axisKey s false root → f ≡ joinFindings axis (ha && hb) kx ky a b
+      → f ≡ findingOf s p axis (block e lo size)
+  finding-made root a b ha hb kx ky f = cc finding-block
 
 -- ---- what the calls at a block that is not empty need
 

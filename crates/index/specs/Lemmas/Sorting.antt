@@ -11,7 +11,8 @@ use borrow.Author.Tests.{ltb-true, ltb-false, leb-true, leb-false, lt-ltb, le-lt
 use Rattle.index.specs.Count.{count, _≈_, non, under, keyed}
 use Rattle.index.specs.Tree.{insert, sort}
 use Rattle.index.specs.Valid.{top, low, apart, Split}
-use Rattle.index.specs.Lemmas.Count.{by-cases, bit-true, bit-false, bit-not, bit-zero, bit-not-zero, count-cut, count-le, count-not, times-self}
+use Rattle.index.specs.Lemmas.Count.{by-cases, bit-true, bit-false, bit-not-true, bit-zero, bit-not-zero}
+use Rattle.index.specs.Lemmas.Count.{count-cut, count-le, count-not, times-self}
 
 -- each key is below all later ones
 abbrev pub Rising : (ℕ → ℕ) → List ℕ → Type 0
@@ -78,7 +79,11 @@ module _ (k : ℕ → ℕ) where
               let a : s .between ≤ k x = leb-true (s .between) (k x) e in
               record {
                 between = suc (k x);
-                left = omega (arith, bit-not (ltb (k x) (suc (k x))), bit-true (lt-ltb (k x) (suc (k x)) (omega arith)), over-le (s .between) (suc (k x)) (omega arith) (take h l));
+                left = omega (
+                  arith,
+                  bit-not-true (lt-ltb (k x) (suc (k x)) (omega arith)),
+                  over-le (s .between) (suc (k x)) (omega arith) (take h l),
+                );
                 right = omega (arith, r .0, count-cut (under k (suc (k x))) h l);
               }
 
@@ -87,13 +92,13 @@ module _ (k : ℕ → ℕ) where
               let a : k x < s .between = leb-false (s .between) (k x) e in
               record {
                 between = s .between;
-                left = omega (arith, bit-not (ltb (k x) (s .between)), bit-true (lt-ltb (k x) (s .between) a));
+                left = omega (arith, bit-not-true (lt-ltb (k x) (s .between) a));
                 right = s .right;
               }
 
   pub top-under : (l : List ℕ) (t : ℕ) → top k l ≤ t → count (non (under k t)) l ≡ 0
   top-under [] t h = refl
-  top-under (x ∷ l) t h = omega (arith, top-under l t (omega arith), bit-not (ltb (k x) t), bit-true (lt-ltb (k x) t (omega arith)))
+  top-under (x ∷ l) t h = omega (arith, top-under l t (omega arith), bit-not-true (lt-ltb (k x) t (omega arith)))
 
   pub under-top : (l : List ℕ) (t : ℕ) → count (non (under k t)) l ≡ 0 → top k l ≤ t
   under-top [] t h = omega arith

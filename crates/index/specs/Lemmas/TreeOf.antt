@@ -1,9 +1,9 @@
 -- What `treeOf` gives is a tree over the members that it is given, and so the only one: its root is beaten by none, and the others,
 -- sorted, have a number between the keys of any two parts.
-use Prim.Native.Nat.{ℕ, zero, suc, _≤_, _<_}
+use Prim.Native.Nat.{ℕ, zero, suc, _+_, _-_, _≤_, _<_}
 use native.Mathlib.Omega.{arith}
-use mathlib.Core.Path.{_≡_, refl, sym, ap, ap₂, subst₂, _∙_}
-use mathlib.Core.Bool.{Bool, true, false, not, cond, _&&_, true≢false}
+use mathlib.Core.Path.{_≡_, refl, sym, ap, ap₂, _∙_}
+use mathlib.Core.Bool.{Bool, true, false, not, cond, _&&_, and-false, true≢false}
 use mathlib.Core.List.{List, [], _∷_, _++_}
 use lib.ListN.{length, length-append}
 use lib.Seq.{take-at, drop-at}
@@ -12,7 +12,8 @@ use borrow.Author.Tests.{eqb-false, eq-eqb, ne-eqb, not-true}
 use Rattle.index.specs.Count.{count, _≈_, times, non, both, below, under, keyed}
 use Rattle.index.specs.Tree.{upTo, half, first, second, sort, without, best, treeOf}
 use Rattle.index.specs.Valid.{Order, heads, valid, isTree, Split}
-use Rattle.index.specs.Lemmas.Count.{by-cases, and-right, and-both, bit-false, bit-not-zero, count-append, count-le, times-le, times-self, alike-length, without-count, without-alike}
+use Rattle.index.specs.Lemmas.Count.{by-cases, and-right, and-both, bit-false, bit-not-zero, count-append, count-le}
+use Rattle.index.specs.Lemmas.Count.{times-le, times-self, alike-length, without-count, without-alike}
 use Rattle.index.specs.Lemmas.Numbers.{all-numbers, upTo-length, upTo-once}
 use Rattle.index.specs.Lemmas.Sorting.{sort-alike, sort-rising, rising-split}
 use Rattle.index.specs.Lemmas.Trees.{half-le, first-length, second-length, count-halves, tests-pass}
@@ -26,11 +27,14 @@ rival beats b = both (non (eqb b)) (non (beats b))
 abbrev pub Keyed : (Bool → ℕ → ℕ) → List ℕ → Type 0
 Keyed key l = (axis : Bool) (v : ℕ) → count (keyed (key axis) v) l ≤ 1
 
-module _ (beats : ℕ → ℕ → Bool) (ord : Order beats) where
-  -- ---- the root
+-- ---- the root
 
+module _ (beats : ℕ → ℕ → Bool) (ord : Order beats) where
   pub self-rival : (x : ℕ) → rival beats x x ≡ false
   self-rival x = ap (λ (z : Bool). not z && not (beats x x)) (eq-eqb x x refl)
+
+  pub beaten-rival : (x y : ℕ) → beats x y ≡ true → rival beats x y ≡ false
+  beaten-rival x y h = rw h (and-false (not (eqb x y)))
 
   -- who beats b has no rivals but b's
   pub rival-pass : (x b z : ℕ) → beats x b ≡ true → rival beats x z ≡ true → rival beats b z ≡ true
@@ -63,14 +67,18 @@ module _ (beats : ℕ → ℕ → Bool) (ord : Order beats) where
   best-beats x [] = omega (arith, bit-false (self-rival x))
   best-beats x (y ∷ l) = go (best beats y l) (beats x (best beats y l)) refl (best-beats y l)
     where
-      go : (b : ℕ) (c : Bool) → beats x b ≡ c → count (rival beats b) (y ∷ l) ≡ 0 → count (rival beats (cond c x b)) (x ∷ y ∷ l) ≡ 0
-      go b true e h = omega (arith, bit-false (self-rival x), count-le (rival beats x) (rival beats b) (λ z r. rival-pass x b z e r) (y ∷ l))
+      go : (b : ℕ) (c : Bool) → beats x b ≡ c → count (rival beats b) (y ∷ l) ≡ 0
+          → count (rival beats (cond c x b)) (x ∷ y ∷ l) ≡ 0
+      go b true e h =
+          omega (arith, bit-false (self-rival x), count-le (rival beats x) (rival beats b) (λ z r. rival-pass x b z e r) (y ∷ l))
       go b false e h = omega (arith, bit-false (rival-lost x b e))
 
 -- `treeOf` makes of l a tree over l's members
 pub record Made (beats : ℕ → ℕ → Bool) (key : Bool → ℕ → ℕ) (f : ℕ) (axis : Bool) (l : List ℕ) : Type 0 where
   pub alike : treeOf beats key f axis l ≈ l
   pub tree : isTree beats key axis (treeOf beats key f axis l) ≡ true
+
+-- ---- the root and the two halves
 
 module _ (beats : ℕ → ℕ → Bool) (key : Bool → ℕ → ℕ) (ord : Order beats) where
   heads-of : (r : ℕ) (l : List ℕ) → count (non (beats r)) l ≡ 0 → heads beats r l ≡ true
@@ -84,19 +92,33 @@ module _ (beats : ℕ → ℕ → Bool) (key : Bool → ℕ → ℕ) (ord : Orde
   join axis r rest l m b s al am tl tm =
       tests-pass beats key axis r (l ++ m)
       (record {
-        left-head = rw at-l (heads-of r l (omega (arith, count-halves (non (beats r)) rest, al (non (beats r)))));
-        right-head = rw at-m (heads-of r m (omega (arith, count-halves (non (beats r)) rest, am (non (beats r)))));
-        split = subst₂ (λ (z w : List ℕ). Split (key axis) z w) (sym at-l) (sym at-m)
-            (record { between = s .between; left = al (non (under (key axis) (s .between))) ∙ s .left; right = am (under (key axis) (s .between)) ∙ s .right });
+        left-head = rw at-l (heads-of r l (omega (arith, al (non (beats r)), beaten)));
+        right-head = rw at-m (heads-of r m (omega (arith, am (non (beats r)), beaten)));
+        split = rw (at-l, at-m) split;
         left = rw at-l tl;
         right = rw at-m tm;
       })
     where
+      beaten : count (non (beats r)) (first rest) + count (non (beats r)) (second rest) ≡ 0
+      beaten = omega (arith, count-halves (non (beats r)) rest)
+
+      parts : ℕ → Bool
+      parts = under (key axis) (s .between)
+
+      split : Split (key axis) l m
+      split = record { between = s .between; left = al (non parts) ∙ s .left; right = am parts ∙ s .right }
+
+      left-long : length l ≡ half (length rest)
+      left-long = alike-length l (first rest) al ∙ first-length rest
+
+      right-long : length m ≡ length rest - half (length rest)
+      right-long = alike-length m (second rest) am ∙ second-length rest
+
+      both-long : length rest ≡ length (l ++ m)
+      both-long = omega (arith, length-append l m, left-long, right-long, half-le (length rest))
+
       long : length l ≡ half (length (l ++ m))
-      long =
-          alike-length l (first rest) al ∙ first-length rest
-          ∙ ap half
-          (omega (arith, length-append l m, alike-length l (first rest) al, alike-length m (second rest) am, first-length rest, second-length rest, half-le (length rest)))
+      long = left-long ∙ ap half both-long
 
       at-l : first (l ++ m) ≡ l
       at-l = take-at l m (half (length (l ++ m))) long
@@ -116,7 +138,9 @@ module _ (beats : ℕ → ℕ → Bool) (key : Bool → ℕ → ℕ) (ord : Orde
     rest = sort (key axis) others
 
     once : times root (x ∷ l) ≤ 1
-    once = omega (arith, d true (key true root), times-le (keyed (key true) (key true root)) root (eq-eqb (key true root) (key true root) refl) (x ∷ l))
+    once =
+        let k = key true root in
+        omega (arith, d true k, times-le (keyed (key true) k) root (eq-eqb k k refl) (x ∷ l))
 
     others-alike : (x ∷ l) ≈ root ∷ others
     others-alike = without-alike root (x ∷ l) (omega (arith, best-in beats ord x l, once))
@@ -126,31 +150,30 @@ module _ (beats : ℕ → ℕ → Bool) (key : Bool → ℕ → ℕ) (ord : Orde
 
     rest-beaten : count (non (beats root)) rest ≡ 0
     rest-beaten =
-        omega
-        (arith, sort-alike (key axis) others (non (beats root)), without-count (non (beats root)) root (x ∷ l), best-beats beats ord x l)
+        let p = non (beats root) in
+        omega (arith, sort-alike (key axis) others p, without-count p root (x ∷ l), best-beats beats ord x l)
 
     rest-split : Split (key axis) (first rest) (second rest)
     rest-split =
         rising-split (key axis) (half (length rest)) rest
         (sort-rising (key axis) others (λ v. omega (arith, d axis v, others-alike (keyed (key axis) v))))
 
-    first-keyed : Keyed key (first rest)
-    first-keyed ax v = omega (arith, d ax v, rest-alike (keyed (key ax) v), count-halves (keyed (key ax) v) rest)
-
-    second-keyed : Keyed key (second rest)
-    second-keyed ax v = omega (arith, d ax v, rest-alike (keyed (key ax) v), count-halves (keyed (key ax) v) rest)
+    -- the keys tell apart the members of a part of the others
+    part-keyed : (m : List ℕ) → ((p : ℕ → Bool) → count p m ≤ count p rest) → Keyed key m
+    part-keyed m less ax v = omega (arith, d ax v, rest-alike (keyed (key ax) v), less (keyed (key ax) v))
 
     rest-long : length (x ∷ l) ≡ suc (length rest)
     rest-long = alike-length (x ∷ l) (root ∷ rest) rest-alike
 
-    made-join : (f : ℕ) → Made beats key f (not axis) (first rest) → Made beats key f (not axis) (second rest) → Made beats key (suc f) axis (x ∷ l)
+    made-join : (f : ℕ) → Made beats key f (not axis) (first rest) → Made beats key f (not axis) (second rest)
+        → Made beats key (suc f) axis (x ∷ l)
     unfolding treeOf
     made-join f a b =
+        let left = treeOf beats key f (not axis) (first rest) in
+        let right = treeOf beats key f (not axis) (second rest) in
         record {
-          alike = λ p.
-              omega (arith, rest-alike p, count-halves p rest, a .alike p, b .alike p, count-append p (treeOf beats key f (not axis) (first rest)) (treeOf beats key f (not axis) (second rest)));
-          tree = join axis root rest (treeOf beats key f (not axis) (first rest)) (treeOf beats key f (not axis) (second rest))
-              rest-beaten rest-split (a .alike) (b .alike) (a .tree) (b .tree);
+          alike = λ p. omega (arith, rest-alike p, count-halves p rest, a .alike p, b .alike p, count-append p left right);
+          tree = join axis root rest left right rest-beaten rest-split (a .alike) (b .alike) (a .tree) (b .tree);
         }
 
   made : (f : ℕ) (axis : Bool) (l : List ℕ) → length l ≤ f → Keyed key l → Made beats key f axis l
@@ -161,8 +184,10 @@ module _ (beats : ℕ → ℕ → Bool) (key : Bool → ℕ → ℕ) (ord : Orde
   made (suc f) axis (x ∷ l) h d =
       let e = rest axis x l d in
       made-join axis x l d f
-      (made f (not axis) (first e) (omega (arith, rest-long axis x l d, first-length e, half-le (length e))) (first-keyed axis x l d))
-      (made f (not axis) (second e) (omega (arith, rest-long axis x l d, second-length e)) (second-keyed axis x l d))
+      (made f (not axis) (first e) (omega (arith, rest-long axis x l d, first-length e, half-le (length e)))
+      (part-keyed axis x l d (first e) (λ p. omega (arith, count-halves p e))))
+      (made f (not axis) (second e) (omega (arith, rest-long axis x l d, second-length e))
+      (part-keyed axis x l d (second e) (λ p. omega (arith, count-halves p e))))
 
   -- ---- the tree of n marks
 
@@ -171,7 +196,8 @@ module _ (beats : ℕ → ℕ → Bool) (key : Bool → ℕ → ℕ) (ord : Orde
     tree-made = made n true (upTo n) (omega (arith, upTo-length n)) (λ axis v. upTo-once (key axis) n (differ axis) v)
 
     -- n numbers below n that are a tree are the tree of n marks
-    pub tree-is : (e : List ℕ) → length e ≡ n → count (non (below n)) e ≡ 0 → isTree beats key true e ≡ true → e ≡ treeOf beats key n true (upTo n)
+    pub tree-is : (e : List ℕ) → length e ≡ n → count (non (below n)) e ≡ 0 → isTree beats key true e ≡ true
+        → e ≡ treeOf beats key n true (upTo n)
     tree-is e len small t =
         tree-unique beats key ord true e (treeOf beats key n true (upTo n)) t (tree-made .tree)
         (λ p. all-numbers n e (tree-distinct beats key ord true e t) len small p ∙ sym (tree-made .alike p))

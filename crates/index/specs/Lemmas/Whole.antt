@@ -1,16 +1,15 @@
 -- Question 9: the numbers of part 3 are the tree exactly where all are below n and the check finds a tree.
-use Prim.Native.Nat.{ℕ, _+_, _*_, _<_, _≤_}
+use Prim.Native.Nat.{ℕ, _*_, _≤_}
 use native.Mathlib.Omega.{arith}
-use mathlib.Core.Path.{_≡_, refl, sym, ap, _∙_}
-use mathlib.Core.Bool.{Bool, true, false}
+use mathlib.Core.Path.{_≡_, sym, ap, _∙_}
+use mathlib.Core.Bool.{true, false}
 use mathlib.Core.List.{List}
 use lib.ListN.{length}
-use lib.Dec.{ltb}
 use borrow.Author.Tests.{ltb-true, lt-ltb}
 use Rattle.numbers.specs.Little.{Bytes}
 use Rattle.index.specs.Count.{count, _≈_, non, below}
 use Rattle.index.specs.Tree.{upTo}
-use Rattle.index.specs.Index.{beats, axisKey, indexOf, indexBytes, sameBytes, isIndex}
+use Rattle.index.specs.Index.{beats, axisKey, indexOf, indexBytes, isIndex}
 use Rattle.index.specs.Valid.{isTree}
 use Rattle.index.specs.Blocks.{entryAt, block}
 use Rattle.index.specs.Check.{findingOf, Ready, Whole, AllBelow}
@@ -41,7 +40,8 @@ module _ (s p : List ℕ) (n : ℕ) (few : n ≤ 65536) where
   pub index-below : (b : ℕ) → n ≤ b → count (non (below b)) (indexOf s p n) ≡ 0
   index-below b h = index-alike (non (below b)) ∙ upTo-below n b h
 
-  pub index-only : (e : List ℕ) → length e ≡ n → count (non (below n)) e ≡ 0 → isTree (beats p) (axisKey s) true e ≡ true → e ≡ indexOf s p n
+  pub index-only : (l : List ℕ) → length l ≡ n → count (non (below n)) l ≡ 0 → isTree (beats p) (axisKey s) true l ≡ true
+      → l ≡ indexOf s p n
   unfolding indexOf
   index-only = tree-is (beats p) (axisKey s) (beats-order p) n (λ axis. keys-differ s axis n few)
 
@@ -50,7 +50,14 @@ module _ (s p : List ℕ) (n : ℕ) (few : n ≤ 65536) where
   unfolding isIndex
   index-entries t h =
       rw (same-true t (indexBytes (indexOf s p n)) h)
-      (ap (block (entryAt (indexBytes (indexOf s p n))) 0) (sym index-size) ∙ entries-back (indexOf s p n) (index-below 65536 few))
+      (ap (block (entryAt (indexBytes (indexOf s p n))) 0) (sym index-size)
+      ∙ entries-back (indexOf s p n) (index-below 65536 few))
+
+  pub entries-below : (t : List ℕ) → isIndex s p t n ≡ true → AllBelow t n
+  entries-below t h i g = ltb-true (entryAt t i) n (all-block (entryAt t) (below n) 0 n none i (omega arith) (omega arith))
+    where
+      none : count (non (below n)) (block (entryAt t) 0 n) ≡ 0
+      none = rw (index-entries t h) (index-below n (omega arith))
 
   module _ (t : List ℕ) (bytes : Bytes t) (len : length t ≡ 2 * n) where
     pub index-yes : block (entryAt t) 0 n ≡ indexOf s p n → isIndex s p t n ≡ true
@@ -66,13 +73,9 @@ module _ (s p t : List ℕ) (n : ℕ) (w : Whole s p t n) where
         scheduled = λ i h. omega (arith, all i (omega arith));
       }
 
-  entries-below : isIndex s p t n ≡ true → AllBelow t n
-  entries-below h i g =
-      ltb-true (entryAt t i) n (all-block (entryAt t) (below n) 0 n (rw (index-entries s p n (omega arith) t h) (index-below s p n (omega arith) n (omega arith))) i (omega arith) (omega arith))
-
   -- what `is_index` answers where a number is not below n, and where all are
   pub whole-not : (AllBelow t n → ⊥) → isIndex s p t n ≡ false
-  whole-not not-all = by-cases (isIndex s p t n) (λ e. absurd (not-all (entries-below e))) (λ e. e)
+  whole-not not-all = by-cases (isIndex s p t n) (λ e. absurd (not-all (entries-below s p n (omega arith) t e))) (λ e. e)
 
   tree-is-index : Bytes t → AllBelow t n → isTree (beats p) (axisKey s) true (block (entryAt t) 0 n) ≡ isIndex s p t n
   tree-is-index bytes all = same-test (isTree (beats p) (axisKey s) true l) (isIndex s p t n) there back
@@ -84,7 +87,9 @@ module _ (s p t : List ℕ) (n : ℕ) (w : Whole s p t n) where
       small = block-all (entryAt t) (below n) 0 n (λ i a b. lt-ltb (entryAt t i) n (all i (omega arith)))
 
       there : isTree (beats p) (axisKey s) true l ≡ true → isIndex s p t n ≡ true
-      there e = index-yes s p n (omega arith) t bytes (w .index-long) (index-only s p n (omega arith) l (block-length (entryAt t) 0 n) small e)
+      there e =
+          index-yes s p n (omega arith) t bytes (w .index-long)
+          (index-only s p n (omega arith) l (block-length (entryAt t) 0 n) small e)
 
       back : isIndex s p t n ≡ true → isTree (beats p) (axisKey s) true l ≡ true
       back e = rw (index-entries s p n (omega arith) t e) (index-tree s p n (omega arith))

@@ -1,0 +1,102 @@
+-- What the other crates cite of the index. `s` is part 1, `p` part 2, `t` part 3 and n the number of marks; the proofs are in Lemmas.
+use Prim.Native.Nat.{ℕ, _*_, _<_, _≤_}
+use native.Mathlib.Omega.{arith}
+use mathlib.Core.Path.{_≡_, ap, _∙_}
+use mathlib.Core.Bool.{Bool, true, false}
+use mathlib.Core.Logic.{_↔_, _≢_}
+use mathlib.Core.List.{List}
+use lib.ListN.{length, getD}
+use lib.Dec.{eqb, leb}
+use lib.IntN.{ℤ}
+use lib.Signed.{mag, leZ}
+use Rattle.fractions.specs.declared.Fraction.{Fraction}
+use Rattle.fractions.specs.declared.Value.the-variants.{At}
+use Rattle.fractions.specs.Order.{later}
+use Rattle.elimination.specs.Records.{valueAt}
+use Rattle.index.specs.Count.{count, _≈_, times, non, below}
+use Rattle.index.specs.Tree.{upTo}
+use Rattle.index.specs.Index.{beats, shifted, coordinate, axisKey, indexOf, indexBytes, isIndex}
+use Rattle.index.specs.Valid.{isTree, Split}
+use Rattle.index.specs.Blocks.{entryAt, block, Halves}
+use Rattle.index.specs.Check.{AllBelow}
+use Rattle.index.specs.Lemmas.Numbers.{upTo-times}
+use Rattle.index.specs.Lemmas.Beats as Beats
+use Rattle.index.specs.Lemmas.Keys as Keys
+use Rattle.index.specs.Lemmas.Bytes as Bytes
+use Rattle.index.specs.Lemmas.Whole as Whole
+use Rattle.index.specs.Lemmas.Search as Search
+
+-- ---- the tree of n marks
+
+module _ (s p : List ℕ) (n : ℕ) (few : n ≤ 65536) where
+  pub index-length : length (indexOf s p n) ≡ n
+  index-length = Whole.index-size s p n few
+
+  -- Its members are the numbers below n, each once.
+  pub index-members : indexOf s p n ≈ upTo n
+  index-members = Whole.index-alike s p n few
+
+  pub index-below : count (non (below n)) (indexOf s p n) ≡ 0
+  index-below = Whole.index-below s p n few n (omega arith)
+
+  pub index-once : (m : ℕ) → m < n → times m (indexOf s p n) ≡ 1
+  index-once m h = index-members (eqb m) ∙ upTo-times n m h
+
+  pub index-tree : isTree (beats p) (axisKey s) true (indexOf s p n) ≡ true
+  index-tree = Whole.index-tree s p n few
+
+  -- Of lists of n numbers below n no other is a tree.
+  pub index-only : (l : List ℕ) → length l ≡ n → count (non (below n)) l ≡ 0 → isTree (beats p) (axisKey s) true l ≡ true
+      → l ≡ indexOf s p n
+  index-only = Whole.index-only s p n few
+
+  -- ---- its bytes
+
+  pub bytes-length : length (indexBytes (indexOf s p n)) ≡ 2 * n
+  bytes-length = Bytes.index-length (indexOf s p n) ∙ ap (λ (k : ℕ). 2 * k) index-length
+
+  pub bytes-read : (i : ℕ) → i < n → entryAt (indexBytes (indexOf s p n)) i ≡ getD (indexOf s p n) i 0
+  bytes-read i h = Bytes.index-read (indexOf s p n) (Whole.index-below s p n few 65536 few) i (omega (arith, index-length))
+
+  -- ---- what question 9 accepts
+
+  module _ (t : List ℕ) where
+    pub index-iff : (isIndex s p t n ≡ true) ↔ (t ≡ indexBytes (indexOf s p n))
+    unfolding isIndex
+    index-iff = (Bytes.same-true t (indexBytes (indexOf s p n)), λ e. rw e (Bytes.same-self (indexBytes (indexOf s p n))))
+
+    pub index-block : isIndex s p t n ≡ true → block (entryAt t) 0 n ≡ indexOf s p n
+    index-block = Whole.index-entries s p n few t
+
+    pub index-entries : isIndex s p t n ≡ true → AllBelow t n
+    index-entries = Whole.entries-below s p n few t
+
+-- ---- the search down the tree: what it may leave out
+
+module _ (s p : List ℕ) (axis : Bool) (e : ℕ → ℕ) where
+  pub block-halves : (lo size : ℕ) → size ≢ 0 → isTree (beats p) (axisKey s) axis (block e lo size) ≡ true
+      → Halves (beats p) (axisKey s) axis e lo size
+  block-halves = Search.halves (beats p) (axisKey s) (Beats.beats-order p) axis e
+
+  -- Where a root is not removed later than f, nobody in its block is: the root is removed last.
+  pub none-later : (lo size : ℕ) → Halves (beats p) (axisKey s) axis e lo size → (f : Fraction)
+      → later (valueAt p (e lo)) (At f) ≡ false → count (λ m. later (valueAt p m) (At f)) (block e lo size) ≡ 0
+  none-later lo size h f =
+      Search.none-live (beats p) (axisKey s) (Beats.beats-order p) axis e lo size h (λ m. later (valueAt p m) (At f))
+      (λ a b. Beats.beats-later p a b f)
+
+  -- The head of the right half bounds the left half on the axis, and the head of the left half the right.
+  module _ (shown : ℕ → Bool) (at size : ℕ) (some : size ≢ 0) where
+    pub none-left : (l : List ℕ) → Split (axisKey s axis) l (block e at size) → e at < 65536
+        → ((z : ℕ) → shown z ≡ true → coordinate s axis (e at) < coordinate s axis z) → count shown l ≡ 0
+    unfolding axisKey
+    none-left l d small h = Search.none-left (axisKey s axis) shown e at l size some d (λ z q. omega (arith, h z q))
+
+    pub none-right : (r : List ℕ) → Split (axisKey s axis) (block e at size) r
+        → ((z : ℕ) → shown z ≡ true → (z < 65536) × (coordinate s axis z < coordinate s axis (e at))) → count shown r ≡ 0
+    unfolding axisKey
+    none-right r d h = Search.none-right (axisKey s axis) shown e at size r some d (λ z q. omega (arith, h z q))
+
+-- Coordinates of 16 bits keep their order.
+pub shifted-order : (x y : ℤ) → mag x < 32768 → mag y < 32768 → leZ x y ≡ leb (shifted x) (shifted y)
+shifted-order = Keys.shifted-order

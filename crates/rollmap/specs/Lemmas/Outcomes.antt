@@ -1,0 +1,67 @@
+-- The two ends of a job: all questions answered 'yes', or the first 'no'. Assumes nothing.
+use Prim.Native.Nat.{ℕ, _<_}
+use mathlib.Core.Path.{_≡_, refl, sym, ap, _∙_}
+use mathlib.Core.Bool.{Bool, true, false, cond}
+use mathlib.Core.List.{List, []}
+use native.Mathlib.Omega.{arith}
+use borrow.Author.Tests.{eq-eqb, ne-eqb, eqb-true}
+use lib.Dec.{eqb}
+use lib.ListN.{length}
+use Rattle.sheet.specs.declared.Assembled.{Assembled}
+use Rattle.sheet.specs.Contents.{join}
+use Rattle.sheet.specs.Asking.{Question, answer}
+use Rattle.sheet.specs.Questions.{checkQuestions, check, given, assembleQuestions}
+use Rattle.sheet.specs.Assembled.{numberOf, lengthOf, over, Assembling}
+use Rattle.rollmap.specs.Jobs.{Outcome, outcome, after, checkJob, assembleJob}
+use Rattle.rollmap.specs.Answers.{answerOf, Gives}
+
+module _ (questions : List Question) (value : ℕ) (written : List ℕ) where
+  pub outcome-yes : answer questions ≡ 0 → outcome questions value written ≡ record { number = 0; value = value; written = written }
+  unfolding outcome
+  outcome-yes e = rw e
+
+  pub outcome-no : 0 < answer questions → outcome questions value written ≡ record { number = answer questions; value = 0; written = [] }
+  unfolding outcome
+  outcome-no h = rw (ne-eqb (answer questions) 0 (λ e. omega arith))
+
+-- a refused call has written nothing
+pub after-none : (number : ℕ) (buffer : List ℕ) → after (record { number = number; value = 0; written = [] }) buffer ≡ buffer
+unfolding after
+after-none number buffer = refl
+
+pub check-gives : (s : List ℕ) → record { number = check s; value = 0 } ≡ answerOf (checkJob s)
+unfolding checkJob outcome check
+check-gives s = cases (eqb (answer (checkQuestions s)) 0) refl
+  where
+    cases : (b : Bool) → eqb (answer (checkQuestions s)) 0 ≡ b
+        → record { number = answer (checkQuestions s); value = 0 }
+        ≡ answerOf (cond b (record { number = 0; value = 0; written = [] }) (record { number = answer (checkQuestions s); value = 0; written = [] }))
+    cases true e = rw (eqb-true (answer (checkQuestions s)) 0 e)
+    cases false e = refl
+
+-- what `sheet::assemble` answers and leaves is what the job gives
+pub assemble-gives : (k : ℕ) (body1 body2 body3 before after-call : List ℕ) (r : Assembled)
+    → Assembling k (given k body1 body2 body3) before r after-call
+    → Gives (assembleJob k body1 body2 body3 (length before)) before (record { number = numberOf r; value = lengthOf r }) after-call
+unfolding assembleJob outcome after over
+assemble-gives k body1 body2 body3 before after-call r a = cases (eqb number 0) refl
+  where
+    number : ℕ
+    number = answer (assembleQuestions k (given k body1 body2 body3) (length before))
+
+    sheet : List ℕ
+    sheet = join (given k body1 body2 body3)
+
+    cases : (b : Bool) → eqb number 0 ≡ b
+        → Gives (cond b (record { number = 0; value = length sheet; written = sheet }) (record { number = number; value = 0; written = [] })) before
+        (record { number = numberOf r; value = lengthOf r }) after-call
+    cases true e =
+        let z : numberOf r ≡ 0 = a .number ∙ eqb-true number 0 e in
+        let v : lengthOf r ≡ length sheet = rw z at (a .size) in
+        let w : after-call ≡ over sheet before = rw z at (a .bytes) in
+        record { answered = rw (z, v); bytes = w }
+    cases false e =
+        let z : eqb (numberOf r) 0 ≡ false = ap (λ (n : ℕ). eqb n 0) (a .number) ∙ e in
+        let v : lengthOf r ≡ 0 = rw z at (a .size) in
+        let w : after-call ≡ before = rw z at (a .bytes) in
+        record { answered = rw (a .number, v); bytes = w }

@@ -1,0 +1,127 @@
+-- What scheduling writes passes the questions: its records are right, and its index is the tree of its own schedule. Assumes nothing.
+use Prim.Native.Nat.{ℕ, zero, suc, _+_, _*_, _<_, _≤_}
+use mathlib.Core.Path.{_≡_, refl, sym, ap, _∙_, subst}
+use mathlib.Core.Bool.{Bool, true, false, _||_, true≢false}
+use mathlib.Core.List.{List, [], _∷_}
+use mathlib.Core.Logic.{_↔_}
+use native.Mathlib.Omega.{arith}
+use native.Mathlib.Decide.{decLt}
+use borrow.Author.Tests.{lt-ltb, eq-eqb}
+use lib.ListN.{length, take, drop, length-take, List·getD-eq-default}
+use lib.Seq.{getD-take, getD-drop}
+use Rattle.numbers.specs.Little.{Bytes}
+use Rattle.fractions.specs.declared.Fraction.{Fraction}
+use Rattle.fractions.specs.declared.Value.{Value}
+use Rattle.fractions.specs.declared.Value.the-variants.{At}
+use Rattle.fractions.specs.Order.{later, Later}
+use Rattle.fractions.specs.Laws.{later-iff}
+use Rattle.marks.specs.Marks.{outranks, touching}
+use Rattle.marks.specs.Laws.{outranks-key}
+use Rattle.elimination.specs.Process.{Removal, stays, gone, when, process}
+use Rattle.elimination.specs.Records.{marksOf, isNever, valueAt}
+use Rattle.elimination.specs.Sheet.{sheet-proper}
+use Rattle.elimination.specs.Theorems.{process-eliminator}
+use Rattle.elimination.specs.Schedule.{AllowedMarks, schedule-length, schedule-stays, schedule-gone, schedule-value}
+use Rattle.index.specs.Index.{indexOf, isIndex}
+use Rattle.index.specs.Lemmas.Bytes.{same-self, index-length}
+use Rattle.index.specs.Lemmas.Whole.{index-size}
+use Rattle.sheet.specs.Contents.{offsetAt, lengthAt, split, marksPart}
+use Rattle.sheet.specs.Questions.{markCount, sheetCount, check, namesRight, recordRight, question8}
+use Rattle.sheet.specs.Accepted.{MarksRight, Fitting}
+use Rattle.sheet.specs.Lemmas.Parts.{split-at}
+use Rattle.sheet.specs.Lemmas.Tests.{every-of}
+use Rattle.sheet.specs.Laws.{accepted-iff}
+use Rattle.bitmap.specs.Map.{countShown}
+use Rattle.rollmap.specs.Jobs.{newSchedule, newIndex, newBodies}
+
+-- ---- tests, counts and bytes
+
+or-right : (a : Bool) {b : Bool} → b ≡ true → a || b ≡ true
+or-right true e = refl
+or-right false e = e
+
+-- two values that are both later than f, or neither, have the same test
+pub later-same : (v w : Value) (f : Fraction) → Later v f ↔ Later w f → later v (At f) ≡ later w (At f)
+later-same v w f e = cases (later v (At f)) (later w (At f)) refl refl
+  where
+    cases : (a b : Bool) → later v (At f) ≡ a → later w (At f) ≡ b → later v (At f) ≡ later w (At f)
+    cases true true p q = p ∙ sym q
+    cases false false p q = p ∙ sym q
+    cases true false p q = absurd (true≢false (sym (later-iff w f .1 (e .0 (later-iff v f .0 p))) ∙ q))
+    cases false true p q = absurd (true≢false (sym (later-iff v f .1 (e .1 (later-iff w f .0 q))) ∙ p))
+
+pub count-same : (p q : ℕ → Bool) (n : ℕ) → ((m : ℕ) → m < n → p m ≡ q m) → countShown p n ≡ countShown q n
+unfolding countShown
+count-same p q zero h = refl
+count-same p q (suc n) h = rw (count-same p q n (λ m k. h m (omega arith)), h n (omega arith))
+
+bytes-drop : (k : ℕ) (s : List ℕ) → Bytes s → Bytes (drop k s)
+bytes-drop k s b i = rw (getD-drop k s i 0) (b (k + i))
+
+bytes-take : (k : ℕ) (s : List ℕ) → Bytes s → Bytes (take k s)
+bytes-take k s b i =
+    elim (decLt i k) [
+      | yes h ↦ rw (getD-take k s i 0 h) (b i)
+      | no h ↦ (let l : length (take k s) ≤ i = omega (arith, length-take k s) in rw (List·getD-eq-default (take k s) 0 l) (omega arith))
+    ]
+
+-- ---- the parts that scheduling writes for part 1, `s`
+
+module _ (s : List ℕ) (right : MarksRight s (markCount s)) (bytes : Bytes s) where
+  pub allowed : AllowedMarks s (markCount s)
+  allowed = record { few = right .few; bytes = bytes; radii = λ i h. (right .each i h) .used }
+
+  -- each record that scheduling writes is right: question 8
+  new-right : (m : ℕ) → m < markCount s → recordRight s (newSchedule s) (markCount s) m ≡ true
+  unfolding recordRight isNever namesRight
+  new-right m h = cases (process (marksOf s n) m) refl
+    where
+      n : ℕ
+      n = markCount s
+
+      p : List ℕ
+      p = newSchedule s
+
+      cases : (r : Removal) → process (marksOf s n) m ≡ r → recordRight s p n m ≡ true
+      cases stays e =
+          let r = schedule-stays s n allowed m h e in
+          rw (r .eliminator, r .numerator, r .denominator)
+      cases (gone g f) e =
+          let x = process-eliminator (marksOf s n) (sheet-proper s n (right .few)) m g f h e in
+          let r = schedule-gone s n allowed m g f h e in
+          let o : outranks s g m ≡ true =
+          outranks-key s g m bytes (omega (arith, x .inside, right .few)) (omega (arith, h, right .few)) .1 (x .outranks) in
+          let num : f .num ≡ (touching s g m) .num = ap (λ (q : Fraction). q .num) (x .exact) in
+          let den : f .den ≡ (touching s g m) .den = ap (λ (q : Fraction). q .den) (x .exact) in
+          let vm : valueAt p m ≡ At f = schedule-value s n allowed m h ∙ ap when e in
+          let l : later (valueAt p g) (valueAt p m) ≡ true =
+          rw (schedule-value s n allowed g (x .inside), vm) (later-iff (when (process (marksOf s n) g)) f .1 (x .later)) in
+          or-right (isNever p m)
+          (rw (r .eliminator, r .numerator, r .denominator, lt-ltb g n (x .inside), o, eq-eqb _ _ num, eq-eqb _ _ den, l))
+
+  new-every : question8 s (newSchedule s) (markCount s) ≡ true
+  unfolding question8
+  new-every = every-of (recordRight s (newSchedule s) (markCount s)) (markCount s) new-right
+
+  -- the parts that scheduling writes fit one another: questions 4 to 9 say yes
+  pub new-fitting : Fitting (newBodies s)
+  unfolding isIndex
+  new-fitting =
+      record {
+        marks = right;
+        schedule-long = λ h. schedule-length s (markCount s);
+        index-long = λ h. index-length (indexOf s (newSchedule s) (markCount s)) ∙ ap (λ (k : ℕ). 2 * k) (index-size s (newSchedule s) (markCount s) (omega (arith, right .few)));
+        schedule-right = λ h. new-every;
+        index-right = λ h. same-self (newIndex s);
+      }
+
+-- ---- an accepted sheet's marks
+
+module _ (g : List ℕ) (bytes : Bytes g) (ok : check g ≡ 0) where
+  pub right : MarksRight (marksPart (split g)) (sheetCount g)
+  right = (accepted-iff g .0 ok) .fitting .marks
+
+  pub marks-bytes : Bytes (marksPart (split g))
+  marks-bytes =
+      let some = (accepted-iff g .0 ok) .laid .whole .some in
+      subst Bytes (sym (split-at g 0 some)) (bytes-take (lengthAt g 0) (drop (offsetAt g 0) g) (bytes-drop (offsetAt g 0) g bytes))

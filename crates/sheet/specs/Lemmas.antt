@@ -1,0 +1,11 @@
+-- The lemmas behind Laws, in the order in which they build on one another.
+pub mod Tests
+pub mod Asked
+pub mod Parts
+pub mod Accepting
+pub mod Entries
+pub mod Joined
+pub mod Fits
+pub mod Cut
+pub mod Writing
+pub mod Assembling

@@ -1,0 +1,119 @@
+/*
+ * The roll map library: which labels of a reel of paper are shown at which zoom.
+ *
+ * Link with librollmap.a. All calls answer by value; nothing is allocated or kept,
+ * there is no state, and any thread may call at any time.
+ *
+ * A buffer is a pointer and its length in bytes. The pointer is never null, not even
+ * where the length is 0. A buffer that is written (work, out, map) overlaps no other
+ * buffer of the same call.
+ *
+ * Every call puts its questions in turn. The first that is answered with no gives its
+ * number, and then the call has written nothing:
+ *
+ *    1  there are 2 bytes, 1 to 3 parts, and the whole contents
+ *    2  the codes are 1, 2, .. in order
+ *    3  the first body starts right after the contents, each next one where the last
+ *       ended, and the last ends with the sheet
+ *    4  part 1 is a multiple of 11 and at most 45,056 bytes (4,096 marks)
+ *    5  mark by mark, before its radius: the kind is below 200
+ *    6  the radius is at most 16,383
+ *    7  parts 2 and 3, if present, are 14n and 2n bytes for n marks
+ *    8  each schedule record is the 'never' record, or names a higher-ranked mark with
+ *       their touching value as its two unreduced numbers, and that one is removed later
+ *    9  part 3 is the tree that parts 1 and 2 give
+ *   10  parts 2 and 3 are there
+ *   11  x0 is at most x1, and y0 at most y1
+ *   12  the zoom is taken
+ *   13  each written or work buffer, and a walked map, is long enough
+ */
+#ifndef ROLLMAP_H
+#define ROLLMAP_H
+
+#include <stddef.h>
+#include <stdint.h>
+
+#ifdef __cplusplus
+extern "C" {
+#endif
+
+/* The most marks of a sheet. */
+#define ROLLMAP_MOST_MARKS 4096u
+
+/* What a walk answers where it finds no mark. */
+#define ROLLMAP_NO_MARK 65535u
+
+/* Bytes that scheduling n marks needs: of work, and of out. */
+#define ROLLMAP_WORK_BYTES(n) ((size_t)32 * (n) + 1024)
+#define ROLLMAP_SCHEDULED_BYTES(n) ((size_t)27 * (n) + 32)
+
+/* Bytes of the map of n marks. */
+#define ROLLMAP_MAP_BYTES(n) (((size_t)(n) + 7) / 8)
+
+/* number: 0 for success, or the number of the question answered with no.
+   value: what the call says; 0 where it is refused (65,535 from the walk). */
+struct rollmap_answer {
+    uint32_t number;
+    uint32_t value;
+};
+
+/* Where a part stands in its sheet. */
+struct rollmap_extent {
+    uint32_t offset;
+    uint32_t length;
+};
+
+/* Checks a sheet. The value is 0. Asks 1 to 9. */
+struct rollmap_answer rollmap_check(const uint8_t *sheet, size_t sheet_length);
+
+/* Schedules a sheet of n marks afresh, whatever schedule it has: writes the sheet of
+   three parts to out, and leaves what follows there as it is. The value is the number of
+   bytes written, 32 + 27n. work has at least 32n + 1,024 bytes, which hold anything
+   before the call and anything after a success. Asks 1 to 9, and 13 of work and out. */
+struct rollmap_answer rollmap_schedule(const uint8_t *sheet, size_t sheet_length,
+                                       uint8_t *work, size_t work_length,
+                                       uint8_t *out, size_t out_length);
+
+/* Puts the first `parts` bodies (1 the marks, 2 the schedule, 3 the index) together into
+   a sheet in out, and leaves what follows there as it is. Further bodies are ignored. The
+   value is the number of bytes written: 2, 10 for each part, and the bodies. Asks 1 (of
+   the number of parts only), 4 to 9, and 13 of out. */
+struct rollmap_answer rollmap_assemble(uint32_t parts,
+                                       const uint8_t *body1, size_t body1_length,
+                                       const uint8_t *body2, size_t body2_length,
+                                       const uint8_t *body3, size_t body3_length,
+                                       uint8_t *out, size_t out_length);
+
+/* Answers a view of a sheet of n marks: those that live at the zoom and lie in the
+   rectangle, edges included. Mark m is bit m mod 8 of byte m / 8 of the map. The first
+   (n + 7) / 8 bytes are wholly written, and what follows stays as it is. The value is the
+   count of shown marks. Asks 1 to 12, and 13 of the map.
+
+   A stop s, 0 to 16, is the zoom of 2 to the power s, divided by 64, map units per pixel.
+   A wheel value is the zoom itself, taken where 64 times it is a whole number from 1 to
+   65,536. */
+struct rollmap_answer rollmap_view_stop(const uint8_t *sheet, size_t sheet_length,
+                                        int16_t x0, int16_t x1, int16_t y0, int16_t y1,
+                                        uint8_t stop,
+                                        uint8_t *map, size_t map_length);
+struct rollmap_answer rollmap_view_wheel(const uint8_t *sheet, size_t sheet_length,
+                                         int16_t x0, int16_t x1, int16_t y0, int16_t y1,
+                                         float wheel,
+                                         uint8_t *map, size_t map_length);
+
+/* One step of a walk over the map of n marks. The value is the least shown number at or
+   after start and below n, else 65,535 (ROLLMAP_NO_MARK). Asks 13: the map has at least
+   (n + 7) / 8 bytes, and n is at most 4,096; a refused walk has value 65,535 too. */
+struct rollmap_answer rollmap_walk(const uint8_t *map, size_t map_length,
+                                   uint32_t n, uint32_t start);
+
+/* Where the part of that code (1 the marks, 2 the schedule, 3 the index) stands in an
+   accepted sheet. Both numbers are 0 where there is no such part or the sheet is refused;
+   a part that is there has an offset above 0, and may be empty. */
+struct rollmap_extent rollmap_part(const uint8_t *sheet, size_t sheet_length, uint32_t code);
+
+#ifdef __cplusplus
+}
+#endif
+
+#endif

@@ -1,0 +1,100 @@
+//! Views by a search down the tree, and walking a map.
+
+use super::index::Indexed;
+use super::marks::{place, value};
+use super::sheet::open;
+use super::{ask, Refusal, Value};
+
+/// A rectangle and the zoom in 64ths.
+#[derive(Clone, Copy)]
+pub struct View {
+    pub low: [i16; 2],
+    pub high: [i16; 2],
+    pub k: u32,
+}
+
+/// Answers a view: writes its map and answers the count. Asks 1 to 13.
+pub fn view(sheet: &[u8], view: View, map: &mut [u8]) -> Result<u32, Refusal> {
+    let opened = open(sheet)?;
+    let (Some(records), Some(index)) = (opened.records, opened.index) else {
+        return Err(10);
+    };
+    ask(11, view.low[0] <= view.high[0] && view.low[1] <= view.high[1])?;
+    ask(12, (1..=65_536).contains(&view.k))?;
+    let bytes = opened.marks.len().div_ceil(8);
+    ask(13, map.len() >= bytes)?;
+    let indexed = Indexed {
+        marks: opened.marks,
+        records,
+        index,
+    };
+    map[..bytes].fill(0);
+    let search = Search { indexed, view };
+    Ok(search.block(0, index.len(), 0, map))
+}
+
+/// A search down the tree.
+struct Search<'a> {
+    indexed: Indexed<'a>,
+    view: View,
+}
+
+impl Search<'_> {
+    /// Sets the bits of a block's shown marks, and answers how many they are.
+    fn block(&self, from: usize, size: usize, axis: usize, map: &mut [u8]) -> u32 {
+        if size == 0 {
+            return 0;
+        }
+        let root = self.indexed.number(from);
+        if !self.lives(root) {
+            return 0;
+        }
+        let place = self.place(root);
+        let Self { view, .. } = self;
+        let inside = (0..2).all(|axis| view.low[axis] <= place[axis] && place[axis] <= view.high[axis]);
+        map[root / 8] |= u8::from(inside) << (root % 8);
+        let half = size / 2;
+        let (left, right) = (from + 1, from + 1 + half);
+        let mut count = u32::from(inside);
+        let right_size = size - 1 - half;
+        if right_size == 0 || self.head(right, axis) >= view.low[axis] {
+            count += self.block(left, half, 1 - axis, map);
+        }
+        if right_size > 0 && self.head(left, axis) <= view.high[axis] {
+            count += self.block(right, right_size, 1 - axis, map);
+        }
+        count
+    }
+
+    fn place(&self, mark: usize) -> [i16; 2] {
+        place(&self.indexed.marks[mark]).into()
+    }
+
+    /// The coordinate of the head of a block.
+    fn head(&self, from: usize, axis: usize) -> i16 {
+        self.place(self.indexed.number(from))[axis]
+    }
+
+    /// Whether a mark is removed later than k²/4096.
+    fn lives(&self, mark: usize) -> bool {
+        let k = u64::from(self.view.k);
+        value(&self.indexed.records[mark]).later_than(Value {
+            numerator: k * k,
+            denominator: 4_096,
+        })
+    }
+}
+
+/// The least set bit of a map at or after `start` and below `n`.
+pub fn walk(map: &[u8], n: usize, start: usize) -> Option<usize> {
+    let mut at = start;
+    while at < n {
+        let byte = map[at / 8] >> (at % 8);
+        if byte != 0 {
+            let found = at + byte.trailing_zeros() as usize;
+            return (found < n).then_some(found);
+        }
+        at = (at / 8 + 1) * 8;
+    }
+    None
+}

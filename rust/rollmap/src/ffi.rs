@@ -1,0 +1,143 @@
+//! The C interface of the proved library. This is the only file with unsafe code:
+//! the declarations, as `include/rollmap.h` has them, and one wrapper each that
+//! lends slices as a pointer and a length.
+//!
+//! The library is called with what a slice gives: a pointer that is never null,
+//! to that many initialised bytes, which stay borrowed until the call is over. So
+//! a buffer that is written overlaps no other. It keeps no pointer, has no state,
+//! never unwinds, and takes every value of every number.
+
+#![allow(unsafe_code)]
+
+use crate::{View, Zoom};
+
+/// What a call answers: 0 or the refusing question's number, and a value.
+#[derive(Clone, Copy)]
+#[repr(C)]
+pub(crate) struct Answer {
+    pub(crate) number: u32,
+    pub(crate) value: u32,
+}
+
+/// Where a part stands in its sheet.
+#[derive(Clone, Copy)]
+#[repr(C)]
+pub(crate) struct Extent {
+    pub(crate) offset: u32,
+    pub(crate) length: u32,
+}
+
+extern "C" {
+    fn rollmap_check(sheet: *const u8, sheet_length: usize) -> Answer;
+
+    fn rollmap_schedule(
+        sheet: *const u8,
+        sheet_length: usize,
+        work: *mut u8,
+        work_length: usize,
+        out: *mut u8,
+        out_length: usize,
+    ) -> Answer;
+
+    fn rollmap_assemble(
+        parts: u32,
+        body1: *const u8,
+        body1_length: usize,
+        body2: *const u8,
+        body2_length: usize,
+        body3: *const u8,
+        body3_length: usize,
+        out: *mut u8,
+        out_length: usize,
+    ) -> Answer;
+
+    fn rollmap_view_stop(
+        sheet: *const u8,
+        sheet_length: usize,
+        x0: i16,
+        x1: i16,
+        y0: i16,
+        y1: i16,
+        stop: u8,
+        map: *mut u8,
+        map_length: usize,
+    ) -> Answer;
+
+    fn rollmap_view_wheel(
+        sheet: *const u8,
+        sheet_length: usize,
+        x0: i16,
+        x1: i16,
+        y0: i16,
+        y1: i16,
+        wheel: f32,
+        map: *mut u8,
+        map_length: usize,
+    ) -> Answer;
+
+    fn rollmap_walk(map: *const u8, map_length: usize, n: u32, start: u32) -> Answer;
+
+    fn rollmap_part(sheet: *const u8, sheet_length: usize, code: u32) -> Extent;
+}
+
+pub(crate) fn check(sheet: &[u8]) -> Answer {
+    // SAFETY: pointer and length are a slice's (see the top of this file).
+    unsafe { rollmap_check(sheet.as_ptr(), sheet.len()) }
+}
+
+pub(crate) fn schedule(sheet: &[u8], work: &mut [u8], out: &mut [u8]) -> Answer {
+    // SAFETY: pointers and lengths are slices' (see the top of this file).
+    unsafe {
+        rollmap_schedule(
+            sheet.as_ptr(),
+            sheet.len(),
+            work.as_mut_ptr(),
+            work.len(),
+            out.as_mut_ptr(),
+            out.len(),
+        )
+    }
+}
+
+pub(crate) fn assemble(parts: u32, bodies: [&[u8]; 3], out: &mut [u8]) -> Answer {
+    let [body1, body2, body3] = bodies;
+    // SAFETY: pointers and lengths are slices' (see the top of this file).
+    unsafe {
+        rollmap_assemble(
+            parts,
+            body1.as_ptr(),
+            body1.len(),
+            body2.as_ptr(),
+            body2.len(),
+            body3.as_ptr(),
+            body3.len(),
+            out.as_mut_ptr(),
+            out.len(),
+        )
+    }
+}
+
+pub(crate) fn view(sheet: &[u8], view: View, map: &mut [u8]) -> Answer {
+    let View { x0, x1, y0, y1, .. } = view;
+    let (bytes, length) = (sheet.as_ptr(), sheet.len());
+    let (to, room) = (map.as_mut_ptr(), map.len());
+    // SAFETY: pointers and lengths are slices' (see the top of this file).
+    unsafe {
+        match view.zoom {
+            Zoom::Stop(stop) => rollmap_view_stop(bytes, length, x0, x1, y0, y1, stop, to, room),
+            Zoom::Wheel(wheel) => {
+                rollmap_view_wheel(bytes, length, x0, x1, y0, y1, wheel, to, room)
+            }
+        }
+    }
+}
+
+pub(crate) fn walk(map: &[u8], n: u32, start: u32) -> Answer {
+    // SAFETY: pointer and length are a slice's (see the top of this file).
+    unsafe { rollmap_walk(map.as_ptr(), map.len(), n, start) }
+}
+
+pub(crate) fn part(sheet: &[u8], code: u32) -> Extent {
+    // SAFETY: pointer and length are a slice's (see the top of this file).
+    unsafe { rollmap_part(sheet.as_ptr(), sheet.len(), code) }
+}

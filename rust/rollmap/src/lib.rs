@@ -1,0 +1,47 @@
+//! The roll map: which labels of a reel of paper are shown at which zoom.
+//!
+//! These are safe bindings to the proved library, the static library `rollmap`.
+//! A sheet is a run of bytes that has the marks in part 1 and, once it is scheduled,
+//! the schedule in part 2 and the index in part 3. Nothing is copied or kept: a call
+//! borrows its buffers and answers.
+//!
+//! A call asks the questions that its comment names, in turn; the first no is its
+//! [`Refusal`], and then no buffer is written.
+//!
+//! ```
+//! use rollmap::{assemble, schedule_to_vec, view_to_map, View, Zoom};
+//!
+//! // Two marks of radius 10 and kind 0 at (0, 0) and (100, 0); the first has the
+//! // higher priority. They touch at zoom 5.
+//! let marks = [
+//!     [0, 0, 0, 0, 10, 0, 9, 0, 0, 0, 0],
+//!     [100, 0, 0, 0, 10, 0, 5, 0, 0, 0, 0],
+//! ]
+//! .concat();
+//! let mut sheet = vec![0; 12 + marks.len()];
+//! assemble(1, [&marks, &[], &[]], &mut sheet)?;
+//! let scheduled = schedule_to_vec(&sheet)?;
+//!
+//! let at = |wheel| View { x0: 0, x1: 200, y0: 0, y1: 0, zoom: Zoom::Wheel(wheel) };
+//! let near = view_to_map(&scheduled, at(4.0))?;
+//! assert!(near.iter().eq([0, 1]));
+//! let far = view_to_map(&scheduled, at(5.0))?;
+//! assert!(far.iter().eq([0]));
+//! # Ok::<(), rollmap::Refusal>(())
+//! ```
+
+#![deny(unsafe_code, missing_docs)]
+
+mod ffi;
+mod refusal;
+mod sheet;
+mod view;
+mod walk;
+
+pub use refusal::Refusal;
+pub use sheet::{
+    assemble, check, mark_count, part, schedule, schedule_to_vec, scheduled_bytes, work_bytes,
+    MARK_BYTES, MOST_MARKS,
+};
+pub use view::{map_bytes, view, view_to_map, Map, View, Zoom};
+pub use walk::{shown, walk, Shown};

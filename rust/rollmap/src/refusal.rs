@@ -1,0 +1,152 @@
+//! Why a call was refused (the scope document, 'Questions put in turn').
+
+use std::error::Error;
+use std::fmt;
+
+use crate::ffi::Answer;
+
+/// The first question that was answered with no. Its number is the document's.
+#[derive(Clone, Copy, Debug, PartialEq, Eq, Hash)]
+#[repr(u32)]
+pub enum Refusal {
+    /// 1: the number of parts, or the contents, of a sheet.
+    Contents = 1,
+    /// 2: the codes of its parts.
+    Codes = 2,
+    /// 3: where its bodies start and end.
+    Bodies = 3,
+    /// 4: the length of part 1.
+    Marks = 4,
+    /// 5: the kind of a mark.
+    Kind = 5,
+    /// 6: the radius of a mark.
+    Radius = 6,
+    /// 7: the length of part 2 or 3.
+    Lengths = 7,
+    /// 8: a record of the schedule in part 2.
+    Schedule = 8,
+    /// 9: the index in part 3.
+    Index = 9,
+    /// 10: a view of a sheet that lacks part 2 or 3.
+    Unscheduled = 10,
+    /// 11: the edges of a view.
+    Edges = 11,
+    /// 12: the zoom of a view.
+    Zoom = 12,
+    /// 13: the length of a buffer, or the number of marks of a walk.
+    Buffer = 13,
+    /// 14: what the program takes; no call of this library asks it.
+    Program = 14,
+}
+
+impl Refusal {
+    /// Every refusal, by rising number.
+    pub const ALL: [Self; 14] = [
+        Self::Contents,
+        Self::Codes,
+        Self::Bodies,
+        Self::Marks,
+        Self::Kind,
+        Self::Radius,
+        Self::Lengths,
+        Self::Schedule,
+        Self::Index,
+        Self::Unscheduled,
+        Self::Edges,
+        Self::Zoom,
+        Self::Buffer,
+        Self::Program,
+    ];
+
+    /// The question's number, 1 to 14.
+    pub const fn number(self) -> u32 {
+        self as u32
+    }
+
+    /// The refusal of that number.
+    pub fn from_number(number: u32) -> Option<Self> {
+        Self::ALL
+            .into_iter()
+            .find(|refusal| refusal.number() == number)
+    }
+
+    /// The question in words.
+    pub const fn question(self) -> &'static str {
+        match self {
+            Self::Contents => "are there 2 bytes, 1 to 3 parts, and the whole contents?",
+            Self::Codes => "are the codes 1, 2, .. in order?",
+            Self::Bodies => {
+                "does the first body start right after the contents, each next one where the \
+                 last ended, and does the last end with the sheet?"
+            }
+            Self::Marks => "is part 1 a multiple of 11 and at most 45,056 bytes?",
+            Self::Kind => "is the kind of each mark below 200?",
+            Self::Radius => "is the radius of each mark at most 16,383?",
+            Self::Lengths => "are parts 2 and 3, if present, 14n and 2n bytes?",
+            Self::Schedule => {
+                "is each schedule record the 'never' record, or else does it name a \
+                 higher-ranked mark below n, with their touching value as its two unreduced \
+                 numbers, and is that mark removed later?"
+            }
+            Self::Index => "is part 3 the tree that parts 1 and 2 give?",
+            Self::Unscheduled => "are parts 2 and 3 there?",
+            Self::Edges => "is x0 at most x1, and y0 at most y1?",
+            Self::Zoom => {
+                "is the zoom a stop from 0 to 16, or a wheel value of which 64 times is a whole \
+                 number from 1 to 65,536?"
+            }
+            Self::Buffer => {
+                "is each written or work buffer, and a walked map, long enough, and are at most \
+                 4,096 marks walked?"
+            }
+            Self::Program => "are there at most 2,000 marks and 65,536 input bytes?",
+        }
+    }
+}
+
+impl fmt::Display for Refusal {
+    fn fmt(&self, f: &mut fmt::Formatter<'_>) -> fmt::Result {
+        write!(
+            f,
+            "refused by question {}: {}",
+            self.number(),
+            self.question()
+        )
+    }
+}
+
+impl Error for Refusal {}
+
+impl Answer {
+    /// The value of a call that succeeded. A refused one has `refused_value`,
+    /// which debug builds look at.
+    pub(crate) fn settle(self, refused_value: u32) -> Result<u32, Refusal> {
+        if self.number == 0 {
+            return Ok(self.value);
+        }
+        debug_assert_eq!(self.value, refused_value, "refused by {}", self.number);
+        Err(Refusal::from_number(self.number).expect("the library refuses by a question"))
+    }
+}
+
+#[cfg(test)]
+mod tests {
+    use super::*;
+
+    #[test]
+    fn numbers_are_1_to_14_in_order() {
+        let numbers = Refusal::ALL.map(Refusal::number);
+        assert!(numbers.into_iter().eq(1..=14));
+        for refusal in Refusal::ALL {
+            assert_eq!(Refusal::from_number(refusal.number()), Some(refusal));
+        }
+        assert_eq!(Refusal::from_number(0), None);
+        assert_eq!(Refusal::from_number(15), None);
+    }
+
+    #[test]
+    fn a_refusal_says_its_number_and_its_question() {
+        let words = "refused by question 5: is the kind of each mark below 200?";
+        assert_eq!(Refusal::Kind.to_string(), words);
+    }
+}

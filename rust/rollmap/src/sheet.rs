@@ -1,0 +1,87 @@
+//! Checking, scheduling and putting together a sheet, and reading its parts.
+
+use crate::{ffi, Refusal};
+
+/// Bytes a mark takes in part 1.
+pub const MARK_BYTES: usize = 11;
+
+/// The most marks a sheet has.
+pub const MOST_MARKS: usize = 4_096;
+
+/// Bytes of the work buffer that scheduling n marks borrows.
+pub const fn work_bytes(n: usize) -> usize {
+    32 * n + 1_024
+}
+
+/// Bytes of the sheet that scheduling n marks writes.
+pub const fn scheduled_bytes(n: usize) -> usize {
+    32 + 27 * n
+}
+
+/// Checks a sheet.
+///
+/// # Errors
+///
+/// Asks 1 to 9.
+pub fn check(sheet: &[u8]) -> Result<(), Refusal> {
+    let value = ffi::check(sheet).settle(0)?;
+    debug_assert_eq!(value, 0, "an accepted sheet has no value");
+    Ok(())
+}
+
+/// Schedules a sheet afresh into `out`, with its index, whatever schedule it has,
+/// and answers the number of bytes written, [`scheduled_bytes`] of its marks.
+/// Bytes past these stay as they are. `work` has at least [`work_bytes`] of the
+/// marks, holds anything before, and anything after a success.
+///
+/// # Errors
+///
+/// Asks 1 to 9, and 13 of both buffers. A refused call writes to neither.
+pub fn schedule(sheet: &[u8], work: &mut [u8], out: &mut [u8]) -> Result<usize, Refusal> {
+    let written = ffi::schedule(sheet, work, out).settle(0)?;
+    Ok(written as usize)
+}
+
+/// Schedules a sheet afresh, in buffers of its own, and answers the scheduled one.
+///
+/// # Errors
+///
+/// Asks 1 to 9.
+pub fn schedule_to_vec(sheet: &[u8]) -> Result<Vec<u8>, Refusal> {
+    let n = mark_count(sheet).unwrap_or(0);
+    let mut work = vec![0; work_bytes(n)];
+    let mut out = vec![0; scheduled_bytes(n)];
+    let written = schedule(sheet, &mut work, &mut out)?;
+    out.truncate(written);
+    Ok(out)
+}
+
+/// Puts the first `parts` bodies together into a sheet in `out`, and answers the
+/// number of bytes written: 2, 10 for each part, and the bodies. Further bodies are
+/// ignored, and bytes past the sheet stay as they are.
+///
+/// # Errors
+///
+/// Asks 1 of `parts`, 4 to 9 of the bodies, and 13 of `out`. A refused call writes
+/// nothing.
+pub fn assemble(parts: u32, bodies: [&[u8]; 3], out: &mut [u8]) -> Result<usize, Refusal> {
+    let written = ffi::assemble(parts, bodies, out).settle(0)?;
+    Ok(written as usize)
+}
+
+/// The body of the part with that code, as it stands in an accepted sheet: 1 the
+/// marks, 2 the schedule, 3 the index. None where there is no such part or the
+/// sheet is refused; a part that is there may be empty.
+pub fn part(sheet: &[u8], code: u32) -> Option<&[u8]> {
+    let extent = ffi::part(sheet, code);
+    let (offset, length) = (extent.offset as usize, extent.length as usize);
+    if (offset, length) == (0, 0) {
+        return None;
+    }
+    Some(&sheet[offset..offset + length])
+}
+
+/// The number of marks of an accepted sheet, none of a refused one.
+pub fn mark_count(sheet: &[u8]) -> Option<usize> {
+    part(sheet, 1).map(|marks| marks.len() / MARK_BYTES)
+}

@@ -1,0 +1,100 @@
+//! Views of a scheduled sheet, and their maps.
+
+use crate::{ffi, mark_count, shown, Refusal, Shown};
+
+/// A rectangle, edges included, and a zoom.
+#[derive(Clone, Copy, Debug, PartialEq)]
+pub struct View {
+    /// The least x inside.
+    pub x0: i16,
+    /// The greatest x inside.
+    pub x1: i16,
+    /// The least y inside.
+    pub y0: i16,
+    /// The greatest y inside.
+    pub y1: i16,
+    /// Map units per pixel.
+    pub zoom: Zoom,
+}
+
+/// A zoom as the viewer has it.
+#[derive(Clone, Copy, Debug, PartialEq)]
+pub enum Zoom {
+    /// Stop s, 0 to 16: 64 times the zoom is 2 to the power s.
+    Stop(u8),
+    /// The zoom itself, where 64 times it is a whole number from 1 to 65,536.
+    Wheel(f32),
+}
+
+/// Bytes of the map of n marks.
+pub const fn map_bytes(n: usize) -> usize {
+    n.div_ceil(8)
+}
+
+/// Answers a view: writes which marks are shown to `map`, mark m as bit m mod 8 of
+/// byte m / 8, and answers their count. Unused bits of the last byte become 0, and
+/// bytes past the first [`map_bytes`] of the marks stay as they are.
+///
+/// # Errors
+///
+/// Asks 1 to 13. A refused call writes nothing.
+pub fn view(sheet: &[u8], view: View, map: &mut [u8]) -> Result<u32, Refusal> {
+    ffi::view(sheet, view, map).settle(0)
+}
+
+/// Answers a view with a map of its own. The sheet is checked twice for that: a
+/// viewer that is in a hurry lends a map to [`view`](crate::view()).
+///
+/// # Errors
+///
+/// Asks 1 to 12.
+pub fn view_to_map(sheet: &[u8], view: View) -> Result<Map, Refusal> {
+    let marks = mark_count(sheet).unwrap_or(0);
+    let mut bytes = vec![0; map_bytes(marks)];
+    let count = crate::view(sheet, view, &mut bytes)?;
+    Ok(Map {
+        bytes,
+        marks: marks as u32,
+        count,
+    })
+}
+
+/// The map of a view, with the number of marks of its sheet and the count of those
+/// shown.
+#[derive(Clone, Debug, PartialEq, Eq)]
+pub struct Map {
+    bytes: Vec<u8>,
+    marks: u32,
+    count: u32,
+}
+
+impl Map {
+    /// The number of marks of the sheet.
+    pub fn marks(&self) -> u32 {
+        self.marks
+    }
+
+    /// The number of shown marks.
+    pub fn count(&self) -> u32 {
+        self.count
+    }
+
+    /// The map's bytes, mark m being bit m mod 8 of byte m / 8.
+    pub fn as_bytes(&self) -> &[u8] {
+        &self.bytes
+    }
+
+    /// The numbers of the shown marks, rising.
+    pub fn iter(&self) -> Shown<'_> {
+        shown(&self.bytes, self.marks).expect("the map is as long as its sheet asks for")
+    }
+}
+
+impl<'a> IntoIterator for &'a Map {
+    type Item = u32;
+    type IntoIter = Shown<'a>;
+
+    fn into_iter(self) -> Shown<'a> {
+        self.iter()
+    }
+}

@@ -1,0 +1,51 @@
+//! Walking a view's map.
+
+use std::iter::FusedIterator;
+
+use crate::{ffi, Refusal};
+
+/// What the library answers where it finds no mark.
+const NO_MARK: u32 = 65_535;
+
+/// The least shown number at or after `start` and below `n` in a map of `n` marks.
+/// Bits at or past `n` are ignored.
+///
+/// # Errors
+///
+/// Asks 13: the map has at least [`map_bytes`](crate::map_bytes) of the marks, and
+/// there are at most 4,096.
+pub fn walk(map: &[u8], n: u32, start: u32) -> Result<Option<u32>, Refusal> {
+    let mark = ffi::walk(map, n, start).settle(NO_MARK)?;
+    Ok((mark != NO_MARK).then_some(mark))
+}
+
+/// The numbers of the shown marks in a map of `n` marks, rising.
+///
+/// # Errors
+///
+/// Asks 13, as [`walk`] does.
+pub fn shown(map: &[u8], n: u32) -> Result<Shown<'_>, Refusal> {
+    let next = walk(map, n, 0)?;
+    Ok(Shown { map, n, next })
+}
+
+/// The numbers of the shown marks in a map, rising.
+#[derive(Clone, Debug)]
+pub struct Shown<'a> {
+    map: &'a [u8],
+    n: u32,
+    next: Option<u32>,
+}
+
+impl Iterator for Shown<'_> {
+    type Item = u32;
+
+    fn next(&mut self) -> Option<u32> {
+        let mark = self.next?;
+        let following = walk(self.map, self.n, mark + 1);
+        self.next = following.expect("the map was taken when the walk began");
+        Some(mark)
+    }
+}
+
+impl FusedIterator for Shown<'_> {}

@@ -1,0 +1,385 @@
+//! Checking, compared with the oracle on accepted and damaged sheets.
+
+mod common;
+
+use std::collections::BTreeMap;
+
+use common::{bodies_of, joined, number, one_part, scheduled, some_sheet, three_parts, P1};
+use oracle::fraction::Fraction;
+use oracle::mark::{touching_value, write_marks, Mark};
+use oracle::process::schedule_in_rank_order;
+use oracle::record::{write_records, Record};
+use oracle::sample::{marks, Generator, Shape};
+use oracle::sheet::join;
+use oracle::tree::write_tree;
+
+/// The number of a sheet, once both are seen to give it.
+fn check(sheet: &[u8]) -> u32 {
+    let number = number(&rollmap::check(sheet));
+    let expected = oracle::sheet::check(sheet);
+    assert_eq!(number, expected, "{sheet:02x?}");
+    number
+}
+
+/// A sheet with these entries (code, offset, length) and this body after them.
+fn raw(entries: &[(u16, u32, u32)], body: &[u8]) -> Vec<u8> {
+    let mut sheet = (entries.len() as u16).to_le_bytes().to_vec();
+    for (code, offset, length) in entries {
+        sheet.extend(code.to_le_bytes());
+        sheet.extend(offset.to_le_bytes());
+        sheet.extend(length.to_le_bytes());
+    }
+    sheet.extend(body);
+    sheet
+}
+
+/// Accepted sheets of one, two and three parts: P1, no marks, and a few samples.
+fn small_sheets() -> Vec<Vec<u8>> {
+    let samples = [
+        P1.to_vec(),
+        Vec::new(),
+        marks(Shape::Extreme, 3, 5),
+        marks(Shape::Grid, 6, 8),
+        marks(Shape::OnePlace, 2, 1),
+    ];
+    let mut sheets = Vec::new();
+    for sample in samples {
+        let bodies = bodies_of(&sample, &schedule_in_rank_order(&sample));
+        for parts in 1..=3 {
+            sheets.push(joined(&bodies[..parts]));
+        }
+    }
+    sheets
+}
+
+#[test]
+fn proved_examples() {
+    assert_eq!(check(&one_part(&[Mark::plain(0, 0, 16_383, 0)])), 0);
+    assert_eq!(check(&one_part(&[Mark::plain(0, 0, 16_384, 0)])), 6);
+    let of = |kind| Mark {
+        kind,
+        ..Mark::plain(0, 0, 0, 0)
+    };
+    assert_eq!(check(&one_part(&[of(199)])), 0);
+    assert_eq!(check(&one_part(&[of(200)])), 5);
+    assert_eq!(check(&[1, 0, 1, 0, 0x0c, 0, 0, 0, 0, 0, 0, 0]), 0);
+    assert_eq!(check(&scheduled(&P1)), 0);
+}
+
+#[test]
+fn every_byte_of_small_sheets_with_every_value() {
+    for mut sheet in small_sheets() {
+        assert_eq!(check(&sheet), 0);
+        for at in 0..sheet.len() {
+            let own = sheet[at];
+            for value in 0..=255 {
+                sheet[at] = value;
+                check(&sheet);
+            }
+            sheet[at] = own;
+        }
+    }
+}
+
+#[test]
+fn every_length_of_small_sheets() {
+    for mut sheet in small_sheets() {
+        for length in 0..sheet.len() {
+            assert_ne!(check(&sheet[..length]), 0);
+        }
+        for _ in 0..40 {
+            sheet.push(0);
+            assert_eq!(check(&sheet), 3);
+        }
+    }
+}
+
+/// Where the fields of the contents stand in a sheet of so many parts, and their
+/// widths: the number of parts, then code, offset and length of each.
+fn fields(parts: usize) -> Vec<(usize, usize)> {
+    let entries = (0..parts).map(|part| 2 + 10 * part);
+    let of_entry = |at| [(at, 2), (at + 2, 4), (at + 6, 4)];
+    let mut fields = vec![(0, 2)];
+    fields.extend(entries.flat_map(of_entry));
+    fields
+}
+
+/// The sheet with a field of its contents changed to a value near its own, or at an
+/// end of its range.
+fn with_field(sheet: &[u8], (at, width): (usize, usize), choice: u32) -> Vec<u8> {
+    let mut wide = [0; 4];
+    wide[..width].copy_from_slice(&sheet[at..at + width]);
+    let own = u32::from_le_bytes(wide);
+    let value = match choice {
+        0..=4 => choice,
+        5 => own.wrapping_add(1),
+        6 => own.wrapping_sub(1),
+        7 => own.wrapping_add(11),
+        8 => own.wrapping_sub(14),
+        9 => own.wrapping_neg(),
+        10 => own ^ 0x8000_8000,
+        11 => own ^ 0x0100_0100,
+        12 => sheet.len() as u32,
+        _ => u32::MAX,
+    };
+    let mut changed = sheet.to_vec();
+    changed[at..at + width].copy_from_slice(&value.to_le_bytes()[..width]);
+    changed
+}
+
+#[test]
+fn every_field_of_the_contents_and_every_two() {
+    let (p1, none) = (scheduled(&P1), scheduled(&[]));
+    let mut numbers = BTreeMap::new();
+    for sheet in [&p1, &none] {
+        for first in fields(3) {
+            for choice in 0..14 {
+                let once = with_field(sheet, first, choice);
+                *numbers.entry(check(&once)).or_insert(0) += 1;
+                for second in fields(3) {
+                    for choice in 0..14 {
+                        check(&with_field(&once, second, choice));
+                    }
+                }
+            }
+        }
+    }
+    assert!((0..=3).all(|number| numbers[&number] > 5), "{numbers:?}");
+}
+
+#[test]
+fn ends_that_wrap_are_no_ends() {
+    let body = write_marks(&P1);
+    let number = |entries: &[(u16, u32, u32)]| check(&raw(entries, &body));
+    for missing in [1, 10, 11, 22, 32, 33, 44, 54, 1 << 16, 1 << 31] {
+        // In 32 bits a body of this length ends so many bytes before it starts.
+        let long = 0_u32.wrapping_sub(missing);
+        let after = |offset: u32| offset.wrapping_add(long);
+        for rest in 0..100 {
+            let second = [(1, 22, long), (2, after(22), rest)];
+            assert_eq!(number(&second), 3);
+            let second = [
+                (1, 32, long),
+                (2, after(32), rest),
+                (3, after(32 + rest), 44),
+            ];
+            assert_eq!(number(&second), 3);
+            let third = [(1, 32, 44), (2, 76, long), (3, after(76), rest)];
+            assert_eq!(number(&third), 3);
+        }
+    }
+    let last = [(1, 32, 0), (2, 32, 5), (3, 37, u32::MAX - 4)];
+    assert_eq!(check(&raw(&last, &[])), 3);
+}
+
+#[test]
+fn every_length_of_a_body() {
+    let bodies = bodies_of(&P1, &schedule_in_rank_order(&P1));
+    for parts in 1..=3 {
+        for body in 0..parts {
+            for length in 0..bodies[body].len() + 30 {
+                let mut changed = bodies.clone();
+                changed[body].resize(length, 0);
+                check(&joined(&changed[..parts]));
+            }
+        }
+    }
+    for length in [45_045, 45_055, 45_056, 45_057, 45_067, 45_078, 65_536 * 11] {
+        let number = check(&join(&[&vec![0; length]]));
+        assert_eq!(number == 0, length <= 45_056 && length % 11 == 0);
+    }
+}
+
+#[test]
+fn every_kind_with_radii_at_both_sides_of_the_limit() {
+    let good = Mark::plain(3, -4, 5, 6);
+    for kind in 0..=255 {
+        for radius in [0, 1, 255, 256, 16_383, 16_384, 32_768, 65_535] {
+            let odd = Mark {
+                kind,
+                radius,
+                ..good
+            };
+            for other in [
+                good,
+                Mark { kind: 200, ..good },
+                Mark::plain(0, 0, 16_384, 0),
+            ] {
+                check(&one_part(&[odd, other]));
+                check(&one_part(&[other, odd]));
+                check(&one_part(&[good, odd, other, good]));
+            }
+        }
+    }
+}
+
+/// Records near the one of `mark` that goes for `other`: exact, reduced, scaled, off
+/// by one, and with numbers of any size.
+fn records_near(marks: &[Mark], mark: usize, other: usize) -> Vec<Record> {
+    let Fraction {
+        numerator,
+        denominator,
+    } = touching_value(&marks[other], &marks[mark]);
+    let mut near = vec![
+        (numerator, denominator),
+        (2 * numerator, 2 * denominator),
+        (numerator / 2, denominator / 2),
+        (numerator + 1, denominator),
+        (numerator.wrapping_sub(1), denominator),
+        (numerator, denominator + 1),
+        (numerator, denominator - 1),
+        (numerator, 0),
+        (0, denominator),
+        (0, 0),
+        (numerator + (1 << 32), denominator),
+        (numerator, denominator ^ 1 << 16),
+        (u64::MAX, u32::MAX),
+        (u64::MAX, 1),
+        (1, u32::MAX),
+    ];
+    for divisor in [3, 4, 5, 9, 25, 100, 400] {
+        near.push((numerator / u64::from(divisor), denominator / divisor));
+    }
+    let of =
+        |(numerator, denominator)| Record::removed(other, Fraction::new(numerator, denominator));
+    near.into_iter().map(of).collect()
+}
+
+#[test]
+fn records_for_every_mark_that_nearly_fit() {
+    let mut numbers = BTreeMap::new();
+    for (seed, shape) in (0..12).flat_map(|seed| Shape::ALL.map(|shape| (seed, shape))) {
+        let sample = marks(shape, 5, seed);
+        let ours = schedule_in_rank_order(&sample);
+        for mark in 0..sample.len() {
+            let mut records = ours.clone();
+            for other in 0..sample.len() {
+                for record in records_near(&sample, mark, other) {
+                    records[mark] = record;
+                    *numbers
+                        .entry(check(&three_parts(&sample, &records)))
+                        .or_insert(0) += 1;
+                }
+            }
+            for eliminator in [0, 4, 5, 6, 256, 4_096, 65_534, 65_535] {
+                records[mark] = Record {
+                    eliminator,
+                    ..ours[mark]
+                };
+                check(&three_parts(&sample, &records));
+            }
+        }
+    }
+    assert!(numbers[&0] > 300 && numbers[&8] > 20_000, "{numbers:?}");
+}
+
+#[test]
+fn a_record_for_a_mark_that_goes_at_the_same_value_or_before() {
+    // Mark 1 goes at 25, the value it has with mark 2, however that is written.
+    for (x, radius) in [
+        (200, 10),
+        (160, 2),
+        (159, 2),
+        (161, 2),
+        (199, 10),
+        (201, 10),
+    ] {
+        let sample = [P1[0], P1[1], Mark::plain(x, 0, radius, 1)];
+        let value = |a: usize, b: usize| touching_value(&sample[a], &sample[b]);
+        let records = [
+            Record::NEVER,
+            Record::removed(0, value(0, 1)),
+            Record::removed(1, value(1, 2)),
+        ];
+        let earlier = value(1, 2).compare(value(0, 1)).is_lt();
+        let number = check(&three_parts(&sample, &records));
+        assert_eq!(number, if earlier { 0 } else { 8 }, "{x} {radius}");
+    }
+}
+
+/// Calls `visit` with all lists of `length` numbers from the choice.
+fn each_list(choice: &[u16], length: u32, visit: &mut impl FnMut(&[u16])) {
+    for code in 0..choice.len().pow(length) {
+        let places = (0..length).map(|at| code / choice.len().pow(at));
+        let list: Vec<u16> = places.map(|place| choice[place % choice.len()]).collect();
+        visit(&list);
+    }
+}
+
+#[test]
+fn every_tree_of_a_few_marks() {
+    let mut generator = Generator::new(4);
+    let mut accepted = 0;
+    let mut lists = 0;
+    for (shape, n) in Shape::ALL
+        .into_iter()
+        .flat_map(|shape| (1..=5).map(move |n| (shape, n)))
+    {
+        let sample = marks(shape, n, n as u64);
+        let ours = schedule_in_rank_order(&sample);
+        for records in [ours, common::foreign_records(&mut generator, &sample)] {
+            let (part_1, part_2) = (write_marks(&sample), write_records(&records));
+            let mut choice: Vec<u16> = (0..n as u16).collect();
+            choice.extend([n as u16, 256].iter().take(5 - n.min(5)));
+            each_list(&choice, n as u32, &mut |tree| {
+                let number = check(&join(&[&part_1, &part_2, &write_tree(tree)]));
+                accepted += usize::from(number == 0);
+            });
+            lists += 1;
+        }
+    }
+    assert_eq!(
+        accepted, lists,
+        "one tree is accepted for each list of records"
+    );
+}
+
+#[test]
+fn trees_with_two_numbers_exchanged() {
+    for shape in Shape::ALL {
+        let sample = marks(shape, 24, 3);
+        let mut sheet = scheduled(&sample);
+        let start = sheet.len() - 48;
+        for a in 0..24 {
+            for b in 0..a {
+                sheet.swap(start + 2 * a, start + 2 * b);
+                assert_eq!(check(&sheet), 9);
+                sheet.swap(start + 2 * a, start + 2 * b);
+            }
+        }
+        assert_eq!(check(&sheet), 0);
+    }
+}
+
+#[test]
+fn many_sheets_with_a_few_faults() {
+    let mut generator = Generator::new(2);
+    let mut numbers = BTreeMap::new();
+    for _ in 0..100_000 {
+        let sheet = some_sheet(&mut generator);
+        *numbers.entry(check(&sheet)).or_insert(0) += 1;
+    }
+    assert!((0..=9).all(|number| numbers[&number] > 500), "{numbers:?}");
+}
+
+#[test]
+fn the_largest_sheets_and_some_faults_in_them() {
+    let mut generator = Generator::new(3);
+    for shape in Shape::ALL {
+        let sample = marks(shape, 4_096, 1);
+        let records = common::foreign_records(&mut generator, &sample);
+        let mut sheet = three_parts(&sample, &records);
+        assert_eq!(check(&sheet), 0);
+        for _ in 0..12 {
+            let at = generator.below(sheet.len() as u32) as usize;
+            let bit = 1 << generator.below(8);
+            sheet[at] ^= bit;
+            check(&sheet);
+            sheet[at] ^= bit;
+        }
+        let last = sheet.len() - 2;
+        sheet.swap(last, last - 2);
+        sheet.swap(last + 1, last - 1);
+        check(&sheet);
+    }
+}

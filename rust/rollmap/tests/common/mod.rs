@@ -1,0 +1,309 @@
+//! What the tests of the jobs share: buffers whose every byte is watched, and
+//! sheets, accepted and damaged. Each test file uses some of it.
+
+#![allow(dead_code)]
+
+use oracle::fraction::Fraction;
+use oracle::mark::{rank_order, touching_value, write_marks, Mark};
+use oracle::process::schedule_in_rank_order;
+use oracle::record::{write_records, Record};
+use oracle::sample::{marks, Generator, Shape};
+use oracle::sheet::join;
+use oracle::tree;
+use rollmap::Refusal;
+
+/// The marks of P1.
+pub const P1: [Mark; 4] = [
+    Mark::plain(0, 0, 10, 9),
+    Mark::plain(100, 0, 10, 5),
+    Mark::plain(200, 0, 10, 5),
+    Mark::plain(0, 3, 5, 1),
+];
+
+/// The number of an answer: 0, or the refusal's.
+pub fn number<T>(answer: &Result<T, Refusal>) -> u32 {
+    match answer {
+        Ok(_) => 0,
+        Err(refusal) => refusal.number(),
+    }
+}
+
+// ---- lent buffers
+
+/// Bytes on both sides of a lent buffer that nobody may write.
+const GUARD: usize = 24;
+
+/// A buffer lent out of the middle of a longer run of bytes, all of which hold a
+/// pattern beforehand. Where it starts depends on the seed, as to alignment too.
+pub struct Lent {
+    bytes: Vec<u8>,
+    before: Vec<u8>,
+    start: usize,
+    length: usize,
+}
+
+impl Lent {
+    /// A buffer of so many bytes.
+    pub fn new(length: usize, seed: u64) -> Self {
+        let start = GUARD + seed as usize % 8;
+        let pattern = |at: usize| (at as u8).wrapping_mul(37) ^ (seed as u8);
+        let bytes: Vec<u8> = (0..start + length + GUARD).map(pattern).collect();
+        Self {
+            before: bytes.clone(),
+            bytes,
+            start,
+            length,
+        }
+    }
+
+    /// A buffer with these bytes in it.
+    pub fn holding(held: &[u8], seed: u64) -> Self {
+        let mut lent = Self::new(held.len(), seed);
+        lent.slice().copy_from_slice(held);
+        lent.before.clone_from(&lent.bytes);
+        lent
+    }
+
+    /// The buffer itself.
+    pub fn slice(&mut self) -> &mut [u8] {
+        &mut self.bytes[self.start..self.start + self.length]
+    }
+
+    /// Asserts that the buffer holds what was written, then what it held before, and
+    /// that the bytes around it are as they were.
+    pub fn assert_written(&self, written: &[u8]) {
+        let end = self.start + written.len();
+        assert!(self.bytes[self.start..end] == *written, "wrong bytes");
+        assert!(self.bytes[..self.start] == self.before[..self.start]);
+        assert!(self.bytes[end..] == self.before[end..], "written past it");
+    }
+
+    /// Asserts that neither the buffer nor what is around it was written.
+    pub fn assert_untouched(&self) {
+        self.assert_written(&[]);
+    }
+
+    /// Asserts that nothing around the buffer was written.
+    pub fn assert_untouched_around(&self) {
+        let end = self.start + self.length;
+        assert!(self.bytes[..self.start] == self.before[..self.start]);
+        assert!(self.bytes[end..] == self.before[end..]);
+    }
+}
+
+// ---- accepted sheets
+
+/// The sheet of one part with these marks.
+pub fn one_part(marks: &[Mark]) -> Vec<u8> {
+    join(&[&write_marks(marks)])
+}
+
+/// The three bodies that these marks and records give.
+pub fn bodies_of(marks: &[Mark], records: &[Record]) -> [Vec<u8>; 3] {
+    [
+        write_marks(marks),
+        write_records(records),
+        tree::write_tree(&tree::build(marks, records)),
+    ]
+}
+
+/// The sheet of the first so many bodies.
+pub fn joined(bodies: &[Vec<u8>]) -> Vec<u8> {
+    let bodies: Vec<&[u8]> = bodies.iter().map(Vec::as_slice).collect();
+    join(&bodies)
+}
+
+/// The sheet of three parts with these marks and records.
+pub fn three_parts(marks: &[Mark], records: &[Record]) -> Vec<u8> {
+    joined(&bodies_of(marks, records))
+}
+
+/// The sheet that scheduling these marks writes.
+pub fn scheduled(marks: &[Mark]) -> Vec<u8> {
+    three_parts(marks, &schedule_in_rank_order(marks))
+}
+
+/// Records that question 8 takes and that are most likely not ours: each mark
+/// stays, or goes for some higher-ranked mark that is removed later.
+pub fn foreign_records(generator: &mut Generator, marks: &[Mark]) -> Vec<Record> {
+    let mut ranked: Vec<usize> = (0..marks.len()).collect();
+    ranked.sort_by(|&a, &b| rank_order(marks, a, b));
+    let mut records = vec![Record::NEVER; marks.len()];
+    for place in 1..ranked.len() {
+        let other = ranked[generator.below(place as u32) as usize];
+        let value = touching_value(&marks[other], &marks[ranked[place]]);
+        if records[other].removal().later_than(value) && generator.below(8) > 0 {
+            records[ranked[place]] = Record::removed(other, value);
+        }
+    }
+    records
+}
+
+/// Some records for the marks that question 8 takes: ours, foreign ones, or none
+/// but 'never'.
+pub fn some_records(generator: &mut Generator, marks: &[Mark]) -> Vec<Record> {
+    match generator.below(5) {
+        0 => vec![Record::NEVER; marks.len()],
+        1 | 2 => foreign_records(generator, marks),
+        _ => schedule_in_rank_order(marks),
+    }
+}
+
+/// A few marks of some shape: most often under 8, at most 40.
+pub fn some_marks(generator: &mut Generator) -> Vec<Mark> {
+    let shape = generator.choose(&Shape::ALL);
+    let n = match generator.below(8) {
+        0 => generator.below(41),
+        _ => generator.below(8),
+    };
+    marks(shape, n as usize, generator.draw())
+}
+
+// ---- damaged sheets
+
+/// A record that is not the mark's own: one that nearly fits, or nonsense.
+pub fn another_record(generator: &mut Generator, marks: &[Mark], own: Record) -> Record {
+    let mut changed = own;
+    let other = generator.below(marks.len() as u32 + 1) as usize;
+    let mark = generator.below(marks.len() as u32) as usize;
+    match generator.below(8) {
+        0 => changed = Record::NEVER,
+        1 if other < marks.len() => {
+            changed = Record::removed(other, touching_value(&marks[other], &marks[mark]));
+        }
+        2 => changed.value = reduced(own.value),
+        3 => changed.value = scaled(generator, own.value),
+        4 => changed.eliminator = other as u16,
+        5 => changed.value.numerator = odd_number(generator, own.value.numerator),
+        6 => {
+            let odd = odd_number(generator, u64::from(own.value.denominator));
+            changed.value.denominator = odd as u32;
+        }
+        _ => changed.eliminator = generator.choose(&[65_535, 65_534, 256, 4_096]),
+    }
+    changed
+}
+
+/// The fraction in lowest terms.
+fn reduced(value: Fraction) -> Fraction {
+    let (mut a, mut b) = (value.numerator, u64::from(value.denominator));
+    while b > 0 {
+        (a, b) = (b, a % b);
+    }
+    let divisor = a.max(1);
+    Fraction::new(
+        value.numerator / divisor,
+        (u64::from(value.denominator) / divisor) as u32,
+    )
+}
+
+/// The fraction with both numbers made larger by one factor.
+fn scaled(generator: &mut Generator, value: Fraction) -> Fraction {
+    let factor = generator.choose(&[2, 3, 4, 16]);
+    Fraction::new(
+        value.numerator.wrapping_mul(factor),
+        value.denominator.wrapping_mul(factor as u32),
+    )
+}
+
+/// A number near another one, or at an end.
+pub fn odd_number(generator: &mut Generator, own: u64) -> u64 {
+    match generator.below(8) {
+        0 => own.wrapping_add(1),
+        1 => own.wrapping_sub(1),
+        2 => own ^ 1 << generator.below(64),
+        3 => own.wrapping_add(1 << 32),
+        4 => u64::MAX,
+        5 => 0,
+        6 => u64::from(u32::MAX),
+        _ => generator.draw() >> generator.below(64),
+    }
+}
+
+/// Up to three bodies of a sheet, some of them damaged in some way. Further bodies
+/// than `parts` may be there.
+pub struct Bodies {
+    pub parts: usize,
+    pub bodies: [Vec<u8>; 3],
+}
+
+impl Bodies {
+    /// Bodies with none, one or two faults.
+    pub fn draw(generator: &mut Generator) -> Self {
+        let marks = some_marks(generator);
+        let mut records = some_records(generator, &marks);
+        if !marks.is_empty() && generator.below(3) == 0 {
+            let at = generator.below(marks.len() as u32) as usize;
+            records[at] = another_record(generator, &marks, records[at]);
+        }
+        let mut bodies = bodies_of(&marks, &records);
+        let parts = generator.choose(&[1, 2, 3, 3, 3]);
+        for _ in 0..generator.choose(&[0, 0, 1, 1, 2]) {
+            damage_body(generator, &mut bodies);
+        }
+        Self { parts, bodies }
+    }
+
+    /// The sheet of the parts.
+    pub fn sheet(&self) -> Vec<u8> {
+        joined(&self.bodies[..self.parts])
+    }
+}
+
+/// Puts one fault into one of the bodies.
+fn damage_body(generator: &mut Generator, bodies: &mut [Vec<u8>; 3]) {
+    let body = generator.choose(&[0, 1, 2, 2]);
+    let length = bodies[body].len();
+    match generator.below(7) {
+        0 => {
+            let longer = length + generator.choose(&[1, 2, 11, 14]);
+            bodies[body].resize(longer, 0);
+        }
+        1 => bodies[body].truncate(length.saturating_sub(generator.choose(&[1, 2, 11, 14]))),
+        2 | 3 if length > 0 => {
+            let at = generator.below(length as u32) as usize;
+            bodies[body][at] = generator.choose(&[0, 1, 2, 3, 64, 199, 200, 255]);
+        }
+        4 if bodies[0].len() >= 11 => {
+            let mark = generator.below(bodies[0].len() as u32 / 11) as usize;
+            let (field, value) = generator.choose(&[(5, 0x40), (5, 0xff), (8, 200), (8, 255)]);
+            bodies[0][11 * mark + field] = value;
+        }
+        _ => damage_tree(generator, &mut bodies[2]),
+    }
+}
+
+/// Exchanges two numbers of a tree, or writes one over another.
+fn damage_tree(generator: &mut Generator, body: &mut [u8]) {
+    let mut tree = tree::read_tree(body);
+    if tree.is_empty() {
+        return;
+    }
+    let n = tree.len() as u32;
+    let (a, b) = (generator.below(n) as usize, generator.below(n) as usize);
+    match generator.below(4) {
+        0 => tree[a] = tree[b],
+        1 => tree[a] = generator.choose(&[n as u16, 65_535, tree[a] ^ 256]),
+        _ => tree.swap(a, b),
+    }
+    body[..2 * tree.len()].copy_from_slice(&tree::write_tree(&tree));
+}
+
+/// A sheet with none, one or a few faults anywhere.
+pub fn some_sheet(generator: &mut Generator) -> Vec<u8> {
+    let mut sheet = Bodies::draw(generator).sheet();
+    match generator.below(12) {
+        0 => sheet.truncate(generator.below(sheet.len() as u32) as usize),
+        1 => sheet.extend(vec![0; 1 + generator.below(20) as usize]),
+        2 => {
+            let at = generator.below(32.min(sheet.len() as u32)) as usize;
+            sheet[at] = generator.choose(&[0, 1, 2, 3, 4, 12, 22, 32, 128, 255]);
+        }
+        3 => {
+            let at = generator.below(sheet.len() as u32) as usize;
+            sheet[at] ^= 1 << generator.below(8);
+        }
+        _ => {}
+    }
+    sheet
+}

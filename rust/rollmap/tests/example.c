@@ -1,0 +1,105 @@
+/* Puts a sheet together, schedules it, looks at it, and prints what it finds. */
+#include <stdio.h>
+#include <string.h>
+
+#include "rollmap.h"
+
+#define N 4
+
+/* x, y, radius, priority; kind 0, tag 0. */
+static const uint8_t marks[11 * N] = {
+    0,   0, 0, 0, 10, 0, 9, 0, 0, 0, 0, /* (0, 0), 10, 9 */
+    100, 0, 0, 0, 10, 0, 5, 0, 0, 0, 0, /* (100, 0), 10, 5 */
+    200, 0, 0, 0, 10, 0, 5, 0, 0, 0, 0, /* (200, 0), 10, 5 */
+    0,   0, 3, 0, 5,  0, 1, 0, 0, 0, 0, /* (0, 3), 5, 1 */
+};
+
+static uint64_t number_at(const uint8_t *bytes, int width)
+{
+    uint64_t number = 0;
+    while (width-- > 0)
+        number = number << 8 | bytes[width];
+    return number;
+}
+
+static void print_schedule(const uint8_t *sheet, size_t length)
+{
+    struct rollmap_extent schedule = rollmap_part(sheet, length, 2);
+    struct rollmap_extent index = rollmap_part(sheet, length, 3);
+    struct rollmap_extent none = rollmap_part(sheet, length, 4);
+    unsigned m;
+
+    printf("part 2 at %u, %u bytes\n", schedule.offset, schedule.length);
+    for (m = 0; m < N; m++) {
+        const uint8_t *record = sheet + schedule.offset + 14 * m;
+        printf("%u: %u %lu %lu\n", m, (unsigned)number_at(record, 2),
+               (unsigned long)number_at(record + 2, 8),
+               (unsigned long)number_at(record + 10, 4));
+    }
+    printf("part 3 at %u, %u bytes:", index.offset, index.length);
+    for (m = 0; m < N; m++)
+        printf(" %u", (unsigned)number_at(sheet + index.offset + 2 * m, 2));
+    printf("\npart 4 at %u, %u bytes\n", none.offset, none.length);
+}
+
+static void print_view(const char *name, struct rollmap_answer answer, const uint8_t *map)
+{
+    struct rollmap_answer step;
+
+    printf("%s: %u, count %u, map %02x %02x, marks", name, answer.number, answer.value,
+           map[0], map[1]);
+    step = rollmap_walk(map, 1, N, 0);
+    while (step.value != ROLLMAP_NO_MARK) {
+        printf(" %u", step.value);
+        step = rollmap_walk(map, 1, N, step.value + 1);
+    }
+    printf("\n");
+}
+
+static void print_views(const uint8_t *sheet, size_t length)
+{
+    uint8_t map[2] = {0xee, 0xee};
+
+    print_view("wheel 1", rollmap_view_wheel(sheet, length, 50, 250, -10, 10, 1.0f, map, 2), map);
+    print_view("wheel 5", rollmap_view_wheel(sheet, length, 50, 250, -10, 10, 5.0f, map, 2), map);
+    print_view("stop 0", rollmap_view_stop(sheet, length, -32768, 32767, -32768, 32767, 0, map, 2), map);
+    print_view("stop 17", rollmap_view_stop(sheet, length, -32768, 32767, -32768, 32767, 17, map, 2), map);
+}
+
+static void print_refusals(const uint8_t *sheet, size_t length)
+{
+    struct rollmap_answer answer;
+    struct rollmap_extent extent;
+    uint8_t map[1] = {0xee};
+
+    answer = rollmap_check(sheet, length - 1);
+    printf("cut short: %u %u\n", answer.number, answer.value);
+    extent = rollmap_part(sheet, length - 1, 1);
+    printf("its part 1 at %u, %u bytes\n", extent.offset, extent.length);
+    answer = rollmap_view_stop(sheet, length, 1, 0, 0, 0, 0, map, 1);
+    printf("crossed edges: %u %u, map %02x\n", answer.number, answer.value, map[0]);
+    answer = rollmap_walk(map, 1, 9, 0);
+    printf("short map: %u %u\n", answer.number, answer.value);
+}
+
+int main(void)
+{
+    uint8_t sheet[12 + 11 * N];
+    uint8_t work[ROLLMAP_WORK_BYTES(N)];
+    uint8_t out[ROLLMAP_SCHEDULED_BYTES(N) + 1];
+    struct rollmap_answer answer;
+
+    memset(out, 0xee, sizeof out);
+    answer = rollmap_assemble(1, marks, sizeof marks, marks, 0, marks, 0, sheet, sizeof sheet);
+    printf("assemble: %u %u\n", answer.number, answer.value);
+    answer = rollmap_schedule(sheet, sizeof sheet, work, sizeof work - 1, out, sizeof out);
+    printf("short work: %u %u, then %02x\n", answer.number, answer.value, out[0]);
+    answer = rollmap_schedule(sheet, sizeof sheet, work, sizeof work, out, sizeof out);
+    printf("schedule: %u %u, then %02x\n", answer.number, answer.value, out[answer.value]);
+    answer = rollmap_check(out, sizeof out - 1);
+    printf("check: %u %u\n", answer.number, answer.value);
+    print_schedule(out, sizeof out - 1);
+    print_views(out, sizeof out - 1);
+    print_refusals(out, sizeof out - 1);
+    return 0;
+}

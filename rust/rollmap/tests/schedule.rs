@@ -1,0 +1,282 @@
+//! Scheduling, compared with the oracle byte for byte.
+
+mod common;
+
+use std::collections::BTreeMap;
+
+use common::{
+    bodies_of, foreign_records, joined, number, one_part, scheduled, some_sheet, Lent, P1,
+};
+use oracle::fraction::Fraction;
+use oracle::mark::Mark;
+use oracle::process::{schedule_by_process, schedule_by_sorted_pairs};
+use oracle::record::{read_records, Record};
+use oracle::sample::{marks, Generator, Shape};
+use oracle::tree::read_tree;
+use rollmap::{schedule_to_vec, scheduled_bytes, work_bytes};
+
+/// Schedules a sheet in buffers of these lengths, and sees that nothing but the
+/// scheduled sheet is written, or nothing at all. Answers the number.
+fn schedule_in(sheet: &[u8], work: usize, out: usize, expected: Result<&[u8], u32>) -> u32 {
+    let seed = (sheet.len() + work + out) as u64;
+    let (mut work, mut out) = (Lent::new(work, seed), Lent::new(out, seed >> 1));
+    let mut lent_sheet = Lent::holding(sheet, seed >> 2);
+    let answer = rollmap::schedule(lent_sheet.slice(), work.slice(), out.slice());
+    lent_sheet.assert_untouched();
+    match expected {
+        Ok(scheduled) => {
+            assert_eq!(answer, Ok(scheduled.len()));
+            out.assert_written(scheduled);
+            work.assert_untouched_around();
+        }
+        Err(expected) => {
+            assert_eq!(number(&answer), expected);
+            out.assert_untouched();
+            work.assert_untouched();
+        }
+    }
+    number(&answer)
+}
+
+/// Schedules a sheet in buffers that are just long enough, and sees that it becomes
+/// the expected one.
+fn becomes(sheet: &[u8], expected: &[u8]) {
+    let n = (expected.len() - 32) / 27;
+    schedule_in(sheet, work_bytes(n), scheduled_bytes(n), Ok(expected));
+}
+
+/// The records that scheduling these marks writes.
+fn records(marks: &[Mark]) -> Vec<Record> {
+    let sheet = schedule_to_vec(&one_part(marks)).unwrap();
+    read_records(rollmap::part(&sheet, 2).unwrap())
+}
+
+fn record(eliminator: usize, numerator: u64, denominator: u32) -> Record {
+    Record::removed(eliminator, Fraction::new(numerator, denominator))
+}
+
+#[test]
+fn proved_examples() {
+    let p1 = [
+        Record::NEVER,
+        record(0, 10_000, 400),
+        record(0, 40_000, 400),
+        record(0, 9, 225),
+    ];
+    assert_eq!(records(&P1), p1);
+    let sheet = schedule_to_vec(&one_part(&P1)).unwrap();
+    assert_eq!(read_tree(rollmap::part(&sheet, 3).unwrap()), [0, 1, 3, 2]);
+    let p5 = [Mark::plain(7, 7, 1, 5), Mark::plain(7, 7, 1, 5)];
+    assert_eq!(records(&p5), [Record::NEVER, record(0, 0, 4)]);
+    let p6 = [
+        Mark::plain(-32_768, -32_768, 1, 0),
+        Mark::plain(32_767, 32_767, 1, 0),
+    ];
+    assert_eq!(records(&p6), [Record::NEVER, record(0, 8_589_672_450, 4)]);
+    let p11 = [
+        Mark::plain(60, 0, 2, 5),
+        Mark::plain(-100, 0, 10, 9),
+        Mark::plain(0, 0, 10, 1),
+    ];
+    assert_eq!(records(&p11)[2], record(1, 10_000, 400));
+    assert_eq!(schedule_to_vec(&one_part(&[])).unwrap(), scheduled(&[]));
+}
+
+#[test]
+fn many_small_sheets() {
+    for shape in Shape::ALL {
+        for seed in 0..2_000 {
+            let sample = marks(shape, seed as usize % 24, seed);
+            let sheet = scheduled(&sample);
+            if seed < 200 {
+                let records = schedule_by_process(&sample);
+                assert_eq!(sheet, joined(&bodies_of(&sample, &records)));
+            }
+            becomes(&one_part(&sample), &sheet);
+        }
+    }
+}
+
+#[test]
+fn every_sheet_of_three_marks_from_a_small_choice() {
+    let mut choice = Vec::new();
+    for place in 0..4 {
+        for (radius, priority) in [(1, 0), (1, 1), (2, 0), (2, 1)] {
+            choice.push(Mark::plain(place % 2, place / 2, radius, priority));
+        }
+    }
+    for &a in &choice {
+        for &b in &choice {
+            for &c in &choice {
+                becomes(&one_part(&[a, b, c]), &scheduled(&[a, b, c]));
+            }
+        }
+    }
+}
+
+/// Marks on a few points with few radii and priorities, so that most pairs have the
+/// touching value of many others.
+fn tied_marks(generator: &mut Generator, n: usize) -> Vec<Mark> {
+    let (places, radii) = (1 + generator.below(6), 1 + generator.below(3));
+    let (step, priorities) = (generator.choose(&[1, 7, 5_000]), 1 + generator.below(4));
+    let mut place = || step * (generator.below(places) as i16 - 3);
+    let places: Vec<(i16, i16)> = (0..n).map(|_| (place(), place())).collect();
+    let mut mark = |(x, y)| {
+        let radius = 1 << generator.below(radii);
+        Mark::plain(x, y, radius, generator.below(priorities) as u16)
+    };
+    places.into_iter().map(|place| mark(place)).collect()
+}
+
+#[test]
+fn many_sheets_full_of_ties() {
+    let mut generator = Generator::new(21);
+    for _ in 0..6_000 {
+        let n = 2 + generator.below(30) as usize;
+        let sample = tied_marks(&mut generator, n);
+        becomes(&one_part(&sample), &scheduled(&sample));
+    }
+}
+
+#[test]
+fn sheets_of_a_few_hundred_marks() {
+    let mut generator = Generator::new(22);
+    for shape in Shape::ALL {
+        for seed in 0..30 {
+            let sample = marks(shape, 100 + generator.below(300) as usize, seed);
+            becomes(&one_part(&sample), &scheduled(&sample));
+        }
+        let sample = marks(shape, 200, 1);
+        let pairs = schedule_by_sorted_pairs(&sample);
+        becomes(&one_part(&sample), &joined(&bodies_of(&sample, &pairs)));
+    }
+    for _ in 0..60 {
+        let sample = tied_marks(&mut generator, 300);
+        becomes(&one_part(&sample), &scheduled(&sample));
+    }
+}
+
+#[test]
+fn every_number_of_marks_up_to_a_hundred() {
+    for n in 0..100 {
+        for shape in [Shape::Grid, Shape::Uniform, Shape::Extreme] {
+            let sample = marks(shape, n, 5);
+            becomes(&one_part(&sample), &scheduled(&sample));
+        }
+    }
+}
+
+#[test]
+fn the_largest_sheets_of_every_shape() {
+    for shape in Shape::ALL {
+        let sample = marks(shape, 4_096, 12);
+        becomes(&one_part(&sample), &scheduled(&sample));
+    }
+}
+
+#[test]
+fn a_largest_sheet_by_all_pairs() {
+    let sample = marks(Shape::Grid, 4_096, 13);
+    let records = schedule_by_sorted_pairs(&sample);
+    becomes(&one_part(&sample), &joined(&bodies_of(&sample, &records)));
+}
+
+#[test]
+fn what_the_work_buffer_held_makes_no_difference() {
+    let mut generator = Generator::new(23);
+    for n in [0, 1, 2, 7, 64, 250, 1_000] {
+        for shape in Shape::ALL {
+            let sample = marks(shape, n, 31);
+            let (sheet, expected) = (one_part(&sample), scheduled(&sample));
+            let mut work = vec![0; work_bytes(n)];
+            let mut out = vec![0; expected.len()];
+            for turn in 0..6 {
+                match turn {
+                    0 => {}
+                    1 => work.fill(0xff),
+                    2 => work.fill_with(|| generator.draw() as u8),
+                    3 => work.fill(0x01),
+                    4 => work.reverse(),
+                    _ => {} // what the turn before left
+                }
+                out.fill(turn);
+                let written = rollmap::schedule(&sheet, &mut work, &mut out);
+                assert_eq!(written, Ok(expected.len()));
+                assert!(out == expected, "{shape:?} {n} {turn}");
+            }
+        }
+    }
+}
+
+#[test]
+fn parts_2_and_3_are_replaced() {
+    let mut generator = Generator::new(24);
+    for shape in Shape::ALL {
+        for n in [0, 1, 2, 5, 30, 120] {
+            let sample = marks(shape, n, 3);
+            let ours = scheduled(&sample);
+            becomes(&ours, &ours);
+            let foreign = bodies_of(&sample, &foreign_records(&mut generator, &sample));
+            becomes(&joined(&foreign[..2]), &ours);
+            becomes(&joined(&foreign), &ours);
+        }
+    }
+}
+
+#[test]
+fn lengths_of_both_buffers() {
+    for n in [0, 1, 4] {
+        let (sheet, expected) = (one_part(&P1[..n]), scheduled(&P1[..n]));
+        let (work, out) = (work_bytes(n), scheduled_bytes(n));
+        assert_eq!((work, out), (32 * n + 1_024, 32 + 27 * n));
+        for (longer_work, longer_out) in [(0, 0), (1, 0), (0, 1), (100, 3), (7, 500)] {
+            let answer = Ok(expected.as_slice());
+            schedule_in(&sheet, work + longer_work, out + longer_out, answer);
+        }
+        for short_work in [0, 1, 1_023, 1_023 + n, 32 * n + 1_023] {
+            schedule_in(&sheet, short_work, out + 50, Err(13));
+            schedule_in(&sheet, short_work, 0, Err(13));
+        }
+        for short_out in 0..out {
+            schedule_in(&sheet, work + 50, short_out, Err(13));
+        }
+    }
+}
+
+#[test]
+fn refused_sheets_write_nothing() {
+    let mut generator = Generator::new(25);
+    let mut numbers = BTreeMap::new();
+    for _ in 0..20_000 {
+        let sheet = some_sheet(&mut generator);
+        let refused = match oracle::sheet::check(&sheet) {
+            0 => 13,
+            number => number,
+        };
+        let (work, out) = generator.choose(&[(0, 4_000), (4_000, 0), (0, 0), (1_023, 2_000)]);
+        schedule_in(&sheet, work, out, Err(refused));
+        let number = match oracle::sheet::open(&sheet) {
+            Ok(opened) => {
+                let expected = scheduled(&opened.marks);
+                schedule_in(&sheet, 2_400, 1_200, Ok(&expected))
+            }
+            Err(number) => schedule_in(&sheet, 2_400, 1_200, Err(number)),
+        };
+        *numbers.entry(number).or_insert(0) += 1;
+    }
+    assert!((0..=9).all(|number| numbers[&number] > 100), "{numbers:?}");
+}
+
+#[test]
+fn the_buffers_of_its_own_are_long_enough() {
+    for shape in Shape::ALL {
+        for n in [0, 1, 2, 100] {
+            let sample = marks(shape, n, 6);
+            let sheet = schedule_to_vec(&one_part(&sample));
+            assert_eq!(sheet, Ok(scheduled(&sample)));
+        }
+    }
+    let refused = schedule_to_vec(&one_part(&[Mark::plain(0, 0, 16_384, 0)]));
+    assert_eq!(number(&refused), 6);
+    assert_eq!(number(&schedule_to_vec(&[])), 1);
+}

@@ -1,0 +1,465 @@
+//! Views, compared with the oracle, which looks at every mark.
+
+mod common;
+
+use std::collections::BTreeMap;
+
+use common::{
+    foreign_records, number, one_part, scheduled, some_marks, some_records, some_sheet,
+    three_parts, Lent, P1,
+};
+use oracle::fraction::Removal;
+use oracle::mark::Mark;
+use oracle::process::schedule_in_rank_order;
+use oracle::record::{removals, Record};
+use oracle::report::removal_zoom_in_64ths;
+use oracle::sample::{marks, Generator, Shape};
+use oracle::view::{map_bytes, shown, zoom_in_64ths, Edges};
+use rollmap::{View, Zoom};
+
+/// The whole range of places, at stop 0.
+const WHOLE: View = View {
+    x0: i16::MIN,
+    x1: i16::MAX,
+    y0: i16::MIN,
+    y1: i16::MAX,
+    zoom: Zoom::Stop(0),
+};
+
+/// The edges of a view as the oracle has them.
+fn edges(view: View) -> Edges {
+    let View { x0, x1, y0, y1, .. } = view;
+    Edges { x0, x1, y0, y1 }
+}
+
+/// The zoom of a view as the oracle has it.
+fn zoom(view: View) -> oracle::view::Zoom {
+    match view.zoom {
+        Zoom::Stop(stop) => oracle::view::Zoom::Stop(stop),
+        Zoom::Wheel(wheel) => oracle::view::Zoom::Wheel(wheel),
+    }
+}
+
+/// The zoom that is k 64ths, on the wheel.
+fn wheel(k: u32) -> Zoom {
+    Zoom::Wheel(k as f32 / 64.0)
+}
+
+/// Answers a view in a map of so many bytes, and sees that the number, the count and
+/// every byte are as expected. Answers the number.
+fn assert_view(
+    sheet: &[u8],
+    view: View,
+    map_length: usize,
+    expected: &Result<(Vec<u8>, u32), u32>,
+) -> u32 {
+    let mut map = Lent::new(map_length, (sheet.len() + map_length) as u64);
+    let answer = rollmap::view(sheet, view, map.slice());
+    match expected {
+        Ok((bytes, count)) => {
+            assert_eq!(answer, Ok(*count), "{view:?} {sheet:02x?}");
+            map.assert_written(bytes);
+        }
+        Err(expected) => {
+            assert_eq!(number(&answer), *expected, "{view:?} {sheet:02x?}");
+            map.assert_untouched();
+        }
+    }
+    number(&answer)
+}
+
+/// Answers a view as the oracle does. Answers the number.
+fn view(sheet: &[u8], view: View, map_length: usize) -> u32 {
+    let expected = oracle::view::view(sheet, edges(view), zoom(view), map_length);
+    assert_view(sheet, view, map_length, &expected)
+}
+
+/// A sheet of three parts, and what it says, so that larger ones need not be opened
+/// for each view.
+struct Scheduled {
+    sheet: Vec<u8>,
+    marks: Vec<Mark>,
+    removals: Vec<Removal>,
+}
+
+impl Scheduled {
+    fn new(marks: Vec<Mark>, records: &[Record]) -> Self {
+        Self {
+            sheet: three_parts(&marks, records),
+            removals: removals(records),
+            marks,
+        }
+    }
+
+    /// The map and the count of a view that is taken.
+    fn expected(&self, view: View) -> (Vec<u8>, u32) {
+        let k = zoom_in_64ths(zoom(view)).unwrap();
+        let mut map = vec![0; map_bytes(self.marks.len())];
+        let mut count = 0;
+        for (number, (mark, &removal)) in self.marks.iter().zip(&self.removals).enumerate() {
+            if shown(mark, removal, edges(view), k) {
+                map[number / 8] |= 1 << (number % 8);
+                count += 1;
+            }
+        }
+        (map, count)
+    }
+
+    /// Answers a view that is taken, as looking at every mark does. Answers the count.
+    fn view(&self, view: View) -> u32 {
+        let expected = self.expected(view);
+        let count = expected.1;
+        assert_view(&self.sheet, view, expected.0.len(), &Ok(expected));
+        count
+    }
+}
+
+/// A rectangle between the places of two marks, moved by a unit or not.
+fn some_rectangle(generator: &mut Generator, marks: &[Mark]) -> View {
+    if marks.is_empty() || generator.below(12) == 0 {
+        return WHOLE;
+    }
+    let (a, b) = (generator.choose(marks), generator.choose(marks));
+    let mut nudged = |edge: i16| edge.saturating_add(generator.choose(&[0, 0, 0, 1, -1]));
+    let [x0, x1, y0, y1] =
+        [a.x.min(b.x), a.x.max(b.x), a.y.min(b.y), a.y.max(b.y)].map(&mut nudged);
+    View {
+        x0: x0.min(x1),
+        x1: x0.max(x1),
+        y0: y0.min(y1),
+        y1: y0.max(y1),
+        zoom: Zoom::Stop(0),
+    }
+}
+
+/// A zoom: a stop, any wheel value that is taken, or one about which a mark goes.
+fn some_zoom(generator: &mut Generator, removals: &[Removal]) -> Zoom {
+    let choice = generator.below(4);
+    if let (2.., false) = (choice, removals.is_empty()) {
+        if let Removal::At(value) = generator.choose(removals) {
+            let k = removal_zoom_in_64ths(value) + u64::from(generator.below(3));
+            return wheel(k.saturating_sub(1).clamp(1, 65_536) as u32);
+        }
+    }
+    match choice {
+        0 => Zoom::Stop(generator.below(17) as u8),
+        _ => wheel(1 + (generator.below(65_536) >> generator.below(16))),
+    }
+}
+
+#[test]
+fn proved_examples() {
+    let sheet = scheduled(&P1);
+    let at = |zoom| View {
+        x0: 50,
+        x1: 250,
+        y0: -10,
+        y1: 10,
+        zoom,
+    };
+    let p3 = Ok((vec![0x06], 2));
+    assert_view(&sheet, at(Zoom::Wheel(1.0)), 1, &p3);
+    let p4 = Ok((vec![0x04], 1));
+    assert_view(&sheet, at(Zoom::Wheel(5.0)), 1, &p4);
+    for taken in [1.0 / 64.0, 1_024.0] {
+        assert_eq!(view(&sheet, at(Zoom::Wheel(taken)), 1), 0);
+    }
+    for refused in [1.0 / 128.0, 1_024.0 + 1.0 / 64.0] {
+        assert_view(&sheet, at(Zoom::Wheel(refused)), 1, &Err(12));
+    }
+    assert_eq!(view(&sheet, at(Zoom::Stop(16)), 1), 0);
+    assert_view(&sheet, at(Zoom::Stop(17)), 1, &Err(12));
+}
+
+#[test]
+fn every_stop() {
+    for shape in Shape::ALL {
+        for n in [0, 1, 9, 40] {
+            let sheet = scheduled(&marks(shape, n, 2));
+            for stop in 0..=255 {
+                let zoom = Zoom::Stop(stop);
+                let number = view(&sheet, View { zoom, ..WHOLE }, map_bytes(n));
+                assert_eq!(number, if stop <= 16 { 0 } else { 12 });
+            }
+        }
+    }
+}
+
+#[test]
+fn a_stop_and_its_wheel_value_give_the_same() {
+    for shape in Shape::ALL {
+        let sheet = scheduled(&marks(shape, 50, 3));
+        for stop in 0..=16 {
+            let (mut by_stop, mut by_wheel) = ([0xaa; 7], [0x55; 7]);
+            let at = |zoom| View { zoom, ..WHOLE };
+            let wheel = Zoom::Wheel(2_f32.powi(i32::from(stop) - 6));
+            let count = rollmap::view(&sheet, at(Zoom::Stop(stop)), &mut by_stop);
+            assert_eq!(rollmap::view(&sheet, at(wheel), &mut by_wheel), count);
+            assert_eq!(by_stop, by_wheel);
+        }
+    }
+}
+
+#[test]
+fn every_wheel_value_that_is_taken_and_its_neighbours() {
+    let sheet = scheduled(&marks(Shape::Line, 6, 4));
+    let number = |wheel: f32| {
+        let zoom = Zoom::Wheel(wheel);
+        view(&sheet, View { zoom, ..WHOLE }, 1)
+    };
+    for k in 1..=65_536 {
+        let wheel = k as f32 / 64.0;
+        assert_eq!(number(wheel), 0);
+        assert_eq!(number(f32::from_bits(wheel.to_bits() + 1)), 12);
+        assert_eq!(number(f32::from_bits(wheel.to_bits() - 1)), 12);
+    }
+}
+
+#[test]
+fn wheel_values_of_every_exponent() {
+    let sheet = scheduled(&P1);
+    let mut generator = Generator::new(41);
+    let mut taken = 0;
+    for top in 0..512_u32 {
+        let single = (0..23).map(|bit| 1 << bit);
+        let ones = (0..=23).map(|bits| 0x007f_ffff_u32 & !(0x007f_ffff >> bits));
+        let any = (0..60).map(|_| generator.below(1 << 23));
+        let mantissas = [0, 1, 2, 0x3f_ffff, 0x40_0001, 0x7f_fffe, 0x7f_ffff];
+        for mantissa in mantissas.into_iter().chain(single).chain(ones).chain(any) {
+            let zoom = Zoom::Wheel(f32::from_bits(top << 23 | mantissa));
+            taken += usize::from(view(&sheet, View { zoom, ..WHOLE }, 1) == 0);
+        }
+    }
+    assert!(taken > 200, "only {taken} are taken");
+}
+
+#[test]
+fn wheel_values_of_any_bits() {
+    let sheet = scheduled(&P1);
+    let mut generator = Generator::new(42);
+    for _ in 0..60_000 {
+        let zoom = Zoom::Wheel(f32::from_bits(generator.draw() as u32));
+        view(&sheet, View { zoom, ..WHOLE }, 1);
+    }
+    for refused in [
+        f32::NAN,
+        f32::INFINITY,
+        -f32::INFINITY,
+        0.0,
+        -0.0,
+        -1.0,
+        f32::MAX,
+    ] {
+        let zoom = Zoom::Wheel(refused);
+        assert_view(&sheet, View { zoom, ..WHOLE }, 1, &Err(12));
+    }
+}
+
+#[test]
+fn a_mark_is_gone_at_its_own_removal_zoom() {
+    let mut exact = 0;
+    for shape in Shape::ALL {
+        let sample = marks(shape, 60, 5);
+        let records = schedule_in_rank_order(&sample);
+        let scheduled = Scheduled::new(sample, &records);
+        for record in &records {
+            let Removal::At(value) = record.removal() else {
+                continue;
+            };
+            let k = removal_zoom_in_64ths(value);
+            let square = u128::from(k) * u128::from(k) * u128::from(value.denominator);
+            exact += usize::from(square == 4_096 * u128::from(value.numerator));
+            for k in [k.saturating_sub(1), k, k + 1] {
+                let zoom = wheel(k.clamp(1, 65_536) as u32);
+                scheduled.view(View { zoom, ..WHOLE });
+            }
+        }
+    }
+    assert!(exact > 50, "only {exact} marks go at a zoom in 64ths");
+}
+
+#[test]
+fn every_rectangle_about_the_places_of_a_few_marks() {
+    let sample = [P1[0], P1[1], Mark::plain(i16::MAX, i16::MIN, 7, 3), P1[3]];
+    let sheet = scheduled(&sample);
+    let near = |places: [i16; 4]| -> Vec<i16> {
+        let each = places.into_iter();
+        each.flat_map(|at| [at.saturating_sub(1), at, at.saturating_add(1)])
+            .collect()
+    };
+    let (xs, ys) = (
+        near([0, 100, i16::MAX, i16::MIN]),
+        near([0, 3, i16::MIN, 50]),
+    );
+    let mut numbers = BTreeMap::new();
+    for (&x0, &x1) in xs.iter().flat_map(|x0| xs.iter().map(move |x1| (x0, x1))) {
+        for (&y0, &y1) in ys.iter().flat_map(|y0| ys.iter().map(move |y1| (y0, y1))) {
+            let zoom = Zoom::Stop(5);
+            let number = view(
+                &sheet,
+                View {
+                    x0,
+                    x1,
+                    y0,
+                    y1,
+                    zoom,
+                },
+                1,
+            );
+            assert_eq!(number, if x0 <= x1 && y0 <= y1 { 0 } else { 11 });
+            *numbers.entry(number).or_insert(0) += 1;
+        }
+    }
+    assert!(numbers[&0] > 5_000 && numbers[&11] > 5_000, "{numbers:?}");
+}
+
+#[test]
+fn every_length_of_the_map() {
+    for n in [0, 1, 7, 8, 9, 15, 16, 17, 63, 64, 65, 100] {
+        let sheet = scheduled(&marks(Shape::Uniform, n, 6));
+        let needed = map_bytes(n);
+        for length in 0..needed + 20 {
+            let number = view(&sheet, WHOLE, length);
+            assert_eq!(number, if length < needed { 13 } else { 0 });
+        }
+    }
+}
+
+#[test]
+fn questions_9_to_13_are_put_in_turn() {
+    let sample = marks(Shape::Grid, 12, 7);
+    let whole = scheduled(&sample);
+    let mut wrong_tree = whole.clone();
+    wrong_tree[32 + 25 * 12] ^= 1;
+    let bare = one_part(&sample);
+    for (sheet, first) in [(&whole, 0), (&bare, 10), (&wrong_tree, 9)] {
+        for faults in 0..16 {
+            let fault = |bit: u32| faults >> bit & 1 == 1;
+            let asked = View {
+                x1: if fault(0) { i16::MIN } else { i16::MAX },
+                x0: -5,
+                y1: if fault(1) { -6 } else { i16::MAX },
+                y0: -5,
+                zoom: Zoom::Stop(if fault(2) { 17 } else { 3 }),
+            };
+            let questions = [
+                (first, first > 0),
+                (11, fault(0) || fault(1)),
+                (12, fault(2)),
+                (13, fault(3)),
+            ];
+            let refused = questions.into_iter().find(|(_, no)| *no);
+            let expected = refused.map_or(0, |(number, _)| number);
+            let length = if fault(3) { 1 } else { 2 };
+            assert_eq!(view(sheet, asked, length), expected);
+        }
+    }
+}
+
+#[test]
+fn sheets_without_marks() {
+    for (parts, expected) in [(1, 10), (2, 10), (3, 0)] {
+        let bodies = vec![Vec::new(); parts];
+        let sheet = common::joined(&bodies);
+        assert_eq!(view(&sheet, WHOLE, 0), expected);
+        assert_eq!(view(&sheet, WHOLE, 5), expected);
+    }
+}
+
+#[test]
+fn many_small_sheets() {
+    let mut generator = Generator::new(43);
+    let mut partly = 0;
+    for _ in 0..30_000 {
+        let sample = some_marks(&mut generator);
+        let records = some_records(&mut generator, &sample);
+        let scheduled = Scheduled::new(sample, &records);
+        for _ in 0..4 {
+            let zoom = some_zoom(&mut generator, &scheduled.removals);
+            let rectangle = some_rectangle(&mut generator, &scheduled.marks);
+            let count = scheduled.view(View { zoom, ..rectangle });
+            partly += usize::from(count > 0 && (count as usize) < scheduled.marks.len());
+        }
+    }
+    assert!(
+        partly > 10_000,
+        "only {partly} views show some of the marks"
+    );
+}
+
+#[test]
+fn larger_sheets_ours_and_foreign() {
+    let mut generator = Generator::new(44);
+    for shape in Shape::ALL {
+        for n in [63, 64, 65, 200, 777] {
+            let sample = marks(shape, n, n as u64);
+            let lists = [
+                schedule_in_rank_order(&sample),
+                foreign_records(&mut generator, &sample),
+                vec![Record::NEVER; n],
+            ];
+            for records in lists {
+                let scheduled = Scheduled::new(sample.clone(), &records);
+                for _ in 0..60 {
+                    let zoom = some_zoom(&mut generator, &scheduled.removals);
+                    let rectangle = some_rectangle(&mut generator, &scheduled.marks);
+                    scheduled.view(View { zoom, ..rectangle });
+                }
+            }
+        }
+    }
+}
+
+#[test]
+fn the_largest_sheets() {
+    let mut generator = Generator::new(45);
+    for shape in Shape::ALL {
+        let sample = marks(shape, 4_096, 8);
+        let records = foreign_records(&mut generator, &sample);
+        let scheduled = Scheduled::new(sample, &records);
+        for _ in 0..60 {
+            let zoom = some_zoom(&mut generator, &scheduled.removals);
+            let rectangle = some_rectangle(&mut generator, &scheduled.marks);
+            scheduled.view(View { zoom, ..rectangle });
+        }
+        assert_view(&scheduled.sheet, WHOLE, 511, &Err(13));
+    }
+}
+
+#[test]
+fn refused_sheets_write_nothing() {
+    let mut generator = Generator::new(46);
+    let mut numbers = BTreeMap::new();
+    for _ in 0..30_000 {
+        let sheet = some_sheet(&mut generator);
+        let number = view(&sheet, WHOLE, generator.choose(&[0, 1, 6, 6, 6]));
+        *numbers.entry(number).or_insert(0) += 1;
+    }
+    let reached = (0..=10).chain([13]);
+    assert!(
+        reached.into_iter().all(|n| numbers[&n] > 100),
+        "{numbers:?}"
+    );
+}
+
+#[test]
+fn a_map_of_its_own() {
+    for n in [0, 1, 8, 9, 100] {
+        let sheet = scheduled(&marks(Shape::Clustered, n, 9));
+        for stop in 0..=16 {
+            let asked = View {
+                zoom: Zoom::Stop(stop),
+                ..WHOLE
+            };
+            let map = rollmap::view_to_map(&sheet, asked).unwrap();
+            let expected = oracle::view::view(&sheet, edges(asked), zoom(asked), map_bytes(n));
+            assert_eq!(Ok((map.as_bytes().to_vec(), map.count())), expected);
+            assert_eq!(map.marks() as usize, n);
+            assert_eq!(map.iter().count(), map.count() as usize);
+            assert!((&map).into_iter().is_sorted());
+        }
+    }
+    let refused = rollmap::view_to_map(&one_part(&P1), WHOLE);
+    assert_eq!(number(&refused), 10);
+    assert_eq!(number(&rollmap::view_to_map(&[], WHOLE)), 1);
+}
