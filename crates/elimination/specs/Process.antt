@@ -1,5 +1,5 @@
 -- 01's process: z grows from 0, and at each first touch the lower-ranked of two living marks is removed.
-use Prim.Native.Nat.{ℕ, zero, suc, _*_, compare, Ordering, Ordering·lt, Ordering·eq, Ordering·gt}
+use Prim.Native.Nat.{ℕ, zero, suc, _*_, _/_, compare, Ordering, Ordering·lt, Ordering·eq, Ordering·gt}
 use mathlib.Core.Bool.{Bool, true, false, cond, _&&_}
 use mathlib.Core.Option.{Option, none, some}
 use lib.Dec.{ltb, eqb}

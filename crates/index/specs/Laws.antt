@@ -65,8 +65,15 @@ module _ (s p : List ℕ) (n : ℕ) (few : n ≤ 65536) where
     unfolding isIndex
     index-iff = (Bytes.same-true t (indexBytes (indexOf s p n)), λ e. rw e (Bytes.same-self (indexBytes (indexOf s p n))))
 
+    -- The numbers that an accepted index holds are the tree.
     pub index-block : isIndex s p t n ≡ true → block (entryAt t) 0 n ≡ indexOf s p n
     index-block = Whole.index-entries s p n few t
+
+    pub block-members : isIndex s p t n ≡ true → block (entryAt t) 0 n ≈ upTo n
+    block-members h q = rw (index-block h) (index-members q)
+
+    pub block-tree : isIndex s p t n ≡ true → isTree (beats p) (axisKey s) true (block (entryAt t) 0 n) ≡ true
+    block-tree h = rw (index-block h) index-tree
 
     pub index-entries : isIndex s p t n ≡ true → AllBelow t n
     index-entries = Whole.entries-below s p n few t

@@ -1,1 +1,346 @@
-fn main() {}
+//! Times the proved library against the same jobs in plain Rust, in one run and on the
+//! same bytes, and prints tables of the times and their ratios.
+
+#![deny(unsafe_code)]
+
+mod plain;
+mod race;
+
+use std::hint::black_box;
+
+use oracle::mark::write_marks;
+use oracle::sample::{marks, Shape};
+use oracle::sheet::join;
+use rollmap::{map_bytes, scheduled_bytes, work_bytes, View, Zoom};
+
+use plain::schedule::Desk;
+use race::{race, Micros};
+
+/// The data that scheduling is timed on.
+const DATA: [(&str, Shape); 5] = [
+    ("uniform", Shape::Uniform),
+    ("clustered", Shape::Clustered),
+    ("line", Shape::Line),
+    ("one place", Shape::OnePlace),
+    ("huge radius", Shape::HugeRadius),
+];
+
+/// The numbers of marks that growth is seen over.
+const SIZES: [usize; 3] = [256, 1_024, 4_096];
+
+/// The largest of them.
+const MOST: usize = 4_096;
+
+/// The rectangle of all places.
+const WHOLE: View = View {
+    x0: i16::MIN,
+    x1: i16::MAX,
+    y0: i16::MIN,
+    y1: i16::MAX,
+    zoom: Zoom::Stop(0),
+};
+
+/// Rounds that the least time is taken of.
+const ROUNDS: usize = 15;
+
+/// Rounds of sorting all pairs, which is slow.
+const PAIR_ROUNDS: usize = 2;
+
+fn main() {
+    println!("{}", introduction());
+    scheduling();
+    growth();
+    checking();
+    viewing();
+    walking();
+}
+
+/// What the tables hold.
+fn introduction() -> String {
+    format!(
+        "# Times of the proved library against plain Rust\n\n\
+         Each time is the processor's, the least of {ROUNDS} rounds ({PAIR_ROUNDS} for all \
+         pairs) in which the contenders take turns. Buffers and arrays are allocated before \
+         and not cleared between rounds: they hold what the round before left. A ratio above \
+         1 says that the proved library takes longer."
+    )
+}
+
+/// Prints a heading and the head of a table.
+fn table(heading: &str, columns: &[&str]) {
+    println!("\n## {heading}\n");
+    println!("| {} |", columns.join(" | "));
+    println!("|{}", "---|".repeat(columns.len()));
+}
+
+/// The sheet of one part of a sample.
+fn sheet_of(shape: Shape, n: usize) -> Vec<u8> {
+    join(&[&write_marks(&marks(shape, n, 1))])
+}
+
+/// The scheduled sheet of a sample.
+fn scheduled(shape: Shape, n: usize) -> Vec<u8> {
+    rollmap::schedule_to_vec(&sheet_of(shape, n)).expect("the sample is taken")
+}
+
+/// The least times of scheduling a sheet: proved, plain in rank order, and the core of
+/// the latter alone, which makes no check, no rows and no index. The first two are seen
+/// to write the same bytes.
+fn time_scheduling(sheet: &[u8], n: usize, calls: u32) -> [Micros; 3] {
+    let (mut work, mut desk) = (vec![0; work_bytes(n)], Desk::default());
+    let mut ours = vec![0; scheduled_bytes(n)];
+    let mut theirs = ours.clone();
+    let mut core = Desk::default();
+    core.lay_out(
+        plain::sheet::open(sheet)
+            .expect("the sample is taken")
+            .marks,
+    );
+    let times = race(
+        ROUNDS,
+        calls,
+        [
+            &mut || _ = black_box(rollmap::schedule(sheet, &mut work, &mut ours)),
+            &mut || _ = black_box(desk.schedule(sheet, &mut theirs)),
+            &mut || core.settle(),
+        ],
+    );
+    assert!(ours == theirs, "both write the same bytes");
+    times
+}
+
+/// The least time of scheduling by sorting all pairs, which is seen to write the
+/// expected bytes.
+fn time_pairs(sheet: &[u8], expected: &[u8]) -> Micros {
+    let mut desk = Desk::default();
+    let mut out = vec![0; expected.len()];
+    let [pairs] = race(
+        PAIR_ROUNDS,
+        1,
+        [&mut || _ = black_box(desk.schedule_by_pairs(sheet, &mut out))],
+    );
+    assert!(out == expected, "all pairs give the same bytes");
+    pairs
+}
+
+fn scheduling() {
+    table(
+        "Scheduling 4,096 marks, from a sheet of one part to one of three",
+        &[
+            "data",
+            "proved, ms",
+            "plain Rust in rank order, ms",
+            "ratio",
+            "its core alone, ms",
+            "plain Rust by all pairs, ms",
+            "times faster than all pairs",
+        ],
+    );
+    for (name, shape) in DATA {
+        let sheet = sheet_of(shape, MOST);
+        let [proved, plain, core] = time_scheduling(&sheet, MOST, 1);
+        let pairs = time_pairs(&sheet, &scheduled(shape, MOST));
+        println!(
+            "| {name} | {:.2} | {:.2} | {:.2} | {:.2} | {:.0} | {:.0} |",
+            proved.millis(),
+            plain.millis(),
+            proved.over(plain),
+            core.millis(),
+            pairs.millis(),
+            pairs.over(proved),
+        );
+    }
+}
+
+/// How many times as long the last time is as the one before it, if there is one.
+fn growth_of(times: &[Micros]) -> String {
+    match times {
+        [.., before, last] => format!("{:.1}", last.over(*before)),
+        _ => String::from("-"),
+    }
+}
+
+fn growth() {
+    table(
+        "Growth of scheduling with the number of marks",
+        &[
+            "data",
+            "marks",
+            "proved, ms",
+            "times the row above",
+            "plain Rust, ms",
+            "times the row above",
+            "ratio",
+        ],
+    );
+    for (name, shape) in [("uniform", Shape::Uniform), ("clustered", Shape::Clustered)] {
+        let (mut proved, mut plain) = (Vec::new(), Vec::new());
+        for n in SIZES {
+            let calls = (MOST / n) as u32;
+            let [ours, theirs, _] = time_scheduling(&sheet_of(shape, n), n, calls);
+            proved.push(ours);
+            plain.push(theirs);
+            println!(
+                "| {name} | {n} | {:.3} | {} | {:.3} | {} | {:.2} |",
+                ours.millis(),
+                growth_of(&proved),
+                theirs.millis(),
+                growth_of(&plain),
+                ours.over(theirs),
+            );
+        }
+    }
+}
+
+/// The least times of checking a sheet: proved, and plain.
+fn time_checking(sheet: &[u8], calls: u32) -> [Micros; 2] {
+    assert!(rollmap::check(sheet).is_ok() && plain::sheet::open(sheet).is_ok());
+    race(
+        ROUNDS,
+        calls,
+        [
+            &mut || _ = black_box(rollmap::check(black_box(sheet))),
+            &mut || _ = black_box(plain::sheet::open(black_box(sheet)).is_ok()),
+        ],
+    )
+}
+
+fn checking() {
+    table(
+        "Checking a scheduled sheet",
+        &[
+            "data",
+            "marks",
+            "proved, µs",
+            "times the row above",
+            "plain Rust, µs",
+            "ratio",
+        ],
+    );
+    for (name, shape) in [("uniform", Shape::Uniform), ("clustered", Shape::Clustered)] {
+        let mut proved = Vec::new();
+        for n in SIZES {
+            let calls = (10 * MOST / n) as u32;
+            let [ours, theirs] = time_checking(&scheduled(shape, n), calls);
+            proved.push(ours);
+            println!(
+                "| {name} | {n} | {:.1} | {} | {:.1} | {:.2} |",
+                ours.0,
+                growth_of(&proved),
+                theirs.0,
+                ours.over(theirs),
+            );
+        }
+    }
+}
+
+/// A square of so many map units about a place, as much of it as there is.
+fn square_about(x: i16, y: i16, half: i16) -> View {
+    View {
+        x0: x.saturating_sub(half),
+        x1: x.saturating_add(half),
+        y0: y.saturating_sub(half),
+        y1: y.saturating_add(half),
+        zoom: Zoom::Stop(0),
+    }
+}
+
+/// The least times of a view at k/64: proved, and plain. Both are seen to show the
+/// same. Answers the count too.
+fn time_view(sheet: &[u8], rectangle: View, k: u32) -> (u32, [Micros; 2]) {
+    let ours = View {
+        zoom: Zoom::Wheel(k as f32 / 64.0),
+        ..rectangle
+    };
+    let theirs = plain::view::View {
+        low: [ours.x0, ours.y0],
+        high: [ours.x1, ours.y1],
+        k,
+    };
+    let mut map = vec![0; map_bytes(MOST)];
+    let mut plain_map = map.clone();
+    let count = rollmap::view(sheet, ours, &mut map);
+    let plain_count = plain::view::view(sheet, theirs, &mut plain_map);
+    assert_eq!(count.ok(), plain_count.ok());
+    assert_eq!(map, plain_map);
+    let times = race(
+        ROUNDS,
+        10,
+        [
+            &mut || _ = black_box(rollmap::view(sheet, ours, &mut map)),
+            &mut || _ = black_box(plain::view::view(sheet, theirs, &mut plain_map)),
+        ],
+    );
+    (plain_count.expect("the view is taken"), times)
+}
+
+fn viewing() {
+    table(
+        "Viewing 4,096 marks; both check the sheet in each call",
+        &[
+            "data",
+            "rectangle",
+            "64 times the zoom",
+            "shown",
+            "proved, µs",
+            "plain Rust, µs",
+            "ratio",
+            "times the check alone",
+        ],
+    );
+    for (name, shape) in [("uniform", Shape::Uniform), ("clustered", Shape::Clustered)] {
+        let sheet = scheduled(shape, MOST);
+        let [check, _] = time_checking(&sheet, 10);
+        let first = marks(shape, MOST, 1)[0];
+        let small = square_about(first.x, first.y, 500);
+        for (size, rectangle) in [("1,000 wide", small), ("whole", WHOLE)] {
+            for k in [1, 64, 1_024, 16_384] {
+                let (count, [ours, theirs]) = time_view(&sheet, rectangle, k);
+                println!(
+                    "| {name} | {size} | {k} | {count} | {:.1} | {:.1} | {:.2} | {:.2} |",
+                    ours.0,
+                    theirs.0,
+                    ours.over(theirs),
+                    ours.over(check),
+                );
+            }
+        }
+    }
+}
+
+/// The number of steps of a walk over a whole map with the proved library.
+fn walk_proved(map: &[u8]) -> usize {
+    let shown = rollmap::shown(black_box(map), MOST as u32);
+    shown.map_or(0, Iterator::count)
+}
+
+/// The number of steps of a walk over a whole map in plain Rust.
+fn walk_plain(map: &[u8]) -> usize {
+    let next = |start| plain::view::walk(black_box(map), MOST, start);
+    std::iter::successors(next(0), |&mark| next(mark + 1)).count()
+}
+
+fn walking() {
+    table(
+        "Walking a whole map of 4,096 marks",
+        &["shown", "proved, µs", "plain Rust, µs", "ratio"],
+    );
+    for byte in [0xff_u8, 0x10, 0x00] {
+        let map = vec![byte; map_bytes(MOST)];
+        let count = walk_plain(&map);
+        assert_eq!(walk_proved(&map), count);
+        let [ours, theirs] = race(
+            ROUNDS,
+            20,
+            [&mut || _ = black_box(walk_proved(&map)), &mut || {
+                _ = black_box(walk_plain(&map))
+            }],
+        );
+        println!(
+            "| {count} | {:.2} | {:.2} | {:.2} |",
+            ours.0,
+            theirs.0,
+            ours.over(theirs)
+        );
+    }
+}

@@ -119,13 +119,13 @@ fn every_sheet_of_three_marks_from_a_small_choice() {
 fn tied_marks(generator: &mut Generator, n: usize) -> Vec<Mark> {
     let (places, radii) = (1 + generator.below(6), 1 + generator.below(3));
     let (step, priorities) = (generator.choose(&[1, 7, 5_000]), 1 + generator.below(4));
-    let mut place = || step * (generator.below(places) as i16 - 3);
-    let places: Vec<(i16, i16)> = (0..n).map(|_| (place(), place())).collect();
-    let mut mark = |(x, y)| {
+    let mut mark = || {
+        let mut place = || step * (generator.below(places) as i16 - 3);
+        let (x, y) = (place(), place());
         let radius = 1 << generator.below(radii);
         Mark::plain(x, y, radius, generator.below(priorities) as u16)
     };
-    places.into_iter().map(|place| mark(place)).collect()
+    (0..n).map(|_| mark()).collect()
 }
 
 #[test]

@@ -174,7 +174,7 @@ fn write_contents(out: &mut [u8], n: usize) {
         let length = (bytes * n) as u32;
         let entry = &mut out[10 * code - 8..10 * code + 2];
         entry[..2].copy_from_slice(&(code as u16).to_le_bytes());
-        entry[2..6].copy_from_slice(&(offset as u32).to_le_bytes());
+        entry[2..6].copy_from_slice(&u32::to_le_bytes(offset));
         entry[6..].copy_from_slice(&length.to_le_bytes());
         offset += length;
     }

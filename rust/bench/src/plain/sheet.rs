@@ -18,7 +18,10 @@ pub fn open(sheet: &[u8]) -> Result<Opened<'_>, Refusal> {
     ask(4, rest.is_empty() && marks.len() <= 4_096)?;
     ask_marks(marks)?;
     let long = |part: Option<&[u8]>, bytes| part.is_none_or(|part| part.len() == bytes);
-    ask(7, long(part_2, 14 * marks.len()) && long(part_3, 2 * marks.len()))?;
+    ask(
+        7,
+        long(part_2, 14 * marks.len()) && long(part_3, 2 * marks.len()),
+    )?;
     let records = part_2.map(|part| part.as_chunks::<14>().0);
     if let Some(records) = records {
         ask(8, records_fit(marks, records))?;
@@ -46,7 +49,13 @@ fn split(sheet: &[u8]) -> Result<[Option<&[u8]>; 3], Refusal> {
     ask(1, (1..=3).contains(&parts) && sheet.len() >= 2 + 10 * parts)?;
     let (entries, _) = sheet[2..2 + 10 * parts].as_chunks::<10>();
     let code = |entry: &[u8; 10]| usize::from(u16::from_le_bytes([entry[0], entry[1]]));
-    ask(2, entries.iter().zip(1..).all(|(entry, own)| code(entry) == own))?;
+    ask(
+        2,
+        entries
+            .iter()
+            .zip(1..)
+            .all(|(entry, own)| code(entry) == own),
+    )?;
     let mut bodies = [None; 3];
     let mut end = 2 + 10 * parts;
     for (body, &[_, _, a, b, c, d, e, f, g, h]) in bodies.iter_mut().zip(entries) {

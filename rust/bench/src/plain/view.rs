@@ -19,7 +19,10 @@ pub fn view(sheet: &[u8], view: View, map: &mut [u8]) -> Result<u32, Refusal> {
     let (Some(records), Some(index)) = (opened.records, opened.index) else {
         return Err(10);
     };
-    ask(11, view.low[0] <= view.high[0] && view.low[1] <= view.high[1])?;
+    ask(
+        11,
+        view.low[0] <= view.high[0] && view.low[1] <= view.high[1],
+    )?;
     ask(12, (1..=65_536).contains(&view.k))?;
     let bytes = opened.marks.len().div_ceil(8);
     ask(13, map.len() >= bytes)?;
@@ -51,7 +54,8 @@ impl Search<'_> {
         }
         let place = self.place(root);
         let Self { view, .. } = self;
-        let inside = (0..2).all(|axis| view.low[axis] <= place[axis] && place[axis] <= view.high[axis]);
+        let inside =
+            (0..2).all(|axis| view.low[axis] <= place[axis] && place[axis] <= view.high[axis]);
         map[root / 8] |= u8::from(inside) << (root % 8);
         let half = size / 2;
         let (left, right) = (from + 1, from + 1 + half);
@@ -89,12 +93,23 @@ impl Search<'_> {
 pub fn walk(map: &[u8], n: usize, start: usize) -> Option<usize> {
     let mut at = start;
     while at < n {
-        let byte = map[at / 8] >> (at % 8);
-        if byte != 0 {
-            let found = at + byte.trailing_zeros() as usize;
+        let word = word_at(map, at / 8) >> (at % 8);
+        if word != 0 {
+            let found = at + word.trailing_zeros() as usize;
             return (found < n).then_some(found);
         }
-        at = (at / 8 + 1) * 8;
+        at = (at / 8 + 8) * 8;
     }
     None
+}
+
+/// The 8 bytes of a map from a byte on, or as many as there are.
+fn word_at(map: &[u8], byte: usize) -> u64 {
+    let rest = &map[byte..];
+    if let Some(whole) = rest.first_chunk() {
+        return u64::from_le_bytes(*whole);
+    }
+    let mut padded = [0; 8];
+    padded[..rest.len()].copy_from_slice(rest);
+    u64::from_le_bytes(padded)
 }
