@@ -1,5 +1,5 @@
 -- Visiting the marks in rank order: what a scan of the marks visited so far has found for the next one. The vocabulary of scheduling's loops.
-use Prim.Native.Nat.{ℕ, _<_, _≤_}
+use Prim.Native.Nat.{ℕ, _<_}
 use mathlib.Core.Path.{_≡_}
 use Rattle.fractions.specs.declared.Fraction.{Fraction}
 use Rattle.fractions.specs.Order.{Less, AtMost, Later}

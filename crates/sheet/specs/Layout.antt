@@ -1,5 +1,5 @@
 -- Where the parts of a sheet lie, as a plain value, and what a part read off it is.
-use Prim.Native.Nat.{ℕ, _+_, _-_}
+use Prim.Native.Nat.{ℕ, _+_}
 use mathlib.Core.Bool.{cond}
 use mathlib.Core.List.{List, [], _∷_}
 use lib.ListN.{length, getD, take, drop}
@@ -7,7 +7,7 @@ use lib.Dec.{ltb, leb, eqb}
 use Rattle.sheet.specs.declared.Extent.{Extent}
 use Rattle.sheet.specs.declared.Layout.{Layout}
 use Rattle.sheet.specs.Contents.{countAt, offsetAt, lengthAt, split}
-use Rattle.sheet.specs.Questions.{isCount, check}
+use Rattle.sheet.specs.Questions.{check}
 
 -- no bytes: a part that is not there
 abbrev pub nowhere : Extent
@@ -18,18 +18,18 @@ abbrev pub extentAt : List ℕ → ℕ → Extent
 extentAt s i = cond (ltb i (countAt s)) (record { offset = offsetAt s i; length = lengthAt s i }) nowhere
 
 abbrev pub layoutOf : List ℕ → Layout
-layoutOf s = record { count = countAt s; parts = extentAt s 0 ∷ extentAt s 1 ∷ extentAt s 2 ∷ [] }
+layoutOf s = record { count = countAt s; marks = extentAt s 0; schedule = extentAt s 1; index = extentAt s 2 }
 
 -- 01: "A refused sheet opens with no parts."
 abbrev pub noParts : Layout
-noParts = record { count = 0; parts = nowhere ∷ nowhere ∷ nowhere ∷ [] }
+noParts = record { count = 0; marks = nowhere; schedule = nowhere; index = nowhere }
 
 unfoldable pub opened : List ℕ → Layout
 opened s = cond (eqb (check s) 0) (layoutOf s) noParts
 
--- Where the part of this code lies. Codes are counted from 1, and there are as many as there may be parts.
+-- where the part of this code lies
 unfoldable pub placeOf : Layout → ℕ → Extent
-placeOf l code = cond (isCount code) (getD (l .parts) (code - 1) nowhere) nowhere
+placeOf l code = cond (eqb code 1) (l .marks) (cond (eqb code 2) (l .schedule) (cond (eqb code 3) (l .index) nowhere))
 
 -- the bytes there; none where the extent does not lie in the sheet
 unfoldable pub cutOf : List ℕ → Extent → List ℕ

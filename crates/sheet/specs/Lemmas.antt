@@ -9,3 +9,4 @@ pub mod Fits
 pub mod Cut
 pub mod Writing
 pub mod Assembling
+pub mod Records

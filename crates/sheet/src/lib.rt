@@ -13,7 +13,7 @@ ghost use Rattle.sheet.specs.Asking.{answer};
 ghost use Rattle.sheet.specs.Questions.{isCount, question1, question2, question3, question4, markQuestions, exactly, namesRight, recordRight, question8, bodyQuestions, check, given};
 ghost use Rattle.sheet.specs.Stages.{contentsQuestions, oneMark, sizesRight, lastQuestions};
 ghost use Rattle.sheet.specs.Accepted.{Whole, Laid, MarksRight};
-ghost use Rattle.sheet.specs.Layout.{extentAt, layoutOf, opened, placeOf, cutOf, partOf};
+ghost use Rattle.sheet.specs.Layout.{nowhere, extentAt, layoutOf, opened, placeOf, cutOf, partOf};
 ghost use Rattle.sheet.specs.Assembled.{entry, contentsOf, partsOf, kept, Placing, Assembling};
 
 // ---- the fields of the contents
@@ -50,7 +50,7 @@ fn length_at(s: &[u8], i: usize) -> u32
 // ---- questions 1 to 3
 
 // Question 1, of a number of parts alone.
-pub fn is_count(k: usize) -> bool
+fn is_count(k: usize) -> bool
     ensures { λ r. ⌜ r ≡ isCount k ⌝ }
 {
     1 <= k && k <= 3
@@ -83,8 +83,8 @@ fn has_codes(s: &[u8]) -> bool
     true
 }
 
-// 3. Does each body start where the last ended, and does the last end with the sheet? An end may be as large as two fields
-// of 4 bytes together, so it is taken at 64 bits.
+// 3. Does each body start where the last ended, and does the last end with the sheet? An end may need 33 bits, so that one
+// which would wrap at 32 is told apart.
 fn bodies_join(s: &[u8]) -> bool
     requires { ⌜ Whole (now s) ⌝ }
     ensures { λ r. ⌜ r ≡ question3 (now (s .entry)) ⌝ }
@@ -112,10 +112,7 @@ pub fn contents_answer(s: &[u8]) -> u32
     if !has_codes(s) {
         return 2;
     }
-    if !bodies_join(s) {
-        return 3;
-    }
-    0
+    if bodies_join(s) { 0 } else { 3 }
 }
 
 // ---- where the parts lie
@@ -126,12 +123,25 @@ pub struct Extent {
     pub length: u32,
 }
 
-// How many parts there are, and where each lies, that of code 1 first.
+// How many parts there are, and where each lies.
 pub struct Layout {
     pub count: usize,
-    pub parts: [Extent; 3],
+    pub marks: Extent,
+    pub schedule: Extent,
+    pub index: Extent,
 }
 
+// The place of a part that is not there.
+fn nowhere() -> Extent
+    ensures { λ r. ⌜ r ≡ nowhere ⌝ }
+{
+    Extent {
+        offset: 0,
+        length: 0,
+    }
+}
+
+// Where body i lies, by the contents.
 fn extent_at(s: &[u8], i: usize) -> Extent
     requires { ⌜ Whole (now s) ⌝ }
     ensures { λ r. ⌜ r ≡ extentAt (now (s .entry)) i ⌝ }
@@ -142,39 +152,36 @@ fn extent_at(s: &[u8], i: usize) -> Extent
             length: length_at(s, i),
         };
     }
-    Extent {
-        offset: 0,
-        length: 0,
-    }
+    nowhere()
 }
 
-pub fn layout_of(s: &[u8]) -> Layout
+// Where all parts lie, by the contents.
+fn layout_of(s: &[u8]) -> Layout
     requires { ⌜ Whole (now s) ⌝ }
     ensures { λ r. ⌜ r ≡ layoutOf (now (s .entry)) ⌝ }
 {
     Layout {
         count: count_at(s),
-        parts: [extent_at(s, 0), extent_at(s, 1), extent_at(s, 2)],
+        marks: extent_at(s, 0),
+        schedule: extent_at(s, 1),
+        index: extent_at(s, 2),
     }
 }
 
 // Where the part of this code lies.
-pub fn place_of(l: Layout, code: u32) -> Extent
+fn place_of(l: Layout, code: u32) -> Extent
     ensures { λ r. ⌜ r ≡ placeOf l code ⌝ }
 {
-    if is_count(code as usize) {
-        let parts = l.parts;
-        let i = code as usize - 1;
-        return parts[i];
-    }
-    Extent {
-        offset: 0,
-        length: 0,
+    match code {
+        1 => l.marks,
+        2 => l.schedule,
+        3 => l.index,
+        _ => nowhere(),
     }
 }
 
 // The bytes at a place, and none where it does not lie in the sheet.
-pub fn cut<'a>(s: &'a [u8], e: Extent) -> &'a [u8]
+fn cut<'a>(s: &'a [u8], e: Extent) -> &'a [u8]
     ensures { λ r. ⌜ now r ≡ cutOf (now (s .entry)) e ⌝ }
 {
     let from = e.offset as usize;
@@ -351,10 +358,11 @@ fn last_answer(count: usize, marks: &[u8], schedule: &[u8], index: &[u8], n: usi
     if count < 3 {
         return 0;
     }
-    if !index::is_index(marks, schedule, index, n) {
-        return 9;
+    if index::is_index(marks, schedule, index, n) {
+        0
+    } else {
+        9
     }
-    0
 }
 
 // 4 to 9, of the first `count` of three bodies: the first 'no', or 0.
@@ -420,7 +428,8 @@ fn put_entry(out: &mut [u8], i: usize, offset: usize, size: usize)
 
 // Writes the contents of bodies of these sizes, and answers where the first body starts.
 pub fn put_contents(out: &mut [u8], sizes: &[usize]) -> usize
-    requires { ⌜ (length (now sizes) < 65536) × (contentsSize (length (now sizes)) ≤ length (now out)) × ((i : ℕ) → getD (now sizes) i 0 < 4294967296) ⌝ }
+    requires { ⌜ (length (now sizes) < 65536) × (contentsSize (length (now sizes)) ≤ length (now out)) ⌝ }
+    requires { ⌜ ((i : ℕ) → getD (now sizes) i 0 < 4294967296) ⌝ }
     ensures { λ r. ⌜ (r ≡ contentsSize (length (now (sizes .entry)))) × (now (out .exit) ≡ sets (now (out .entry)) 0 (contentsOf (now (sizes .entry)))) ⌝ }
 {
     let count = sizes.len();
@@ -507,24 +516,22 @@ pub fn opened(s: &[u8]) -> Layout
     if check(s) == 0 {
         return layout_of(s);
     }
-    let nowhere = Extent {
-        offset: 0,
-        length: 0,
-    };
     Layout {
         count: 0,
-        parts: [nowhere, nowhere, nowhere],
+        marks: nowhere(),
+        schedule: nowhere(),
+        index: nowhere(),
     }
 }
 
-// The bytes of the part of this code, by a layout.
-pub fn part_in<'a>(s: &'a [u8], l: Layout, code: u32) -> &'a [u8]
+// The bytes of the part of this code, by a layout, which may be any.
+fn part_in<'a>(s: &'a [u8], l: Layout, code: u32) -> &'a [u8]
     ensures { λ r. ⌜ now r ≡ cutOf (now (s .entry)) (placeOf l code) ⌝ }
 {
     cut(s, place_of(l, code))
 }
 
-// Where the part of this code lies.
+// Where the part of this code lies in an accepted sheet.
 pub fn part_of(s: &[u8], code: u32) -> Extent
     ensures { λ r. ⌜ r ≡ placeOf (opened (now (s .entry))) code ⌝ }
 {
@@ -536,4 +543,32 @@ pub fn part_bytes<'a>(s: &'a [u8], code: u32) -> &'a [u8]
     ensures { λ r. ⌜ now r ≡ partOf (now (s .entry)) code ⌝ }
 {
     part_in(s, opened(s), code)
+}
+
+// An opened sheet: the caller's bytes, and where the parts lie in them.
+pub struct Sheet<'a> {
+    pub bytes: &'a [u8],
+    pub layout: Layout,
+}
+
+// A refused sheet opens with no parts.
+pub fn open<'a>(bytes: &'a [u8]) -> Sheet<'a>
+    ensures { λ r. ⌜ (r .bytes ≡ bytes .entry) × (r .layout ≡ opened (now (bytes .entry))) ⌝ }
+{
+    let layout = opened(bytes);
+    Sheet { bytes, layout }
+}
+
+// How many parts an opened sheet has.
+pub fn part_count<'a>(sheet: Sheet<'a>) -> usize
+    ensures { λ r. ⌜ r ≡ sheet .entry .layout .count ⌝ }
+{
+    sheet.layout.count
+}
+
+// The bytes of the part of this code.
+pub fn part<'a>(sheet: Sheet<'a>, code: u32) -> &'a [u8]
+    ensures { λ r. ⌜ now r ≡ cutOf (now (sheet .entry .bytes)) (placeOf (sheet .entry .layout) code) ⌝ }
+{
+    part_in(sheet.bytes, sheet.layout, code)
 }

@@ -1,16 +1,16 @@
 -- What the code of a wheel value computes: w in 1/64 .. 1024 times 64 is exact, and the remainder by 1 tells whether that is whole.
 -- Assumes nothing.
 use mathlib.Core.Path.{_≡_, refl, sym, ap, _∙_, subst}
-use mathlib.Core.Bool.{Bool, true, false, not, _&&_, _||_, Bool·beq, true≢false}
+use mathlib.Core.Bool.{Bool, true, false, not, _&&_, true≢false}
 use Prim.Native.Nat.{ℕ, zero, suc, _+_, _-_, _*_, _/_, _%_, _^_, _≤_, _<_}
-use native.Mathlib.Nat.{mod-lt, add-zero, div-le-self, le-trans, le-of-eq, lt-of-le-of-lt, lt-of-lt-of-le, lt-irrefl, lt-of-not-le, mul-assoc, mul-comm, mul-one, one-mul, zero-mul, mul-right-comm, mul-le-mul-right, mul-lt-mul-of-pos-right, lt-of-mul-lt-mul-right, le-of-mul-le-mul-right, eq-of-mul-eq-mul-right, mul-pos, mod-one, mod-le, mul-mod-left, div-le-of-le-mul, div-add-mod'}
+use native.Mathlib.Nat.{add-zero, le-trans, le-of-eq, lt-of-le-of-lt, lt-of-lt-of-le, lt-irrefl, lt-of-not-le, mul-assoc, mul-comm, mul-one, one-mul, mul-right-comm, mul-le-mul-right, le-of-mul-le-mul-right, eq-of-mul-eq-mul-right, mul-pos, mul-mod-left, div-le-of-le-mul, div-add-mod'}
 use native.Mathlib.Omega.{arith}
 use lib.Dec.{T, leb, ltb, eqb, ltb→lt, leb→le, le→leb, lt→ltb, eqb→eq, eqb-refl, lit<}
 use lib.IntN.{ℤ, pos, negsuc}
-use lib.Pow.{pow-add, pow-pos, pow-lt}
+use lib.Pow.{pow-add, pow-lt}
 use lib.Ieee.{Float, nan, inf, fin, binary32, up, down, round, mul, eq, lt, le, fits, ofInt, inFloat, inUnsigned, toUnsigned}
 use lib.Ieee as I
-use lib.Ieee.Fits.{and-i, and-l, and-r, eq→eqb, up-pos, down-pos, mul-fits}
+use lib.Ieee.Fits.{and-i, and-l, and-r, eq→eqb, up-pos, down-pos}
 use lib.Ieee.Exact.{HasValue, round-exact}
 use lib.Ieee.Back.{round-whole, unsigned-back}
 use lib.Ieee.Order.{le-of-values}

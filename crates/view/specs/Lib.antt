@@ -1,5 +1,8 @@
--- What a zoom is, who is shown, and the questions of viewing and walking.
+-- To be believed: Zoom, Shown, Questions and View. Search says what the search down the index does; ZoomLaws and Lemmas are proofs.
 pub mod Zoom
 pub mod ZoomLaws
 pub mod Shown
 pub mod Questions
+pub mod View
+pub mod Search
+pub mod Lemmas

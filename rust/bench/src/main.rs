@@ -40,11 +40,14 @@ const WHOLE: View = View {
     zoom: Zoom::Stop(0),
 };
 
-/// Rounds that the least time is taken of.
+/// Rounds of scheduling that the least time is taken of.
 const ROUNDS: usize = 15;
 
 /// Rounds of sorting all pairs, which is slow.
 const PAIR_ROUNDS: usize = 2;
+
+/// Rounds of what takes well under a millisecond.
+const QUICK_ROUNDS: usize = 100;
 
 fn main() {
     println!("{}", introduction());
@@ -59,8 +62,9 @@ fn main() {
 fn introduction() -> String {
     format!(
         "# Times of the proved library against plain Rust\n\n\
-         Each time is the processor's, the least of {ROUNDS} rounds ({PAIR_ROUNDS} for all \
-         pairs) in which the contenders take turns. Buffers and arrays are allocated before \
+         Each time is the processor's, the least of {ROUNDS} rounds of scheduling \
+         ({PAIR_ROUNDS} by all pairs) and {QUICK_ROUNDS} of the rest, in which the contenders \
+         take turns. Buffers and arrays are allocated before \
          and not cleared between rounds: they hold what the round before left. A ratio above \
          1 says that the proved library takes longer."
     )
@@ -196,7 +200,7 @@ fn growth() {
 fn time_checking(sheet: &[u8], calls: u32) -> [Micros; 2] {
     assert!(rollmap::check(sheet).is_ok() && plain::sheet::open(sheet).is_ok());
     race(
-        ROUNDS,
+        QUICK_ROUNDS,
         calls,
         [
             &mut || _ = black_box(rollmap::check(black_box(sheet))),
@@ -220,7 +224,7 @@ fn checking() {
     for (name, shape) in [("uniform", Shape::Uniform), ("clustered", Shape::Clustered)] {
         let mut proved = Vec::new();
         for n in SIZES {
-            let calls = (10 * MOST / n) as u32;
+            let calls = (MOST / n) as u32;
             let [ours, theirs] = time_checking(&scheduled(shape, n), calls);
             proved.push(ours);
             println!(
@@ -245,9 +249,9 @@ fn square_about(x: i16, y: i16, half: i16) -> View {
     }
 }
 
-/// The least times of a view at k/64: proved, and plain. Both are seen to show the
-/// same. Answers the count too.
-fn time_view(sheet: &[u8], rectangle: View, k: u32) -> (u32, [Micros; 2]) {
+/// The least times of a view at k/64: proved, plain, and of the proved check alone. The
+/// first two are seen to show the same. Answers the count too.
+fn time_view(sheet: &[u8], rectangle: View, k: u32) -> (u32, [Micros; 3]) {
     let ours = View {
         zoom: Zoom::Wheel(k as f32 / 64.0),
         ..rectangle
@@ -264,11 +268,12 @@ fn time_view(sheet: &[u8], rectangle: View, k: u32) -> (u32, [Micros; 2]) {
     assert_eq!(count.ok(), plain_count.ok());
     assert_eq!(map, plain_map);
     let times = race(
-        ROUNDS,
-        10,
+        QUICK_ROUNDS,
+        1,
         [
             &mut || _ = black_box(rollmap::view(sheet, ours, &mut map)),
             &mut || _ = black_box(plain::view::view(sheet, theirs, &mut plain_map)),
+            &mut || _ = black_box(rollmap::check(sheet)),
         ],
     );
     (plain_count.expect("the view is taken"), times)
@@ -290,12 +295,11 @@ fn viewing() {
     );
     for (name, shape) in [("uniform", Shape::Uniform), ("clustered", Shape::Clustered)] {
         let sheet = scheduled(shape, MOST);
-        let [check, _] = time_checking(&sheet, 10);
         let first = marks(shape, MOST, 1)[0];
         let small = square_about(first.x, first.y, 500);
         for (size, rectangle) in [("1,000 wide", small), ("whole", WHOLE)] {
             for k in [1, 64, 1_024, 16_384] {
-                let (count, [ours, theirs]) = time_view(&sheet, rectangle, k);
+                let (count, [ours, theirs, check]) = time_view(&sheet, rectangle, k);
                 println!(
                     "| {name} | {size} | {k} | {count} | {:.1} | {:.1} | {:.2} | {:.2} |",
                     ours.0,
@@ -330,8 +334,8 @@ fn walking() {
         let count = walk_plain(&map);
         assert_eq!(walk_proved(&map), count);
         let [ours, theirs] = race(
-            ROUNDS,
-            20,
+            QUICK_ROUNDS,
+            5,
             [&mut || _ = black_box(walk_proved(&map)), &mut || {
                 _ = black_box(walk_plain(&map))
             }],

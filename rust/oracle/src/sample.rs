@@ -85,6 +85,18 @@ pub fn marks(shape: Shape, n: usize, seed: u64) -> Vec<Mark> {
     marks.collect()
 }
 
+/// Marks on four points with two radii and two priorities, whose sheets are full of
+/// ties.
+pub fn small_choice() -> Vec<Mark> {
+    let mut choice = Vec::new();
+    for place in 0..4 {
+        for (radius, priority) in [(1, 0), (1, 1), (2, 0), (2, 1)] {
+            choice.push(Mark::plain(place % 2, place / 2, radius, priority));
+        }
+    }
+    choice
+}
+
 /// The middles of the clusters, about one for every 64 marks.
 fn sites(generator: &mut Generator, n: usize) -> Vec<(i16, i16)> {
     let inner = |generator: &mut Generator| generator.between(-32_000, 32_000);

@@ -5,7 +5,7 @@ use oracle::fraction::Fraction;
 use oracle::mark::{outranks, Mark};
 use oracle::process::{schedule_by_process, schedule_by_sorted_pairs, schedule_in_rank_order};
 use oracle::record::Record;
-use oracle::sample::{marks, Shape};
+use oracle::sample::{marks, small_choice, Shape};
 
 /// The schedule of the process, once the two others are seen to give it too.
 fn schedule(marks: &[Mark]) -> Vec<Record> {
@@ -38,12 +38,7 @@ fn all_agree_on_small_samples() {
 
 #[test]
 fn all_agree_on_every_sheet_of_three_marks_from_a_small_choice() {
-    let mut choice = Vec::new();
-    for place in 0..4 {
-        for (radius, priority) in [(1, 0), (1, 1), (2, 0), (2, 1)] {
-            choice.push(Mark::plain(place % 2, place / 2, radius, priority));
-        }
-    }
+    let choice = small_choice();
     for &a in &choice {
         for &b in &choice {
             for &c in &choice {

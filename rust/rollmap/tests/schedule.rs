@@ -11,7 +11,7 @@ use oracle::fraction::Fraction;
 use oracle::mark::Mark;
 use oracle::process::{schedule_by_process, schedule_by_sorted_pairs};
 use oracle::record::{read_records, Record};
-use oracle::sample::{marks, Generator, Shape};
+use oracle::sample::{marks, small_choice, Generator, Shape};
 use oracle::tree::read_tree;
 use rollmap::{schedule_to_vec, scheduled_bytes, work_bytes};
 
@@ -99,12 +99,7 @@ fn many_small_sheets() {
 
 #[test]
 fn every_sheet_of_three_marks_from_a_small_choice() {
-    let mut choice = Vec::new();
-    for place in 0..4 {
-        for (radius, priority) in [(1, 0), (1, 1), (2, 0), (2, 1)] {
-            choice.push(Mark::plain(place % 2, place / 2, radius, priority));
-        }
-    }
+    let choice = small_choice();
     for &a in &choice {
         for &b in &choice {
             for &c in &choice {

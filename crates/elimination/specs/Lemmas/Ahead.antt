@@ -1,5 +1,5 @@
 -- What the process's test on pairs decides, and what its choice of the next pair gives.
-use Prim.Native.Nat.{ℕ, _*_, _<_, _≤_, compare, Ordering, Ordering·lt, Ordering·eq, Ordering·gt}
+use Prim.Native.Nat.{ℕ, _*_, _<_, compare, Ordering, Ordering·lt, Ordering·eq, Ordering·gt}
 use mathlib.Core.Path.{_≡_, refl, ap, subst}
 use mathlib.Core.Bool.{Bool, true, false, cond, _&&_, true≢false, false≢true}
 use mathlib.Core.Option.{Option, none, some}
@@ -7,8 +7,7 @@ use mathlib.Core.Logic.{inl, inr}
 use native.Mathlib.Omega.{arith}
 use lib.Dec.{ltb, isLe, isEq}
 use borrow.Author.Tests.{leb-true, leb-false, eqb-true, eqb-false, ltb-true, lt-ltb}
-use Rattle.fractions.specs.declared.Fraction.{Fraction}
-use Rattle.fractions.specs.Order.{Less, AtMost, Same}
+use Rattle.fractions.specs.Order.{Less, AtMost}
 use Rattle.fractions.specs.Laws.{order, atMost-trans}
 use Rattle.elimination.specs.Marks.{Marks, Proper}
 use Rattle.elimination.specs.Lemmas.Least.{least-from, least-below}

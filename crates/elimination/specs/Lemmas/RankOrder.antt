@@ -1,6 +1,6 @@
 -- Visiting the marks in rank order: what a scan of the marks visited so far has found for the next one, and that it settles that one.
 use Prim.Native.Nat.{ℕ, suc, _<_, _≤_}
-use mathlib.Core.Path.{_≡_, refl, sym, ap}
+use mathlib.Core.Path.{_≡_, refl, ap}
 use mathlib.Core.Logic.{inl, inr, _≢_}
 use native.Mathlib.Omega.{arith}
 use native.Mathlib.Decide.{decLt, ℕ-discrete}
@@ -10,7 +10,7 @@ use Rattle.fractions.specs.Laws.{order as order-of, less-atMost}
 use Rattle.elimination.specs.Marks.{Marks, Proper}
 use Rattle.elimination.specs.Process.{Removal, stays, gone, when, _over_}
 use Rattle.elimination.specs.Settled.{Ahead, Candidate, Best, SettledAt, Settled}
-use Rattle.elimination.specs.RankOrder.{Ranking, Stands, First, Found}
+use Rattle.elimination.specs.RankOrder.{Ranking, Stands, Found}
 use Rattle.elimination.specs.Lemmas.Settled.{settled-like}
 
 module _ (M : Marks) where

@@ -1,16 +1,13 @@
 -- A settled list: each mark is what the marks above it make of it. One list is settled, and it keeps both rules.
 use Prim.Native.Nat.{ℕ, zero, suc, _<_, _≤_}
-use mathlib.Core.Path.{_≡_, refl, sym}
-use mathlib.Core.Logic.{_≢_}
+use mathlib.Core.Path.{_≡_, refl}
 use native.Mathlib.Omega.{arith}
 use native.Mathlib.Decide.{decLt}
-use Rattle.fractions.specs.declared.Fraction.{Fraction}
-use Rattle.fractions.specs.declared.Value.{Value}
 use Rattle.fractions.specs.Order.{Less, Later, Sound}
 use Rattle.elimination.specs.Marks.{Marks, Proper}
 use Rattle.elimination.specs.Rules.{FirstRule, Cause, SecondRule, Keeps}
-use Rattle.elimination.specs.Process.{Removal, stays, gone, when, _over_}
-use Rattle.elimination.specs.Settled.{Ahead, Candidate, Best, SettledAt, Settled}
+use Rattle.elimination.specs.Process.{Removal, stays, gone, when}
+use Rattle.elimination.specs.Settled.{Candidate, SettledAt, Settled}
 
 module _ (M : Marks) where
   open Marks M using (count as n, key, value)

@@ -1,5 +1,5 @@
 -- Two lists that keep both rules are equal, mark by mark: by induction on the rank, since a mark's removal depends on higher-ranked marks only.
-use Prim.Native.Nat.{ℕ, zero, suc, _<_, _≤_}
+use Prim.Native.Nat.{ℕ, zero, suc, _<_}
 use mathlib.Core.Path.{_≡_, refl, ap}
 use mathlib.Core.Logic.{inl, inr, _≢_}
 use native.Mathlib.Omega.{arith}

@@ -1,3 +1,4 @@
+-- `sheet::assemble` meets its contract: the lemmas of Assembling answer each way out by the question that ended it. Assumes nothing.
 use mathlib.Core.Path.{_≡_, sym, _∙_}
 use mathlib.Core.Bool.{true}
 use native.Mathlib.Omega.{arith}
@@ -8,13 +9,7 @@ use Rattle.sheet.specs.Lemmas.Tests.{said-no, said-yes}
 use Rattle.sheet.specs.Lemmas.Assembling.{refused-count, refused-bodies, placed, given-writable}
 use Rattle.sheet.proofs.assemble.Statement.{statement}
 use Rattle.sheet.proofs.assemble.Tie as tie
-use Rattle.sheet.proofs.assemble.Reads as reads
-use Rattle.sheet.proofs.assemble.Lts as lts
-use Rattle.sheet.proofs.bodies_answer.Reads as bodies-answer-reads
-use Rattle.sheet.proofs.is_count.Reads as is-count-reads
-use Rattle.sheet.proofs.put_sheet.Reads as put-sheet-reads
 
--- src/lib.rt:484:9
 -- the number of parts was taken
 taken : (c : tie.Else1) → isCount (c .before .before .before .before .before .before .args .count) ≡ true
 taken c = said-yes (c .before .is-count .ensures) (c .if1 .left)
@@ -22,30 +17,24 @@ taken c = said-yes (c .before .is-count .ensures) (c .if1 .left)
 is-count-requires : tie.Need-is-count-requires
 is-count-requires c κs = search needs
 
--- src/lib.rt:485:9
 returns : tie.Need-returns
 returns c = refused-count _ _ _ (said-no (c .before .is-count .ensures) (c .if1 .taken))
 
--- src/lib.rt:487:9
 bodies-answer-requires : tie.Need-bodies-answer-requires
 bodies-answer-requires c κs = taken c
 
--- src/lib.rt:489:9
 returns-2 : tie.Need-returns-2
 returns-2 c =
     refused-bodies _ _ _ (taken (c .before .before)) _ (omega (arith, c .if2 .taken)) (c .before .bodies-answer .ensures)
 
--- src/lib.rt:491:5
 put-sheet-requires : tie.Need-put-sheet-requires
 put-sheet-requires c κs =
     let a = c .before .before .before .before .before .before .before .before .before .args in
     (taken (c .before .before .before), given-writable (a .count) (now (a .body1)) (now (a .body2)) (now (a .body3)) (taken (c .before .before .before)) (sym (c .before .before .bodies-answer .ensures) ∙ c .before .if2 .left))
 
--- src/lib.rt:480:1
 same-length : tie.Need-same-length
 same-length c = search needs
 
--- src/lib.rt:480:1
 returns-3 : tie.Need-returns-3
 returns-3 c =
     placed _ _ _ (taken (c .before .before .before .before .before .before)) (sym (c .before .before .before .before .before .bodies-answer .ensures) ∙ c .before .before .before .before .if2 .left) _ _ (c .before .before .put-sheet .ensures)

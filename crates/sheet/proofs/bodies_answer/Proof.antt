@@ -1,3 +1,4 @@
+-- `sheet::bodies_answer` meets its contract: the groups of questions are asked in their order, and the first that says 'no' is the answer. Assumes nothing.
 use mathlib.Core.Path.{_≡_, sym, _∙_}
 use mathlib.Core.Bool.{true}
 use mathlib.Core.List.{_∷_, _++_}
@@ -12,13 +13,7 @@ use Rattle.sheet.specs.Lemmas.Asked.{marks-numbered, asked-yes, asked-no
 use Rattle.sheet.specs.Lemmas.Accepting.{size-iff, marks-iff, given-stages}
 use Rattle.sheet.proofs.bodies_answer.Statement.{statement}
 use Rattle.sheet.proofs.bodies_answer.Tie as tie
-use Rattle.sheet.proofs.bodies_answer.Reads as reads
-use Rattle.sheet.proofs.bodies_answer.Lts as lts
-use Rattle.sheet.proofs.is_marks.Reads as is-marks-reads
-use Rattle.sheet.proofs.last_answer.Reads as last-answer-reads
-use Rattle.sheet.proofs.marks_answer.Reads as marks-answer-reads
 
--- src/lib.rt:373:9
 -- what is to be answered, in the groups in which it is asked
 asked : (c : tie.Start) → let s = now (c .args .body1) in
     let k = c .args .count in
@@ -35,17 +30,14 @@ sized c = said-yes (c .before .is-marks .ensures) (c .if1 .left)
 is-marks-requires : tie.Need-is-marks-requires
 is-marks-requires c κs = search needs
 
--- src/lib.rt:374:9
 returns : tie.Need-returns
 returns c =
     let p = c .before .before .before .before .before in
     sym (asked p ∙ asked-no 4 _ (said-no (c .before .is-marks .ensures) (c .if1 .taken)))
 
--- src/lib.rt:377:9
 marks-answer-requires : tie.Need-marks-answer-requires
 marks-answer-requires c κs = search needs
 
--- src/lib.rt:379:9
 returns-2 : tie.Need-returns-2
 returns-2 c =
     let p = c .before .before .before .before .before .before .before in
@@ -54,13 +46,11 @@ returns-2 c =
     ∙ asked-yes 4 _ (sized (c .before .before))
     ∙ append-no (markQuestions _ _) _ (marks-numbered _ _) (omega (arith, c .before .marks-answer .ensures, c .if2 .taken)))
 
--- src/lib.rt:381:5
 last-answer-requires : tie.Need-last-answer-requires
 last-answer-requires c κs =
     let size = size-iff _ .0 (sized (c .before .before)) in
     record { few = size .0; long = size .1; each = marks-iff _ _ .0 (sym (c .before .marks-answer .ensures) ∙ c .if2 .left) }
 
--- src/lib.rt:369:1
 returns-3 : tie.Need-returns-3
 returns-3 c =
     let p = c .before .before .before .before .before .before .before .before in

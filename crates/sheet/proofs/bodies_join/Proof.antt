@@ -1,3 +1,4 @@
+-- `sheet::bodies_join` meets its contract: while the loop runs, `start` is where the next body has to start, and every body before it starts right. Assumes nothing.
 use Prim.Native.Nat.{_-_, _^_, _<_, _≤_}
 use mathlib.Core.Path.{_≡_, refl, sym, _∙_}
 use native.Mathlib.Omega.{arith}
@@ -13,11 +14,6 @@ use Rattle.sheet.specs.Questions.{question3}
 use Rattle.sheet.specs.Lemmas.Tests.{every-more, every-not}
 use Rattle.sheet.proofs.bodies_join.Statement.{statement}
 use Rattle.sheet.proofs.bodies_join.Tie as tie
-use Rattle.sheet.proofs.bodies_join.Reads as reads
-use Rattle.sheet.proofs.bodies_join.Lts as lts
-use Rattle.sheet.proofs.count_at.Reads as count-at-reads
-use Rattle.sheet.proofs.length_at.Reads as length-at-reads
-use Rattle.sheet.proofs.offset_at.Reads as offset-at-reads
 
 abbrev Inv-loop : tie.InvT-loop
 Inv-loop s count start₀ i₀ start i = (count ≡ countAt s) × (i ≤ count) × (start ≡ startAt s i) × (start < 2 ^ 33) × (every (λ k. eqb (offsetAt s k) (startAt s k)) i ≡ true)
@@ -25,32 +21,25 @@ Inv-loop s count start₀ i₀ start i = (count ≡ countAt s) × (i ≤ count) 
 abbrev μ-loop : tie.MeasureT-loop
 μ-loop s count start₀ i₀ start i = count - i
 
--- src/lib.rt:79:9
 count-at-requires : tie.Need-count-at-requires Inv-loop μ-loop
 count-at-requires c κs = omega arith
 
--- src/lib.rt:80:21
 mul-start : tie.Need-mul-start Inv-loop μ-loop
 mul-start c = omega arith
 
--- src/lib.rt:80:21
 add-start : tie.Need-add-start Inv-loop μ-loop
 add-start c = omega arith
 
--- src/lib.rt:82:5
 loop-holds : tie.Need-loop-holds Inv-loop μ-loop
 unfolding every startAt
 loop-holds c = (c .count-at .ensures, omega arith, omega arith, omega arith, refl)
 
--- src/lib.rt:83:12
 offset-at-requires : tie.Need-offset-at-requires Inv-loop μ-loop
 offset-at-requires c κs = omega arith
 
--- src/lib.rt:83:12
 cast-if1 : tie.Need-cast-if1 Inv-loop μ-loop
 cast-if1 c = search needs
 
--- src/lib.rt:84:13
 returns : tie.Need-returns Inv-loop μ-loop
 unfolding question3
 returns c =
@@ -59,27 +48,21 @@ returns c =
     rw (every-not (λ k. eqb (offsetAt s k) (startAt s k)) (countAt s) i (omega arith)
     (ne-eqb _ _ (λ e. c .if1 .taken (c .before .offset-at .ensures ∙ e ∙ sym (c .before .before .before .loop .inv .2)))))
 
--- src/lib.rt:86:18
 length-at-requires : tie.Need-length-at-requires Inv-loop μ-loop
 length-at-requires c κs = omega arith
 
--- src/lib.rt:86:18
 cast-start : tie.Need-cast-start Inv-loop μ-loop
 cast-start c = search needs
 
--- src/lib.rt:86:9
 add-start-2 : tie.Need-add-start-2 Inv-loop μ-loop
 add-start-2 c = omega arith
 
--- src/lib.rt:87:9
 add-i : tie.Need-add-i Inv-loop μ-loop
 add-i c = omega arith
 
--- src/lib.rt:82:5
 loop-less : tie.Need-loop-less Inv-loop μ-loop
 loop-less c = omega arith
 
--- src/lib.rt:82:5
 loop-again : tie.Need-loop-again Inv-loop μ-loop
 unfolding startAt
 loop-again c =
@@ -92,7 +75,6 @@ loop-again c =
       every-more _ i (inv .4) (eq-eqb _ _ (sym (c .before .before .offset-at .ensures) ∙ c .before .if1 .left ∙ inv .2)),
     )
 
--- src/lib.rt:75:1
 returns-2 : tie.Need-returns-2 Inv-loop μ-loop
 unfolding question3
 returns-2 c =

@@ -1,5 +1,6 @@
+-- `sheet::check` meets its contract: questions 1 to 3 end it, or else the three parts of the sheet are its bodies. Assumes nothing.
 use Prim.Native.Nat.{ℕ}
-use mathlib.Core.Path.{_≡_, sym, ap, _∙_}
+use mathlib.Core.Path.{sym, ap, _∙_}
 use mathlib.Core.List.{List, []}
 use native.Mathlib.Omega.{arith}
 use borrow.Author.Needs.{needs}
@@ -12,14 +13,7 @@ use Rattle.sheet.specs.Lemmas.Parts.{split-length, given-parts}
 use Rattle.sheet.specs.Lemmas.Accepting.{count-iff, laid-iff, check-refused, check-laid}
 use Rattle.sheet.proofs.check.Statement.{statement}
 use Rattle.sheet.proofs.check.Tie as tie
-use Rattle.sheet.proofs.check.Reads as reads
-use Rattle.sheet.proofs.check.Lts as lts
-use Rattle.sheet.proofs.bodies_answer.Reads as bodies-answer-reads
-use Rattle.sheet.proofs.body.Reads as body-reads
-use Rattle.sheet.proofs.contents_answer.Reads as contents-answer-reads
-use Rattle.sheet.proofs.count_at.Reads as count-at-reads
 
--- src/lib.rt:390:9
 -- questions 1 to 3 were passed
 laid : (c : tie.Else1) → Laid (now (c .before .before .before .args .s))
 laid c = laid-iff _ [] .0 (sym (c .before .contents-answer .ensures) ∙ c .if1 .left) .0
@@ -27,34 +21,27 @@ laid c = laid-iff _ [] .0 (sym (c .before .contents-answer .ensures) ∙ c .if1 
 contents-answer-requires : tie.Need-contents-answer-requires
 contents-answer-requires c κs = search needs
 
--- src/lib.rt:392:9
 returns : tie.Need-returns
 returns c =
     c .before .contents-answer .ensures ∙ sym (check-refused _ (omega (arith, c .before .contents-answer .ensures, c .if1 .taken)))
 
--- src/lib.rt:394:19
 count-at-requires : tie.Need-count-at-requires
 count-at-requires c κs = omega (arith, laid c .whole .inside)
 
--- src/lib.rt:394:32
 body-requires : tie.Need-body-requires
 body-requires c κs = laid (c .before)
 
--- src/lib.rt:394:44
 body-requires-2 : tie.Need-body-requires-2
 body-requires-2 c κs = laid (c .before .before)
 
--- src/lib.rt:394:56
 body-requires-3 : tie.Need-body-requires-3
 body-requires-3 c κs = laid (c .before .before .before)
 
--- src/lib.rt:394:5
 bodies-answer-requires : tie.Need-bodies-answer-requires
 bodies-answer-requires c κs =
     let w = laid (c .before .before .before .before) .whole in
     rw (c .before .before .before .count-at .ensures) (count-iff _ .1 (w .some, w .few))
 
--- src/lib.rt:387:1
 returns-2 : tie.Need-returns-2
 returns-2 c =
     let b = c .before .before .before in

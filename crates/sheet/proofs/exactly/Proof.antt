@@ -1,14 +1,11 @@
+-- `sheet::exactly` meets its contract: numerators first, then denominators. Assumes nothing.
 use borrow.Author.Tests.{eq-eqb, ne-eqb}
 use Rattle.sheet.proofs.exactly.Statement.{statement}
 use Rattle.sheet.proofs.exactly.Tie as tie
-use Rattle.sheet.proofs.exactly.Reads as reads
-use Rattle.sheet.proofs.exactly.Lts as lts
 
--- src/lib.rt:258:1
 returns : tie.Need-returns
 returns c = rw (eq-eqb _ _ (c .before .before .if1 .taken))
 
--- src/lib.rt:258:1
 returns-2 : tie.Need-returns-2
 returns-2 c = rw (ne-eqb _ _ (c .if1 .left))
 

@@ -1,3 +1,4 @@
+-- `sheet::extent_at` meets its contract: a part below the count has the two numbers of its entry. Assumes nothing.
 use Prim.Native.Nat.{_<_, _≤_}
 use native.Mathlib.Omega.{arith}
 use borrow.Author.Needs.{needs}
@@ -6,38 +7,38 @@ use denote.Ref.{now}
 use Rattle.sheet.specs.Contents.{countAt}
 use Rattle.sheet.proofs.extent_at.Statement.{statement}
 use Rattle.sheet.proofs.extent_at.Tie as tie
-use Rattle.sheet.proofs.extent_at.Reads as reads
-use Rattle.sheet.proofs.extent_at.Lts as lts
-use Rattle.sheet.proofs.count_at.Reads as count-at-reads
-use Rattle.sheet.proofs.length_at.Reads as length-at-reads
-use Rattle.sheet.proofs.offset_at.Reads as offset-at-reads
 
--- src/lib.rt:126:12
 count-at-requires : tie.Need-count-at-requires
 count-at-requires c κs = search needs
 
--- src/lib.rt:128:21
 offset-at-requires : tie.Need-offset-at-requires
 offset-at-requires c κs = search needs
 
--- src/lib.rt:129:21
 length-at-requires : tie.Need-length-at-requires
 length-at-requires c κs = search needs
 
--- src/lib.rt:127:9
 returns : tie.Need-returns
 returns c =
     let a = c .before .before .before .before .before .args in
     let l : a .i < countAt (now (a .s)) = omega arith in
     rw (lt-ltb (a .i) (countAt (now (a .s))) l, c .before .offset-at .ensures, c .length-at .ensures)
 
--- src/lib.rt:122:1
+nowhere-requires : tie.Need-nowhere-requires
+nowhere-requires c κs = search needs
+
 returns-2 : tie.Need-returns-2
 returns-2 c =
-    let a = c .before .before .before .args in
+    let a = c .before .before .before .before .args in
     let l : countAt (now (a .s)) ≤ a .i = omega arith in
-    rw (le-ltb (a .i) (countAt (now (a .s))) l)
+    rw (le-ltb (a .i) (countAt (now (a .s))) l) (c .nowhere .ensures)
 
 pub extent-at-spec : {M : Type 1} → statement M
 extent-at-spec =
-    tie.close (tie.spec count-at-requires offset-at-requires length-at-requires returns returns-2)
+    tie.close
+    (tie.spec
+    count-at-requires
+    offset-at-requires
+    length-at-requires
+    returns
+    nowhere-requires
+    returns-2)

@@ -1,3 +1,4 @@
+-- `sheet::has_contents` meets its contract: each test of question 1 in its order; a number of parts that is taken is small, so the sum fits. Assumes nothing.
 use Prim.Native.Nat.{_≤_}
 use mathlib.Core.Path.{_≡_, sym, _∙_}
 use mathlib.Core.Bool.{true, false}
@@ -11,21 +12,14 @@ use Rattle.sheet.specs.Questions.{isCount, question1}
 use Rattle.sheet.specs.Lemmas.Accepting.{count-iff}
 use Rattle.sheet.proofs.has_contents.Statement.{statement}
 use Rattle.sheet.proofs.has_contents.Tie as tie
-use Rattle.sheet.proofs.has_contents.Reads as reads
-use Rattle.sheet.proofs.has_contents.Lts as lts
-use Rattle.sheet.proofs.count_at.Reads as count-at-reads
-use Rattle.sheet.proofs.is_count.Reads as is-count-reads
 
--- src/lib.rt:58:9
 returns : tie.Need-returns
 unfolding question1
 returns c = rw (lt-leb 2 (length (now (c .before .before .args .s))) (c .if1 .taken))
 
--- src/lib.rt:60:9
 count-at-requires : tie.Need-count-at-requires
 count-at-requires c κs = search needs
 
--- src/lib.rt:61:5
 is-count-requires : tie.Need-is-count-requires
 is-count-requires c κs = search needs
 
@@ -33,15 +27,12 @@ is-count-requires c κs = search needs
 few : (c : tie.Then2) → c .before .before .count-at .result ≤ 3
 few c = count-iff (c .before .before .count-at .result) .0 (sym (c .before .is-count .ensures) ∙ c .if2 .taken) .1
 
--- src/lib.rt:61:24
 mul-result : tie.Need-mul-result
 mul-result c = omega (arith, few c)
 
--- src/lib.rt:61:24
 add-result : tie.Need-add-result
 add-result c = omega (arith, few c)
 
--- src/lib.rt:54:1
 returns-2 : tie.Need-returns-2
 unfolding question1
 returns-2 c =
@@ -49,7 +40,6 @@ returns-2 c =
     let e : isCount (countAt s) ≡ true = rw (c .before .before .count-at .ensures) at (sym (c .before .is-count .ensures) ∙ c .if2 .taken) in
     rw (c .before .before .count-at .ensures, le-leb 2 (length s) (c .before .before .before .if1 .left), e)
 
--- src/lib.rt:54:1
 returns-3 : tie.Need-returns-3
 unfolding question1
 returns-3 c =

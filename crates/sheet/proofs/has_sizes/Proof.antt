@@ -1,3 +1,4 @@
+-- `sheet::has_sizes` meets its contract: a part that is not there is not asked about. Assumes nothing.
 use Prim.Native.Nat.{_*_}
 use native.Mathlib.Omega.{arith}
 use borrow.Author.Needs.{needs}
@@ -5,39 +6,31 @@ use borrow.Author.Tests.{le-leb, lt-leb, eq-eqb, ne-eqb}
 use Rattle.sheet.specs.Stages.{sizesRight}
 use Rattle.sheet.proofs.has_sizes.Statement.{statement}
 use Rattle.sheet.proofs.has_sizes.Tie as tie
-use Rattle.sheet.proofs.has_sizes.Reads as reads
-use Rattle.sheet.proofs.has_sizes.Lts as lts
 
--- src/lib.rt:329:9
 returns : tie.Need-returns
 unfolding sizesRight
 returns c =
     let k = c .before .args .count in
     rw (lt-leb 2 k (c .if1 .taken), lt-leb 3 k (omega arith))
 
--- src/lib.rt:331:20
 mul-if2 : tie.Need-mul-if2
 mul-if2 c = search needs
 
--- src/lib.rt:332:9
 returns-2 : tie.Need-returns-2
 unfolding sizesRight
 returns-2 c =
     let a = c .before .before .args in
     rw (le-leb 2 (a .count) (c .before .if1 .left), ne-eqb (a .schedule) (14 * a .n) (c .if2 .taken))
 
--- src/lib.rt:335:9
 returns-3 : tie.Need-returns-3
 unfolding sizesRight
 returns-3 c =
     let a = c .before .before .before .args in
     rw (le-leb 2 (a .count) (c .before .before .if1 .left), eq-eqb (a .schedule) (14 * a .n) (c .before .if2 .left), lt-leb 3 (a .count) (c .if3 .taken))
 
--- src/lib.rt:337:14
 mul-result : tie.Need-mul-result
 mul-result c = search needs
 
--- src/lib.rt:324:1
 returns-4 : tie.Need-returns-4
 unfolding sizesRight
 returns-4 c =

@@ -1,14 +1,11 @@
+-- `sheet::is_count` meets its contract: the two bounds in their order. Assumes nothing.
 use borrow.Author.Tests.{le-leb, lt-leb}
 use Rattle.sheet.proofs.is_count.Statement.{statement}
 use Rattle.sheet.proofs.is_count.Tie as tie
-use Rattle.sheet.proofs.is_count.Reads as reads
-use Rattle.sheet.proofs.is_count.Lts as lts
 
--- src/lib.rt:47:1
 returns : tie.Need-returns
 returns c = rw (le-leb 1 (c .before .args .k) (c .if1 .taken))
 
--- src/lib.rt:47:1
 returns-2 : tie.Need-returns-2
 returns-2 c = rw (lt-leb 1 (c .before .args .k) (c .if1 .left))
 

@@ -1,3 +1,4 @@
+-- `sheet::is_marks` meets its contract: the two halves of question 4 in their order. Assumes nothing.
 use Prim.Native.Nat.{_%_}
 use lib.ListN.{length}
 use borrow.Author.Tests.{eq-eqb, ne-eqb}
@@ -5,15 +6,11 @@ use denote.Ref.{now}
 use Rattle.sheet.specs.Questions.{question4}
 use Rattle.sheet.proofs.is_marks.Statement.{statement}
 use Rattle.sheet.proofs.is_marks.Tie as tie
-use Rattle.sheet.proofs.is_marks.Reads as reads
-use Rattle.sheet.proofs.is_marks.Lts as lts
 
--- src/lib.rt:199:1
 returns : tie.Need-returns
 unfolding question4
 returns c = rw (eq-eqb (length (now (c .before .args .s)) % 11) 0 (c .if1 .taken))
 
--- src/lib.rt:199:1
 returns-2 : tie.Need-returns-2
 unfolding question4
 returns-2 c = rw (ne-eqb (length (now (c .before .args .s)) % 11) 0 (c .if1 .left))

@@ -1,3 +1,4 @@
+-- `sheet::is_never` meets its contract: the eliminator first, then the two numbers. Assumes nothing.
 use mathlib.Core.Path.{_≡_, sym, _∙_}
 use borrow.Author.Needs.{needs}
 use borrow.Author.Tests.{eq-eqb, ne-eqb}
@@ -5,25 +6,16 @@ use denote.Ref.{now}
 use Rattle.elimination.specs.Records.{eliminatorAt, isNever}
 use Rattle.sheet.proofs.is_never.Statement.{statement}
 use Rattle.sheet.proofs.is_never.Tie as tie
-use Rattle.sheet.proofs.is_never.Reads as reads
-use Rattle.sheet.proofs.is_never.Lts as lts
-use Rattle.sheet.proofs.eliminator_at.Reads as eliminator-at-reads
-use Rattle.sheet.proofs.exactly.Reads as exactly-reads
-use Rattle.sheet.proofs.fraction_at.Reads as fraction-at-reads
 
--- src/lib.rt:270:5
 eliminator-at-requires : tie.Need-eliminator-at-requires
 eliminator-at-requires c κs = search needs
 
--- src/lib.rt:270:52
 fraction-at-requires : tie.Need-fraction-at-requires
 fraction-at-requires c κs = search needs
 
--- src/lib.rt:270:44
 exactly-requires : tie.Need-exactly-requires
 exactly-requires c κs = search needs
 
--- src/lib.rt:265:1
 returns : tie.Need-returns
 unfolding isNever
 returns c =
@@ -31,7 +23,6 @@ returns c =
     let e : eliminatorAt (now (a .schedule)) (a .m) ≡ 65535 = sym (c .before .before .before .eliminator-at .ensures) ∙ c .before .before .if1 .taken in
     rw (c .exactly .ensures, c .before .fraction-at .ensures, eq-eqb _ _ e)
 
--- src/lib.rt:265:1
 returns-2 : tie.Need-returns-2
 unfolding isNever
 returns-2 c =

@@ -1,5 +1,6 @@
+-- `sheet::is_schedule` meets its contract: while the loop runs, every record before m is right. Assumes nothing.
 use Prim.Native.Nat.{_-_, _≤_}
-use mathlib.Core.Path.{_≡_, refl, sym, _∙_}
+use mathlib.Core.Path.{_≡_, refl, sym}
 use mathlib.Core.Bool.{true}
 use native.Mathlib.Omega.{arith}
 use Rattle.sheet.specs.Asking.{every}
@@ -7,9 +8,6 @@ use Rattle.sheet.specs.Questions.{recordRight, question8}
 use Rattle.sheet.specs.Lemmas.Tests.{said-no, said-yes, every-more, every-not}
 use Rattle.sheet.proofs.is_schedule.Statement.{statement}
 use Rattle.sheet.proofs.is_schedule.Tie as tie
-use Rattle.sheet.proofs.is_schedule.Reads as reads
-use Rattle.sheet.proofs.is_schedule.Lts as lts
-use Rattle.sheet.proofs.record_right.Reads as record-right-reads
 
 abbrev Inv-loop : tie.InvT-loop
 Inv-loop marks schedule n m₀ m = (m ≤ n) × (every (recordRight marks schedule n) m ≡ true)
@@ -17,37 +15,30 @@ Inv-loop marks schedule n m₀ m = (m ≤ n) × (every (recordRight marks schedu
 abbrev μ-loop : tie.MeasureT-loop
 μ-loop marks schedule n m₀ m = n - m
 
--- src/lib.rt:304:5
 loop-holds : tie.Need-loop-holds Inv-loop μ-loop
 unfolding every
 loop-holds c = (omega arith, refl)
 
--- src/lib.rt:305:13
 record-right-requires : tie.Need-record-right-requires Inv-loop μ-loop
 record-right-requires c κs =
     let p = c .before .before .before .before .pre in
     (p .0, p .1, omega arith)
 
--- src/lib.rt:306:13
 returns : tie.Need-returns Inv-loop μ-loop
 unfolding question8
 returns c =
     sym (every-not _ _ (c .before .before .before .loop .m) (c .before .before .loop-test .taken) (said-no (c .before .record-right .ensures) (c .if1 .taken)))
 
--- src/lib.rt:308:9
 add-m : tie.Need-add-m Inv-loop μ-loop
 add-m c = omega arith
 
--- src/lib.rt:304:5
 loop-less : tie.Need-loop-less Inv-loop μ-loop
 loop-less c = omega arith
 
--- src/lib.rt:304:5
 loop-again : tie.Need-loop-again Inv-loop μ-loop
 loop-again c =
     (omega arith, every-more _ (c .before .before .before .loop .m) (c .before .before .before .loop .inv .1) (said-yes (c .before .record-right .ensures) (c .if1 .left)))
 
--- src/lib.rt:299:1
 returns-2 : tie.Need-returns-2 Inv-loop μ-loop
 unfolding question8
 returns-2 c =

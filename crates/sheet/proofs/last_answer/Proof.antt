@@ -1,3 +1,4 @@
+-- `sheet::last_answer` meets its contract: what was passed is kept in `sized` and `scheduled`, and the first 'no' gives the number. Assumes nothing.
 use Prim.Native.Nat.{_<_}
 use mathlib.Core.Path.{_≡_, sym, _∙_}
 use mathlib.Core.Bool.{true}
@@ -14,13 +15,7 @@ use Rattle.sheet.specs.Lemmas.Asked.{none-asked, asked-yes, asked-no}
 use Rattle.sheet.specs.Lemmas.Accepting.{absent, present, sizes-iff}
 use Rattle.sheet.proofs.last_answer.Statement.{statement}
 use Rattle.sheet.proofs.last_answer.Tie as tie
-use Rattle.sheet.proofs.last_answer.Reads as reads
-use Rattle.sheet.proofs.last_answer.Lts as lts
-use Rattle.sheet.proofs.has_sizes.Reads as has-sizes-reads
-use Rattle.index.proofs.is_index.Reads as is-index-reads
-use Rattle.sheet.proofs.is_schedule.Reads as is-schedule-reads
 
--- src/lib.rt:350:9
 -- question 7 was passed
 sized : (c : tie.Else1) → let a = c .before .before .before .before .before .args in
     sizesRight (a .count) (length (now (a .schedule))) (length (now (a .index))) (a .n) ≡ true
@@ -34,32 +29,26 @@ scheduled c = present (c .before .before .if2 .left) (said-yes (c .before .is-sc
 has-sizes-requires : tie.Need-has-sizes-requires
 has-sizes-requires c κs = search needs
 
--- src/lib.rt:351:9
 returns : tie.Need-returns
 returns c = sym (asked-no 7 _ (said-no (c .before .has-sizes .ensures) (c .if1 .taken)))
 
--- src/lib.rt:354:9
 returns-2 : tie.Need-returns-2
 returns-2 c =
     let few : c .before .before .before .before .before .before .args .count < 3 = omega arith in
     sym (asked-yes 7 _ (sized (c .before)) ∙ asked-yes 8 _ (absent _ (c .if2 .taken)) ∙ asked-yes 9 _ (absent _ few) ∙ none-asked)
 
--- src/lib.rt:356:9
 is-schedule-requires : tie.Need-is-schedule-requires
 is-schedule-requires c κs = (c .before .before .before .before .before .before .pre, omega (arith, sizes-iff _ _ _ _ .0 (sized (c .before)) .0 (c .if2 .left)))
 
--- src/lib.rt:357:9
 returns-3 : tie.Need-returns-3
 returns-3 c =
     let there = c .before .before .if2 .left in
     sym (asked-yes 7 _ (sized (c .before .before .before)) ∙ asked-no 8 _ (present there (said-no (c .before .is-schedule .ensures) (c .if3 .taken))))
 
--- src/lib.rt:360:9
 returns-4 : tie.Need-returns-4
 returns-4 c =
     sym (asked-yes 7 _ (sized (c .before .before .before .before)) ∙ asked-yes 8 _ (scheduled (c .before)) ∙ asked-yes 9 _ (absent _ (c .if4 .taken)) ∙ none-asked)
 
--- src/lib.rt:362:9
 is-index-requires : tie.Need-is-index-requires
 is-index-requires c κs =
     let sizes = sizes-iff _ _ _ _ .0 (sized (c .before .before .before .before)) in
@@ -70,18 +59,16 @@ is-index-requires c κs =
       index-long = sizes .1 (c .if4 .left);
     }
 
--- src/lib.rt:363:9
 returns-5 : tie.Need-returns-5
 returns-5 c =
     sym (asked-yes 7 _ (sized (c .before .before .before .before .before .before)) ∙ asked-yes 8 _ (scheduled (c .before .before .before))
-    ∙ asked-no 9 _ (present (c .before .before .if4 .left) (said-no (c .before .is-index .ensures) (c .if5 .taken))))
+    ∙ asked-yes 9 _ (present (c .before .before .if4 .left) (sym (c .before .is-index .ensures) ∙ c .if5 .taken))
+    ∙ none-asked)
 
--- src/lib.rt:346:1
 returns-6 : tie.Need-returns-6
 returns-6 c =
     sym (asked-yes 7 _ (sized (c .before .before .before .before .before .before)) ∙ asked-yes 8 _ (scheduled (c .before .before .before))
-    ∙ asked-yes 9 _ (present (c .before .before .if4 .left) (said-yes (c .before .is-index .ensures) (c .if5 .left)))
-    ∙ none-asked)
+    ∙ asked-no 9 _ (present (c .before .before .if4 .left) (sym (c .before .is-index .ensures) ∙ c .if5 .left)))
 
 pub last-answer-spec : {M : Type 1} → statement M
 last-answer-spec =

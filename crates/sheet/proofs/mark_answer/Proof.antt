@@ -1,3 +1,4 @@
+-- `sheet::mark_answer` meets its contract: `house_radius` refuses exactly the kinds that do not exist, so its answer tells question 5. Assumes nothing.
 use Prim.Native.Nat.{ℕ}
 use mathlib.Core.Path.{_≡_, refl, sym, ap, _∙_}
 use mathlib.Core.Bool.{Bool, true, false, cond}
@@ -9,13 +10,7 @@ use Rattle.marks.specs.Marks.{isKind, isRadius, houseRadius, houseOf}
 use Rattle.sheet.specs.Lemmas.Asked.{none-asked, asked-yes, asked-no}
 use Rattle.sheet.proofs.mark_answer.Statement.{statement}
 use Rattle.sheet.proofs.mark_answer.Tie as tie
-use Rattle.sheet.proofs.mark_answer.Reads as reads
-use Rattle.sheet.proofs.mark_answer.Lts as lts
-use Rattle.marks.proofs.house_radius.Reads as house-radius-reads
-use Rattle.marks.proofs.kind_at.Reads as kind-at-reads
-use Rattle.marks.proofs.written_radius_at.Reads as written-radius-at-reads
 
--- src/lib.rt:210:37
 -- `house_radius` refuses exactly the kinds that do not exist
 abbrev taken : House → Bool
 taken (Radius r) = true
@@ -36,15 +31,12 @@ told kind read e f g = taken-kind kind ∙ ap taken (ap houseOf (sym e) ∙ sym 
 kind-at-requires : tie.Need-kind-at-requires
 kind-at-requires c κs = search needs
 
--- src/lib.rt:210:9
 house-radius-requires : tie.Need-house-radius-requires
 house-radius-requires c κs = search needs
 
--- src/lib.rt:212:9
 enum-told : tie.Need-enum-told
 enum-told c = search needs
 
--- src/lib.rt:212:9
 returns : tie.Need-returns
 returns c =
     let b = c .before .before in

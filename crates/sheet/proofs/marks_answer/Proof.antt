@@ -1,3 +1,4 @@
+-- `sheet::marks_answer` meets its contract: while the loop runs, the marks before m answer 0. Assumes nothing.
 use Prim.Native.Nat.{_-_, _≤_}
 use mathlib.Core.Path.{_≡_, sym, _∙_}
 use native.Mathlib.Omega.{arith}
@@ -8,9 +9,6 @@ use Rattle.sheet.specs.Lemmas.Asked.{none-asked}
 use Rattle.sheet.specs.Lemmas.Accepting.{marks-more, marks-stop}
 use Rattle.sheet.proofs.marks_answer.Statement.{statement}
 use Rattle.sheet.proofs.marks_answer.Tie as tie
-use Rattle.sheet.proofs.marks_answer.Reads as reads
-use Rattle.sheet.proofs.marks_answer.Lts as lts
-use Rattle.sheet.proofs.mark_answer.Reads as mark-answer-reads
 
 abbrev Inv-loop : tie.InvT-loop
 Inv-loop s n m₀ m = (m ≤ n) × (answer (markQuestions s m) ≡ 0)
@@ -18,16 +16,13 @@ Inv-loop s n m₀ m = (m ≤ n) × (answer (markQuestions s m) ≡ 0)
 abbrev μ-loop : tie.MeasureT-loop
 μ-loop s n m₀ m = n - m
 
--- src/lib.rt:226:5
 loop-holds : tie.Need-loop-holds Inv-loop μ-loop
 unfolding markQuestions
 loop-holds c = (omega arith, none-asked)
 
--- src/lib.rt:227:13
 mark-answer-requires : tie.Need-mark-answer-requires Inv-loop μ-loop
 mark-answer-requires c κs = omega arith
 
--- src/lib.rt:229:13
 returns : tie.Need-returns Inv-loop μ-loop
 returns c =
     let a = c .before .before .before .before .before .args in
@@ -35,20 +30,16 @@ returns c =
     ∙ sym (marks-stop (now (a .s)) (c .before .before .before .loop .m) (a .n) (omega arith) (c .before .before .before .loop .inv .1)
     (omega (arith, c .before .mark-answer .ensures, c .if1 .taken)))
 
--- src/lib.rt:231:9
 add-m : tie.Need-add-m Inv-loop μ-loop
 add-m c = omega arith
 
--- src/lib.rt:226:5
 loop-less : tie.Need-loop-less Inv-loop μ-loop
 loop-less c = omega arith
 
--- src/lib.rt:226:5
 loop-again : tie.Need-loop-again Inv-loop μ-loop
 loop-again c =
     (omega arith, marks-more _ (c .before .before .before .loop .m) (c .before .before .before .loop .inv .1) (sym (c .before .mark-answer .ensures) ∙ c .if1 .left))
 
--- src/lib.rt:221:1
 returns-2 : tie.Need-returns-2 Inv-loop μ-loop
 returns-2 c =
     let q : c .before .loop .m ≡ c .before .before .before .args .n = omega arith in

@@ -1,3 +1,4 @@
+-- `sheet::names_right` meets its contract: each test of the definition in its order, at the eliminator that was read. Assumes nothing.
 use native.Mathlib.Omega.{arith}
 use borrow.Author.Needs.{needs}
 use borrow.Author.Tests.{lt-ltb, le-ltb}
@@ -5,49 +6,34 @@ use Rattle.sheet.specs.Questions.{namesRight}
 use Rattle.sheet.specs.Lemmas.Tests.{said-no, said-yes}
 use Rattle.sheet.proofs.names_right.Statement.{statement}
 use Rattle.sheet.proofs.names_right.Tie as tie
-use Rattle.sheet.proofs.names_right.Reads as reads
-use Rattle.sheet.proofs.names_right.Lts as lts
-use Rattle.marks.proofs.outranks.Reads as outranks-reads
-use Rattle.marks.proofs.touching.Reads as touching-reads
-use Rattle.sheet.proofs.eliminator_at.Reads as eliminator-at-reads
-use Rattle.sheet.proofs.exactly.Reads as exactly-reads
-use Rattle.sheet.proofs.fraction_at.Reads as fraction-at-reads
 
--- src/lib.rt:278:9
 eliminator-at-requires : tie.Need-eliminator-at-requires
 eliminator-at-requires c κs = search needs
 
--- src/lib.rt:280:9
 returns : tie.Need-returns
 unfolding namesRight
 returns c = rw (← c .before .eliminator-at .ensures, le-ltb _ _ (c .if1 .taken))
 
--- src/lib.rt:282:9
 outranks-requires : tie.Need-outranks-requires
 outranks-requires c κs = search needs
 
--- src/lib.rt:283:9
 returns-2 : tie.Need-returns-2
 unfolding namesRight
 returns-2 c =
     rw (← c .before .before .before .eliminator-at .ensures, lt-ltb _ _ (c .before .before .if1 .left), said-no (c .before .outranks .ensures) (c .if2 .taken))
 
--- src/lib.rt:285:13
 fraction-at-requires : tie.Need-fraction-at-requires
 fraction-at-requires c κs = search needs
 
--- src/lib.rt:285:39
 touching-requires : tie.Need-touching-requires
 touching-requires c κs =
     let p = c .before .before .before .before .before .before .before .pre in
     let inside = c .before .before .before .if1 .left in
     ((omega arith, omega arith), (p .0 .each _ inside .used, p .0 .each _ (p .2) .used))
 
--- src/lib.rt:285:5
 exactly-requires : tie.Need-exactly-requires
 exactly-requires c κs = search needs
 
--- src/lib.rt:274:1
 returns-3 : tie.Need-returns-3
 unfolding namesRight
 returns-3 c =

@@ -1,44 +1,30 @@
-use Prim.Native.Nat.{_≤_}
-use mathlib.Core.Path.{sym, _∙_}
-use native.Mathlib.Omega.{arith}
+-- `sheet::place_of` meets its contract: the code picks the place. Assumes nothing.
 use borrow.Author.Needs.{needs}
+use borrow.Author.Tests.{ne-eqb}
 use Rattle.sheet.specs.Layout.{placeOf}
-use Rattle.sheet.specs.Lemmas.Accepting.{count-iff}
 use Rattle.sheet.proofs.place_of.Statement.{statement}
 use Rattle.sheet.proofs.place_of.Tie as tie
-use Rattle.sheet.proofs.place_of.Reads as reads
-use Rattle.sheet.proofs.place_of.Lts as lts
-use Rattle.sheet.proofs.is_count.Reads as is-count-reads
 
--- src/lib.rt:159:8
-is-count-requires : tie.Need-is-count-requires
-is-count-requires c κs = search needs
+nowhere-requires : tie.Need-nowhere-requires
+nowhere-requires c κs = search needs
 
-code-inside : (c : tie.After-parts) → (1 ≤ c .before .before .before .args .code) × (c .before .before .before .args .code ≤ 3)
-code-inside c = count-iff (c .before .before .before .args .code) .0 (sym (c .before .before .is-count .ensures) ∙ c .before .if1 .taken)
-
--- src/lib.rt:161:17
-sub-i : tie.Need-sub-i
-sub-i c = code-inside c .0
-
--- src/lib.rt:162:16
-mul-result : tie.Need-mul-result
-mul-result c = search needs
-
--- src/lib.rt:162:16
-array-copy-out-result : tie.Need-array-copy-out-result
-array-copy-out-result c = omega (arith, code-inside c)
-
--- src/lib.rt:162:9
 returns : tie.Need-returns
 unfolding placeOf
-returns c = rw (sym (c .before .before .before .is-count .ensures) ∙ c .before .before .if1 .taken)
+returns c = rw (c .before .match .keys1)
 
--- src/lib.rt:156:1
 returns-2 : tie.Need-returns-2
 unfolding placeOf
-returns-2 c = rw (sym (c .before .is-count .ensures) ∙ c .if1 .left)
+returns-2 c = rw (c .before .match .keys2)
+
+returns-3 : tie.Need-returns-3
+unfolding placeOf
+returns-3 c = rw (c .before .match .keys3)
+
+returns-4 : tie.Need-returns-4
+unfolding placeOf
+returns-4 c =
+    let none = c .before .match .rest in
+    rw (ne-eqb _ 1 (none .0 .0 .1), ne-eqb _ 2 (none .0 .1), ne-eqb _ 3 (none .1)) (c .nowhere .ensures)
 
 pub place-of-spec : {M : Type 1} → statement M
-place-of-spec =
-    tie.close (tie.spec is-count-requires sub-i mul-result array-copy-out-result returns returns-2)
+place-of-spec = tie.close (tie.spec nowhere-requires returns returns-2 returns-3 returns-4)

@@ -1,29 +1,22 @@
+-- `sheet::put_bodies` meets its contract: three runs of stores, each where the last ended, are one. Assumes nothing.
 use borrow.Author.Needs.{needs}
 use denote.Ref.{now}
 use Rattle.sheet.specs.Lemmas.Writing.{bodies-sets}
 use Rattle.sheet.proofs.put_bodies.Statement.{statement}
 use Rattle.sheet.proofs.put_bodies.Tie as tie
-use Rattle.sheet.proofs.put_bodies.Reads as reads
-use Rattle.sheet.proofs.put_bodies.Lts as lts
-use Rattle.sheet.proofs.put.Reads as put-reads
 
--- src/lib.rt:465:9
 put-requires : tie.Need-put-requires
 put-requires c κs = search needs
 
--- src/lib.rt:466:9
 put-requires-2 : tie.Need-put-requires-2
 put-requires-2 c κs = search needs
 
--- src/lib.rt:467:5
 put-requires-3 : tie.Need-put-requires-3
 put-requires-3 c κs = search needs
 
--- src/lib.rt:461:1
 same-length : tie.Need-same-length
 same-length c = search needs
 
--- src/lib.rt:461:1
 returns : tie.Need-returns
 returns c =
     let b = c .before .before .before .before .before .before in

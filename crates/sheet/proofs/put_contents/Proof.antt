@@ -1,3 +1,4 @@
+-- `sheet::put_contents` meets its contract: what is left of the entries makes the whole, whatever was written so far. Assumes nothing.
 use Prim.Native.Nat.{suc, _+_, _-_, _*_, _≤_}
 use mathlib.Core.Path.{_≡_, refl, _∙_}
 use mathlib.Core.List.{[]}
@@ -9,10 +10,6 @@ use Rattle.sheet.specs.Lemmas.Writing.{entries-turn, contents-sets}
 use Rattle.sheet.specs.Assembled.{entriesOf}
 use Rattle.sheet.proofs.put_contents.Statement.{statement}
 use Rattle.sheet.proofs.put_contents.Tie as tie
-use Rattle.sheet.proofs.put_contents.Reads as reads
-use Rattle.sheet.proofs.put_contents.Lts as lts
-use Rattle.numbers.proofs.write.Reads as write-reads
-use Rattle.sheet.proofs.put_entry.Reads as put-entry-reads
 
 abbrev Inv-loop : tie.InvT-loop
 Inv-loop out₀ sizes count start offset₀ i₀ out offset i =
@@ -22,49 +19,38 @@ Inv-loop out₀ sizes count start offset₀ i₀ out offset i =
 abbrev μ-loop : tie.MeasureT-loop
 μ-loop out₀ sizes count start offset₀ i₀ out offset i = count - i
 
--- src/lib.rt:437:5
 write-requires : tie.Need-write-requires Inv-loop μ-loop
 write-requires c κs = omega arith
 
--- src/lib.rt:438:17
 mul-start : tie.Need-mul-start Inv-loop μ-loop
 mul-start c = omega arith
 
--- src/lib.rt:438:17
 add-start : tie.Need-add-start Inv-loop μ-loop
 add-start c = omega arith
 
--- src/lib.rt:441:5
 loop-holds : tie.Need-loop-holds Inv-loop μ-loop
 loop-holds c = (omega arith, refl, omega arith, refl)
 
--- src/lib.rt:442:20
 mul-size : tie.Need-mul-size Inv-loop μ-loop
 mul-size c = omega arith
 
--- src/lib.rt:442:20
 shared-slice-read-size : tie.Need-shared-slice-read-size Inv-loop μ-loop
 shared-slice-read-size c = omega arith
 
--- src/lib.rt:443:9
 put-entry-requires : tie.Need-put-entry-requires Inv-loop μ-loop
 put-entry-requires c κs = omega arith
 
--- src/lib.rt:444:9
 add-offset : tie.Need-add-offset Inv-loop μ-loop
 add-offset c =
     let b = c .before .before .before .before .before .before in
-    omega (arith, b .before .before .before .before .before .before .before .pre .2 (b .loop .i))
+    omega (arith, b .before .before .before .before .before .before .before .pre .1 (b .loop .i))
 
--- src/lib.rt:445:9
 add-i : tie.Need-add-i Inv-loop μ-loop
 add-i c = omega arith
 
--- src/lib.rt:441:5
 loop-less : tie.Need-loop-less Inv-loop μ-loop
 loop-less c = omega arith
 
--- src/lib.rt:441:5
 loop-again : tie.Need-loop-again Inv-loop μ-loop
 loop-again c =
     let b = c .before .before .before .before .before .before in
@@ -72,15 +58,13 @@ loop-again c =
     let l = b .loop in (
       omega arith,
       c .before .before .put-entry .kept .0 ∙ l .inv .1,
-      omega (arith, start .pre .2 (l .i)),
+      omega (arith, start .pre .1 (l .i)),
       entries-turn (l .out) (l .i) (l .offset) (now (start .args .sizes)) (omega arith) (c .before .before .put-entry .ensures) ∙ l .inv .3,
     )
 
--- src/lib.rt:432:1
 same-length : tie.Need-same-length Inv-loop μ-loop
 same-length c = c .before .loop .inv .1 ∙ c .before .before .before .before .write .kept .0
 
--- src/lib.rt:432:1
 returns : tie.Need-returns Inv-loop μ-loop
 unfolding entriesOf
 returns c =

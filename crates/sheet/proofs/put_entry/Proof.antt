@@ -1,50 +1,38 @@
+-- `sheet::put_entry` meets its contract: three runs of stores, each where the last ended, are one. Assumes nothing.
 use Prim.Native.Nat.{_+_, _*_}
 use borrow.Author.Needs.{needs}
 use denote.Ref.{now}
 use Rattle.sheet.specs.Lemmas.Writing.{entry-sets}
 use Rattle.sheet.proofs.put_entry.Statement.{statement}
 use Rattle.sheet.proofs.put_entry.Tie as tie
-use Rattle.sheet.proofs.put_entry.Reads as reads
-use Rattle.sheet.proofs.put_entry.Lts as lts
-use Rattle.numbers.proofs.write.Reads as write-reads
 
--- src/lib.rt:425:14
 mul-at : tie.Need-mul-at
 mul-at c = search needs
 
--- src/lib.rt:425:14
 add-at : tie.Need-add-at
 add-at c = search needs
 
--- src/lib.rt:426:33
 add-write : tie.Need-add-write
 add-write c = search needs
 
--- src/lib.rt:426:5
 write-requires : tie.Need-write-requires
 write-requires c κs = search needs
 
--- src/lib.rt:427:25
 add-write-2 : tie.Need-add-write-2
 add-write-2 c = search needs
 
--- src/lib.rt:427:5
 write-requires-2 : tie.Need-write-requires-2
 write-requires-2 c κs = search needs
 
--- src/lib.rt:428:25
 add-write-3 : tie.Need-add-write-3
 add-write-3 c = search needs
 
--- src/lib.rt:428:5
 write-requires-3 : tie.Need-write-requires-3
 write-requires-3 c κs = search needs
 
--- src/lib.rt:421:1
 same-length : tie.Need-same-length
 same-length c = search needs
 
--- src/lib.rt:421:1
 returns : tie.Need-returns
 returns c =
     let b = c .before .before .before .before .before .before in

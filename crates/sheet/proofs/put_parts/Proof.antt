@@ -1,3 +1,4 @@
+-- `sheet::put_parts` meets its contract: the contents end where the first body starts. Assumes nothing.
 use mathlib.Core.Path.{_≡_, sym}
 use mathlib.Core.List.{[], _∷_}
 use native.Mathlib.Omega.{arith}
@@ -8,12 +9,7 @@ use denote.Ref.{now}
 use Rattle.sheet.specs.Lemmas.Writing.{three-below, take-below, parts-sets}
 use Rattle.sheet.proofs.put_parts.Statement.{statement}
 use Rattle.sheet.proofs.put_parts.Tie as tie
-use Rattle.sheet.proofs.put_parts.Reads as reads
-use Rattle.sheet.proofs.put_parts.Lts as lts
-use Rattle.sheet.proofs.put_bodies.Reads as put-bodies-reads
-use Rattle.sheet.proofs.put_contents.Reads as put-contents-reads
 
--- src/lib.rt:477:35
 -- as many sizes as parts
 counted : (c : tie.Start) → let a = c .args in
     length (take (a .count) (length (now (a .body1)) ∷ length (now (a .body2)) ∷ length (now (a .body3)) ∷ [])) ≡ a .count
@@ -22,27 +18,22 @@ counted c = length-take-le (c .args .count) _ (c .pre .0 .0)
 array-share-prefix-sizes : tie.Need-array-share-prefix-sizes
 array-share-prefix-sizes c = search needs
 
--- src/lib.rt:477:35
 slice-aggregate-put-contents : tie.Need-slice-aggregate-put-contents
 slice-aggregate-put-contents c = sym (counted (c .before .before .before .before .before .before))
 
--- src/lib.rt:477:9
 put-contents-requires : tie.Need-put-contents-requires
 put-contents-requires c κs =
     let a = c .before .before .before .before .before .before .args in
     let e = counted (c .before .before .before .before .before .before) in
     let small = three-below (length (now (a .body1))) (length (now (a .body2))) (length (now (a .body3))) 4294967296 (omega arith) (omega arith) (omega arith) in
-    (omega arith, omega arith, take-below (a .count) _ 4294967296 small)
+    ((omega arith, omega arith), take-below (a .count) _ 4294967296 small)
 
--- src/lib.rt:478:5
 put-bodies-requires : tie.Need-put-bodies-requires
 put-bodies-requires c κs = omega (arith, counted (c .before .before .before .before .before .before .before .before .before .before), c .before .before .before .put-contents .ensures .0, c .before .before .before .put-contents .kept .0)
 
--- src/lib.rt:471:1
 same-length : tie.Need-same-length
 same-length c = search needs
 
--- src/lib.rt:471:1
 returns : tie.Need-returns
 returns c = parts-sets (now (c .before .before .before .before .before .before .before .before .before .before .before .before .before .args .out)) _ _ (c .before .before .before .before .before .before .put-contents .ensures) (c .before .before .put-bodies .ensures)
 

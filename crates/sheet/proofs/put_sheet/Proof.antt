@@ -1,5 +1,6 @@
+-- `sheet::put_sheet` meets its contract: a body that is no part is no bytes, so the size that is worked out is the sheet's. Assumes nothing.
 use Prim.Native.Nat.{_+_, _*_}
-use mathlib.Core.Path.{_≡_, sym, _∙_}
+use mathlib.Core.Path.{_≡_, sym}
 use native.Mathlib.Omega.{arith}
 use lib.ListN.{length}
 use borrow.Author.Needs.{needs}
@@ -11,12 +12,7 @@ use Rattle.sheet.specs.Lemmas.Writing.{kept-join, kept-length}
 use Rattle.sheet.specs.Lemmas.Assembling.{written, no-room}
 use Rattle.sheet.proofs.put_sheet.Statement.{statement}
 use Rattle.sheet.proofs.put_sheet.Tie as tie
-use Rattle.sheet.proofs.put_sheet.Reads as reads
-use Rattle.sheet.proofs.put_sheet.Lts as lts
-use Rattle.sheet.proofs.kept.Reads as kept-reads
-use Rattle.sheet.proofs.put_parts.Reads as put-parts-reads
 
--- src/lib.rt:486:9
 -- the size that is worked out is the sheet's
 sized : (c : tie.After-kept2) → let a = c .before .before .before .before .before .before .args in
     length (join (given (a .count) (now (a .body1)) (now (a .body2)) (now (a .body3))))
@@ -28,47 +24,36 @@ sized c =
 kept-requires : tie.Need-kept-requires
 kept-requires c κs = search needs
 
--- src/lib.rt:487:9
 kept-requires-2 : tie.Need-kept-requires-2
 kept-requires-2 c κs = search needs
 
--- src/lib.rt:488:16
 mul-size : tie.Need-mul-size
 mul-size c = omega (arith, sized c)
 
--- src/lib.rt:488:16
 add-size : tie.Need-add-size
 add-size c = omega (arith, sized c)
 
--- src/lib.rt:488:49
 add-size-2 : tie.Need-add-size-2
 add-size-2 c = search needs
 
--- src/lib.rt:488:34
 add-size-3 : tie.Need-add-size-3
 add-size-3 c = omega (arith, sized c)
 
--- src/lib.rt:488:16
 add-size-4 : tie.Need-add-size-4
 add-size-4 c = omega (arith, sized c)
 
--- src/lib.rt:490:9
 returns : tie.Need-returns
 returns c = no-room _ _ (rw (← sized (c .before)) at (c .if1 .taken))
 
--- src/lib.rt:492:5
 put-parts-requires : tie.Need-put-parts-requires
 put-parts-requires c κs = ((count-iff (c .before .before .before .before .before .before .before .before .args .count) .0 (c .before .before .before .before .before .before .before .before .pre .0) .1, omega (arith, sized (c .before .before))), omega (arith, sized (c .before .before)))
 
--- src/lib.rt:493:24
 cast-t20 : tie.Need-cast-t20
 cast-t20 c = omega (arith, sized (c .before .before .before .before .before), c .before .before .before .before .before .before .before .before .before .before .before .pre .1 .size-fits)
 
--- src/lib.rt:482:1
 same-length : tie.Need-same-length
 same-length c = search needs
 
--- src/lib.rt:482:1
 returns-2 : tie.Need-returns-2
 returns-2 c =
     let b = c .before .before .before .before .before in

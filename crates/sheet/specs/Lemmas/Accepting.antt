@@ -1,5 +1,5 @@
 -- Each question's test decides its statement, so the answer 0 is what Accepted says.
-use Prim.Native.Nat.{ℕ, zero, suc, _+_, _*_, _/_, _%_, _<_, _≤_}
+use Prim.Native.Nat.{ℕ, zero, suc, _+_, _*_, _%_, _<_, _≤_}
 use mathlib.Core.Path.{_≡_, refl, ap, _∙_}
 use mathlib.Core.Bool.{Bool, true, false, false≢true}
 use mathlib.Core.List.{List, [], _∷_, _++_}
@@ -13,7 +13,7 @@ use borrow.Author.Tests.{ltb-true, leb-true, leb-false, eqb-true, lt-ltb, le-leb
 use Rattle.marks.specs.Marks.{kindAt, radiusAt, isKind, isRadius}
 use Rattle.marks.specs.Laws.{used-bound}
 use Rattle.index.specs.Index.{isIndex}
-use Rattle.sheet.specs.Contents.{countAt, codeAt, offsetAt, startAt, contentsSize, split, join, marksPart, schedulePart, indexPart}
+use Rattle.sheet.specs.Contents.{countAt, codeAt, offsetAt, startAt, split, join, marksPart, schedulePart, indexPart}
 use Rattle.sheet.specs.Asking.{Question, _asks_, answer, every, ifThere}
 use Rattle.sheet.specs.Questions.{isCount, question1, question2, question3, question4, markCount, markQuestions, question7, question8, question9, bodyQuestions, checkQuestions, check, given, assembleQuestions}
 use Rattle.sheet.specs.Stages.{contentsQuestions, oneMark, sizesRight, lastQuestions, check-stages, body-stages}

@@ -1,17 +1,17 @@
 -- What putting together answers, from the questions in the order in which they are asked.
 use Prim.Native.Nat.{ℕ, _≤_, _<_}
-use mathlib.Core.Path.{_≡_, refl, sym, ap, _∙_}
+use mathlib.Core.Path.{_≡_, refl, sym, _∙_}
 use mathlib.Core.Bool.{Bool, true, false, cond}
-use mathlib.Core.List.{List, [], _∷_, _++_}
+use mathlib.Core.List.{List}
 use native.Mathlib.Omega.{arith}
-use lib.Dec.{leb, eqb}
+use lib.Dec.{leb}
 use lib.ListN.{length}
 use lib.Seq.{sets}
 use borrow.Author.Tests.{le-leb, lt-leb, ne-eqb}
 use Rattle.sheet.specs.declared.Assembled.{Assembled}
 use Rattle.sheet.specs.declared.Assembled.the-variants.{Refused, Written}
 use Rattle.sheet.specs.Contents.{join, Writable}
-use Rattle.sheet.specs.Asking.{_asks_, answer}
+use Rattle.sheet.specs.Asking.{answer}
 use Rattle.sheet.specs.Questions.{isCount, bodyQuestions, given, assembleQuestions}
 use Rattle.sheet.specs.Assembled.{numberOf, lengthOf, over, Placing, Assembling}
 use Rattle.sheet.specs.Lemmas.Asked.{bodies-numbered, none-asked, asked-yes, asked-no, append-yes, append-no}

@@ -1,17 +1,17 @@
 -- The bytes at the place that the contents give a body are that body, and the parts of an opened sheet are its bodies.
-use Prim.Native.Nat.{ℕ, zero, suc, _-_, _<_, _≤_}
-use mathlib.Core.Path.{_≡_, refl, sym, _∙_}
+use Prim.Native.Nat.{ℕ, zero, suc, _≤_}
+use mathlib.Core.Path.{_≡_, refl, sym, ap, _∙_}
 use mathlib.Core.List.{List, [], _∷_}
-use mathlib.Core.Bool.{Bool, true, false, cond, and-false}
+use mathlib.Core.Bool.{Bool, true, false, cond}
 use native.Mathlib.Decide.{decLt}
-use lib.Dec.{leb, eqb}
+use lib.Dec.{eqb}
 use native.Mathlib.Omega.{arith}
 use lib.ListN.{length, getD, List·getD-eq-default}
-use borrow.Author.Tests.{lt-ltb, le-ltb, le-leb, lt-leb, eqb-true, eqb-false, eq-eqb, ne-eqb}
+use borrow.Author.Tests.{lt-ltb, le-ltb, le-leb, eqb-true, eqb-false, eq-eqb, ne-eqb}
 use Rattle.sheet.specs.declared.Layout.{Layout}
 use Rattle.sheet.specs.Contents.{countAt, split}
 use Rattle.sheet.specs.Accepted.{Laid}
-use Rattle.sheet.specs.Questions.{isCount, check}
+use Rattle.sheet.specs.Questions.{check}
 use Rattle.sheet.specs.Layout.{nowhere, extentAt, layoutOf, noParts, opened, placeOf, cutOf, openParts, partOf}
 use Rattle.sheet.specs.Lemmas.Parts.{split-length, split-at}
 use Rattle.sheet.specs.Lemmas.Accepting.{accepted-iff}
@@ -46,17 +46,20 @@ place-zero : (l : Layout) → placeOf l 0 ≡ nowhere
 unfolding placeOf
 place-zero l = refl
 
--- no part of a layout that has none
+-- a code from 4 on is no part's
+place-past : (l : Layout) (i : ℕ) → placeOf l (suc (suc (suc (suc i)))) ≡ nowhere
+unfolding placeOf
+place-past l i =
+    let k = suc (suc (suc (suc i))) in
+    rw (ne-eqb k 1 (omega arith), ne-eqb k 2 (omega arith), ne-eqb k 3 (omega arith))
+
 place-none : (code : ℕ) → placeOf noParts code ≡ nowhere
 unfolding placeOf
-place-none code = go (isCount code) (code - 1)
-  where
-    go : (b : Bool) (i : ℕ) → cond b (getD (nowhere ∷ nowhere ∷ nowhere ∷ []) i nowhere) nowhere ≡ nowhere
-    go true zero = refl
-    go true (suc zero) = refl
-    go true (suc (suc zero)) = refl
-    go true (suc (suc (suc i))) = refl
-    go false i = refl
+place-none zero = refl
+place-none (suc zero) = refl
+place-none (suc (suc zero)) = refl
+place-none (suc (suc (suc zero))) = refl
+place-none (suc (suc (suc (suc i)))) = place-past noParts i
 
 -- the part of code i + 1 is body i, and there are at most three
 place-cut : (s : List ℕ) → Laid s → (i : ℕ) → cutOf s (placeOf (layoutOf s) (suc i)) ≡ getD (split s) i []
@@ -65,9 +68,8 @@ place-cut s laid zero = cut-body s laid 0
 place-cut s laid (suc zero) = cut-body s laid 1
 place-cut s laid (suc (suc zero)) = cut-body s laid 2
 place-cut s laid (suc (suc (suc i))) =
-    let k = suc (suc (suc (suc i))) in
-    let past : isCount k ≡ false = rw (lt-leb k 3 (omega arith)) (and-false (leb 1 k)) in
-    rw past (cut-nowhere s ∙ sym (List·getD-eq-default (split s) [] (omega (arith, split-length s, laid .whole .few))))
+    ap (cutOf s) (place-past (layoutOf s) i)
+    ∙ (cut-nowhere s ∙ sym (List·getD-eq-default (split s) [] (omega (arith, split-length s, laid .whole .few))))
 
 pub opened-part : (s : List ℕ) (code : ℕ) → cutOf s (placeOf (opened s) code) ≡ partOf s code
 unfolding partOf openParts

@@ -4,7 +4,7 @@ use mathlib.Core.Path.{_≡_, refl, sym, ap, _∙_}
 use mathlib.Core.List.{List, [], _∷_, _++_, map, append-assoc}
 use native.Mathlib.Omega.{arith}
 use lib.ListN.{length, getD, take, length-append, length-map}
-use Rattle.numbers.specs.Little.{leAt, leBytes}
+use Rattle.numbers.specs.Little.{leBytes}
 use Rattle.numbers.specs.Laws.{le-length, read-back}
 use Rattle.sheet.specs.Contents.{codeAt, offsetAt, lengthAt, contentsSize, entries, chain, join}
 use Rattle.sheet.specs.Assembled.{entriesOf, contentsOf}

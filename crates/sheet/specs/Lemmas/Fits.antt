@@ -1,5 +1,5 @@
 -- Bodies that pass questions 4 to 9 are small: at most 45,056 bytes, and 14 and 2 more for every 11.
-use Prim.Native.Nat.{ℕ, _+_, _*_, _<_, _≤_}
+use Prim.Native.Nat.{ℕ, _*_, _≤_}
 use mathlib.Core.List.{List, [], _∷_}
 use native.Mathlib.Omega.{arith}
 use lib.ListN.{length, length-append}

@@ -5,10 +5,10 @@ use mathlib.Core.List.{List, [], _++_, map}
 use native.Mathlib.Omega.{arith}
 use lib.ListN.{length, getD, take, drop, length-drop, length-map, drop-of-length-le, take-append-drop}
 use lib.Seq.{drop-append-add, drop-drop, drop-length, length-take-le, take-add, take-length, ext-getD}
-use Rattle.numbers.specs.Little.{leAt, leBytes, Bytes}
+use Rattle.numbers.specs.Little.{leBytes, Bytes}
 use Rattle.numbers.specs.Laws.{le-length, read-back, write-back}
-use Rattle.sheet.specs.Contents.{countAt, codeAt, offsetAt, lengthAt, contentsSize, startAt, bodyAt, split, entries, chain, join, Writable}
-use Rattle.sheet.specs.Accepted.{Whole, Laid}
+use Rattle.sheet.specs.Contents.{countAt, offsetAt, lengthAt, contentsSize, startAt, bodyAt, split, entries, chain, join, Writable}
+use Rattle.sheet.specs.Accepted.{Laid}
 use Rattle.sheet.specs.Lemmas.Parts.{split-length, split-at, split-from, chain-more, chain-at}
 use Rattle.sheet.specs.Lemmas.Entries.{Entry, entry-at, contents-length, join-contents, join-length}
 

@@ -3,7 +3,7 @@ use mathlib.Core.Path.{sym, ap, _∙_}
 use borrow.Author.Needs.{needs}
 use Rattle.view.proofs.scale_of.Statement.{statement}
 use Rattle.view.proofs.scale_of.Tie as tie
-use Rattle.view.specs.Zoom.{stopScale, scaleOf}
+use Rattle.view.specs.Zoom.{scaleOf}
 use Rattle.view.specs.ZoomLaws.{stop-shifted, stop-refused}
 
 enum-known-zoom : tie.Need-enum-known-zoom

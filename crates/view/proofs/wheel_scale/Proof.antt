@@ -1,6 +1,6 @@
 -- `view::wheel_scale`: in range the product is exact; where a test fails, no k is 64 times w. Assumes nothing.
 use mathlib.Core.Path.{_≡_, sym, subst}
-use mathlib.Core.Bool.{Bool, true, false}
+use mathlib.Core.Bool.{Bool, false}
 use lib.Dec.{T}
 use lib.Ieee.{ofBits}
 use denote.Floats as F

@@ -1,0 +1,9 @@
+-- The lemmas behind the code, in the order in which they build on one another.
+pub mod Blocks
+pub mod Frame
+pub mod Numbers
+pub mod Reorder
+pub mod Best
+pub mod Sort
+pub mod Build
+pub mod Whole

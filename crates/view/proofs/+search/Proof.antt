@@ -1,0 +1,146 @@
+-- `view::search` meets its contract: the bits of a block are those of its root and of its halves, as Lemmas/Search says. The measure is the size.
+-- Assumes nothing.
+use Prim.Native.Nat.{ℕ, _<_}
+use native.Mathlib.Omega.{arith}
+use mathlib.Core.Path.{sym, _∙_}
+use mathlib.Core.Bool.{true, false}
+use borrow.Author.Tests.{not-true, not-false}
+use borrow.Fn.Kinds.{In}
+use borrow.Fn.PlainCycle.{Measures, is, falls, and}
+use Rattle.view.specs.View.{rectangle}
+use Rattle.view.specs.Lemmas.Bits.{set-nothing}
+use Rattle.view.specs.Lemmas.Search.{root-fits, all-marked, block-none, half-call, block-set}
+use Rattle.view.proofs.search.Reads as reads
+use Rattle.view.proofs.search.Kinds as kinds
+use Rattle.view.proofs.+search.Lts-search as lts
+use Rattle.index.proofs.entry.Reads as entry
+use Rattle.view.proofs.lives.Reads as lives
+use Rattle.view.proofs.size_to_search.Reads as size-to-search
+use Rattle.view.proofs.visit.Reads as visit
+use Rattle.view.proofs.+search.{statement}
+use Rattle.view.proofs.+search.Tie.{close}
+
+abbrev size-of : Measures 4 kinds.ps ℕ
+size-of κs a = a .1 .1 .1 .1 .1 .1 .1 .0
+
+-- what a call with the size t is given, and what it asks of the calls that it makes
+module _ (t : ℕ) where
+  abbrev given : In 4 kinds.ps
+  given = and 4 kinds.ps (is 4 kinds.ps size-of t) reads.Pre
+
+  abbrev claims : lts.Claims
+  claims = (
+    entry.Asked,
+    entry.Learnt,
+    lives.Asked,
+    lives.Learnt,
+    visit.Asked,
+    visit.Learnt,
+    size-to-search.Asked,
+    size-to-search.Learnt,
+    and 4 kinds.ps (falls 4 kinds.ps _<_ size-of t) reads.Pre,
+    reads.Post,
+  )
+
+  returns : lts.Need-returns claims given reads.Post
+  returns c = rw (c .if1 .taken) (set-nothing _ _)
+
+  entry-requires : lts.Need-entry-requires claims given reads.Post
+  entry-requires c κs = omega arith
+
+  lives-requires : lts.Need-lives-requires claims given reads.Post
+  lives-requires c κs =
+      let a = c .before .before .before .before .before .before in
+      root-fits (a .pre .1) (c .before .if1 .left) (c .entry .ensures .0) .1
+
+  returns-2 : lts.Need-returns-2 claims given reads.Post
+  returns-2 c =
+      let a = c .before .before .before .before .before .before .before .before in
+      let dead = sym (c .before .lives .ensures) ∙ not-true _ (c .if2 .taken) in
+      block-none (a .pre .1) (c .before .before .before .if1 .left) (a .args .k) (rectangle (a .args .view))
+      (c .before .before .entry .ensures .0) dead
+
+  visit-requires : lts.Need-visit-requires claims given reads.Post
+  visit-requires c κs =
+      let r = c .before .before .before in
+      let a = r .before .before .before .before .before .before in
+      let f = root-fits (a .pre .1) (r .before .if1 .left) (r .entry .ensures .0) in
+      (f .0, f .2)
+
+  sub-second : lts.Need-sub-second claims given reads.Post
+  sub-second c = omega arith
+
+  sub-second-2 : lts.Need-sub-second-2 claims given reads.Post
+  sub-second-2 c = omega arith
+
+  add-p : lts.Need-add-p claims given reads.Post
+  add-p c = omega arith
+
+  add-q : lts.Need-add-q claims given reads.Post
+  add-q c = omega arith
+
+  -- from here on `v` is where the root has been visited, and `start v` the call's start
+  abbrev start : lts.After-visit claims given reads.Post → lts.Start claims given reads.Post
+  start v = v .before .before .before .before .before .before .before .before .before .before
+
+  size-to-search-requires : lts.Need-size-to-search-requires claims given reads.Post
+  size-to-search-requires c κs =
+      let v = c .before .before in
+      let a = start v in
+      (all-marked (a .pre .1) (v .before .before .before .before .before .if1 .left), omega arith)
+
+  search-requires : lts.Need-search-requires claims given reads.Post
+  search-requires c κs =
+      let v = c .before .before .before .before in
+      let a = start v in
+      half-call (a .pre .1) (v .before .before .before .before .before .if1 .left) (a .args .k) (rectangle (a .args .view)) true
+      (c .before .size-to-search .ensures) (a .pre .0) (v .visit .ensures .long)
+
+  size-to-search-requires-2 : lts.Need-size-to-search-requires-2 claims given reads.Post
+  size-to-search-requires-2 c κs =
+      let v = c .before .before .before .before .before .before .before in
+      let a = start v in
+      (all-marked (a .pre .1) (v .before .before .before .before .before .if1 .left), omega arith)
+
+  search-requires-2 : lts.Need-search-requires-2 claims given reads.Post
+  search-requires-2 c κs =
+      let w = c .before .before .before .before in
+      let v = w .before .before .before .before .before in
+      let a = start v in
+      half-call (a .pre .1) (v .before .before .before .before .before .if1 .left) (a .args .k) (rectangle (a .args .view)) false
+      (c .before .size-to-search2 .ensures) (a .pre .0) (w .search .ensures .long ∙ v .visit .ensures .long)
+
+  same-length : lts.Need-same-length claims given reads.Post
+  same-length c =
+      let w = c .before .before .before .before .before .before .before in
+      let v = w .before .before .before .before .before in
+      c .before .before .search2 .ensures .long ∙ w .search .ensures .long ∙ v .visit .ensures .long
+
+  returns-3 : lts.Need-returns-3 claims given reads.Post
+  returns-3 c =
+      let w = c .before .before .before .before .before .before .before in
+      let v = w .before .before .before .before .before in
+      let a = start v in
+      let alive = sym (v .before .before .before .lives .ensures) ∙ not-false _ (v .before .before .if2 .left) in
+      block-set (a .pre .1) (v .before .before .before .before .before .if1 .left) (a .args .k) (rectangle (a .args .view))
+      (v .before .before .before .before .entry .ensures .0) alive (v .visit .ensures)
+      (w .before .before .size-to-search .ensures) (w .search .ensures)
+      (c .before .before .before .before .size-to-search2 .ensures) (c .before .before .search2 .ensures)
+
+pub +search-spec : {M : Type 1} → statement M
++search-spec = close size-of λ t. lts.spec (claims t) (given t) reads.Post
+    (returns t)
+    (entry-requires t)
+    (lives-requires t)
+    (returns-2 t)
+    (visit-requires t)
+    (sub-second t)
+    (sub-second-2 t)
+    (add-p t)
+    (add-q t)
+    (size-to-search-requires t)
+    (search-requires t)
+    (size-to-search-requires-2 t)
+    (search-requires-2 t)
+    (same-length t)
+    (returns-3 t)

@@ -1,0 +1,19 @@
+-- `view::edge_on` meets its contract: each of the four edges stands at its two tests. Assumes nothing.
+use borrow.Author.Needs.{needs}
+use Rattle.view.proofs.edge_on.Statement.{statement}
+use Rattle.view.proofs.edge_on.Tie as tie
+
+returns : tie.Need-returns
+returns c = rw (c .before .before .if1 .taken, c .before .if2 .taken) (search needs)
+
+returns-2 : tie.Need-returns-2
+returns-2 c = rw (c .before .before .if1 .taken, c .before .if2 .left) (search needs)
+
+returns-3 : tie.Need-returns-3
+returns-3 c = rw (c .before .before .if1 .left, c .before .if3 .taken) (search needs)
+
+returns-4 : tie.Need-returns-4
+returns-4 c = rw (c .before .before .if1 .left, c .before .if3 .left) (search needs)
+
+pub edge-on-spec : {M : Type 1} → statement M
+edge-on-spec = tie.close (tie.spec returns returns-2 returns-3 returns-4)

@@ -1,0 +1,5 @@
+-- What the proofs of the search cite, in the order in which they build on one another.
+pub mod Places
+pub mod Bits
+pub mod Search
+pub mod Views

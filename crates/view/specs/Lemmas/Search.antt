@@ -1,0 +1,200 @@
+-- The search of a block sets the bits of its shown marks: no mark of the block is shown where its root does not live, and none of a half
+-- that is passed over.
+use Prim.Native.Nat.{ℕ, _+_, _-_, _*_, _/_, _<_, _≤_}
+use native.Mathlib.Omega.{arith}
+use mathlib.Core.Path.{_≡_, _∙_}
+use mathlib.Core.Bool.{Bool, true, false, not, cond}
+use mathlib.Core.Logic.{_≢_, _⊎_, inl, inr}
+use mathlib.Core.List.{List, [], _∷_, _++_}
+use lib.ListN.{length}
+use lib.Dec.{eqb}
+use borrow.Author.Tests.{ltb-true, lt-ltb, eqb-false}
+use Rattle.elimination.specs.Records.{valueAt}
+use Rattle.index.specs.Count.{count, non, both, below}
+use Rattle.index.specs.Index.{beats, axisKey}
+use Rattle.index.specs.Valid.{valid, isTree}
+use Rattle.index.specs.Blocks.{entryAt, block, leftOf, rightOf, Halves}
+use Rattle.index.specs.Check.{AllMarked}
+use Rattle.index.specs.Laws.{block-halves, none-later, none-left, none-right}
+use Rattle.index.specs.Lemmas.Count.{by-cases, and-left, and-right, count-le, count-split, both-le}
+use Rattle.index.specs.Lemmas.Blocks.{block-all}
+use Rattle.view.specs.Shown.{Rectangle, zoomSquared, livesAt, inside, shown}
+use Rattle.view.specs.Search.{placeAt, isBeyond, sizeToSearch, BitsSet, Searchable}
+use Rattle.view.specs.Lemmas.Places.{beyond-left, beyond-right}
+use Rattle.view.specs.Lemmas.Bits.{set-nothing, set-none, set-then, set-same}
+
+-- ---- the halves of a block's others, the left one or the right one
+
+abbrev startOf : Bool → ℕ → ℕ → ℕ
+startOf left lo size = cond left (lo + 1) (lo + 1 + size / 2)
+
+abbrev sizeOf : Bool → ℕ → ℕ
+sizeOf left size = cond left (size / 2) (size - 1 - size / 2)
+
+abbrev halfOf : Bool → List ℕ → ℕ → ℕ → List ℕ
+halfOf left t lo size = block (entryAt t) (startOf left lo size) (sizeOf left size)
+
+-- the head of the other half is beyond the rectangle
+abbrev otherBeyond : Bool → List ℕ → List ℕ → Rectangle → Bool → ℕ → ℕ → Bool
+otherBeyond left s t e axis lo size = isBeyond e axis left (placeAt s axis (entryAt t (startOf (not left) lo size)))
+
+-- how many numbers of a half are searched
+abbrev searchedOf : Bool → List ℕ → List ℕ → Rectangle → Bool → ℕ → ℕ → ℕ
+searchedOf left s t e axis lo size =
+    sizeToSearch s t e axis left (startOf (not left) lo size) (sizeOf (not left) size) (sizeOf left size)
+
+-- ---- who is shown lives, and lies inside
+
+module _ (s p : List ℕ) (k : ℕ) (e : Rectangle) (m : ℕ) where
+  shown-lives : shown s p k e m ≡ true → livesAt k (valueAt p m) ≡ true
+  unfolding shown
+  shown-lives h = and-left (livesAt k (valueAt p m)) (inside s e m) h
+
+  shown-inside : shown s p k e m ≡ true → inside s e m ≡ true
+  unfolding shown
+  shown-inside h = and-right (livesAt k (valueAt p m)) (inside s e m) h
+
+  living-shown : livesAt k (valueAt p m) ≡ true → inside s e m ≡ shown s p k e m
+  unfolding shown
+  living-shown h = rw h
+
+-- of numbers below n only those that are counted below n count
+count-below : (n : ℕ) (q : ℕ → Bool) (l : List ℕ) → count (non (below n)) l ≡ 0 → count (both (below n) q) l ≡ 0 → count q l ≡ 0
+count-below n q l a b = omega (arith, count-split q (below n) l, both-le (non (below n)) q l)
+
+module _ {s p t map : List ℕ} {lo size : ℕ} {axis : Bool} (r : Searchable s p t map lo size axis) (some : size ≢ 0) where
+  -- ---- the root
+
+  pub root-fits : {root : ℕ} → root ≡ entryAt t lo → (11 * root + 11 ≤ length s) × (14 * root + 14 ≤ length p) × (root / 8 < length map)
+  root-fits i = omega (arith, r .below lo (omega arith))
+
+  pub all-marked : AllMarked s t
+  all-marked i h = omega (arith, r .below i (omega arith))
+
+  parts : Halves (beats p) (axisKey s) axis (entryAt t) lo size
+  parts = block-halves s p axis (entryAt t) lo size some (r .tree)
+
+  none-lives : (k : ℕ) → livesAt k (valueAt p (entryAt t lo)) ≡ false → count (λ m. livesAt k (valueAt p m)) (block (entryAt t) lo size) ≡ 0
+  unfolding livesAt
+  none-lives k = none-later s p axis (entryAt t) lo size parts (zoomSquared k)
+
+  -- ---- the halves
+
+  half-fits : (left : Bool) → startOf left lo size + sizeOf left size ≤ lo + size
+  half-fits true = omega arith
+  half-fits false = omega arith
+
+  half-smaller : (left : Bool) → sizeOf left size < size
+  half-smaller true = omega arith
+  half-smaller false = omega arith
+
+  half-tree : (left : Bool) → isTree (beats p) (axisKey s) (not axis) (halfOf left t lo size) ≡ true
+  half-tree true = parts .left
+  half-tree false = parts .right
+
+  half-below : (left : Bool) → count (non (below (r .n))) (halfOf left t lo size) ≡ 0
+  half-below left =
+      block-all (entryAt t) (below (r .n)) (startOf left lo size) (sizeOf left size)
+      (λ i a b. lt-ltb (entryAt t i) (r .n) (r .below i (omega (arith, half-fits left))))
+
+  head-small : (left : Bool) → sizeOf left size ≢ 0 → entryAt t (startOf left lo size) < 65536
+  head-small left h = omega (arith, r .below (startOf left lo size) (omega (arith, half-fits left)))
+
+  module _ (k : ℕ) (e : Rectangle) where
+    -- ---- where the root does not live
+
+    pub block-none : {root : ℕ} → root ≡ entryAt t lo → livesAt k (valueAt p root) ≡ false
+        → BitsSet (shown s p k e) (block (entryAt t) lo size) map map
+    block-none i dead =
+        let l = block (entryAt t) lo size in
+        let none = none-lives k (rw (← i) dead) in
+        set-none (shown s p k e) l
+        (omega (arith, none, count-le (shown s p k e) (λ m. livesAt k (valueAt p m)) (shown-lives s p k e) l))
+        (set-nothing (shown s p k e) map)
+
+    -- ---- where the head of the other half is beyond the rectangle
+
+    seen : ℕ → Bool
+    seen = both (below (r .n)) (shown s p k e)
+
+    seen-inside : (z : ℕ) → seen z ≡ true → (z < 65536) × (inside s e z ≡ true)
+    unfolding seen
+    seen-inside z h =
+        let l : z < r .n = ltb-true z (r .n) (and-left (below (r .n) z) (shown s p k e z) h) in
+        (omega arith, shown-inside s p k e z (and-right (below (r .n) z) (shown s p k e z) h))
+
+    none-seen : (left : Bool) → sizeOf (not left) size ≢ 0 → otherBeyond left s t e axis lo size ≡ true
+        → count seen (halfOf left t lo size) ≡ 0
+    none-seen true other b =
+        let head = startOf false lo size in
+        none-left s p axis (entryAt t) seen head (sizeOf false size) other (leftOf (entryAt t) lo size) (parts .split)
+        (head-small false other) (λ z h. beyond-left s e z (seen-inside z h .1) axis (entryAt t head) b)
+    none-seen false other b =
+        let head = startOf true lo size in
+        none-right s p axis (entryAt t) seen head (sizeOf true size) other (rightOf (entryAt t) lo size) (parts .split)
+        (λ z h. (seen-inside z h .0, beyond-right s e z (seen-inside z h .1) axis (entryAt t head) b))
+
+    half-none : (left : Bool) → sizeOf (not left) size ≢ 0 → otherBeyond left s t e axis lo size ≡ true
+        → count (shown s p k e) (halfOf left t lo size) ≡ 0
+    unfolding seen
+    half-none left other b =
+        count-below (r .n) (shown s p k e) (halfOf left t lo size) (half-below left) (none-seen left other b)
+
+    -- a half is searched whole, or none of it is shown
+    searched : (left : Bool) {m : ℕ} → m ≡ searchedOf left s t e axis lo size
+        → (m ≡ sizeOf left size) ⊎ ((m ≡ 0) × (count (shown s p k e) (halfOf left t lo size) ≡ 0))
+    unfolding sizeToSearch
+    searched left i =
+        let other = sizeOf (not left) size in
+        by-cases (eqb other 0) (λ z. inl (i ∙ rw z))
+        (λ z. by-cases (otherBeyond left s t e axis lo size)
+        (λ b. inr (i ∙ rw (z, b), half-none left (eqb-false other 0 z) b))
+        (λ b. inl (i ∙ rw (z, b))))
+
+    -- ---- what the call at a half needs, and what it gives
+
+    module _ (left : Bool) {m : ℕ} (i : m ≡ searchedOf left s t e axis lo size) where
+      searched-most : m ≤ sizeOf left size
+      searched-most = elim (searched left i) [ inl whole ↦ omega arith | inr none ↦ omega (arith, none .0) ]
+
+      searched-tree : isTree (beats p) (axisKey s) (not axis) (block (entryAt t) (startOf left lo size) m) ≡ true
+      unfolding isTree valid
+      searched-tree = elim (searched left i) [ inl whole ↦ rw whole (half-tree left) | inr none ↦ rw (none .0) ]
+
+      -- `top` is the size, under which the call's own has to stay
+      pub half-call : {top : ℕ} {after : List ℕ} → size ≡ top → length after ≡ length map
+          → (m < top) × Searchable s p t after (startOf left lo size) m (not axis)
+      half-call {after = after} is long = (omega (arith, searched-most, half-smaller left), half-ready)
+        where
+          half-ready : Searchable s p t after (startOf left lo size) m (not axis)
+          half-ready =
+              record {
+                n = r .n;
+                whole = r .whole;
+                below = r .below;
+                fits = omega (arith, searched-most, half-fits left);
+                room = omega (arith, r .room);
+                tree = searched-tree;
+              }
+
+      half-set : {a b : List ℕ} → BitsSet (shown s p k e) (block (entryAt t) (startOf left lo size) m) a b
+          → BitsSet (shown s p k e) (halfOf left t lo size) a b
+      half-set b =
+          elim (searched left i) [
+            | inl whole ↦ rw whole at b
+            | inr none ↦ set-none (shown s p k e) (halfOf left t lo size) (none .1) (rw (none .0) at b)
+          ]
+
+    -- ---- the root, then the left half and the right half
+
+    pub block-set : {root l u : ℕ} {a b c : List ℕ} → root ≡ entryAt t lo → livesAt k (valueAt p root) ≡ true
+        → BitsSet (inside s e) (root ∷ []) map a
+        → l ≡ searchedOf true s t e axis lo size → BitsSet (shown s p k e) (block (entryAt t) (lo + 1) l) a b
+        → u ≡ searchedOf false s t e axis lo size → BitsSet (shown s p k e) (block (entryAt t) (lo + 1 + size / 2) u) b c
+        → BitsSet (shown s p k e) (block (entryAt t) lo size) map c
+    block-set {root} i lives first l left u right =
+        let lt = leftOf (entryAt t) lo size in
+        let rt = rightOf (entryAt t) lo size in
+        rw (parts .whole, ← i)
+        (set-then (shown s p k e) (root ∷ []) (lt ++ rt) (set-same root (living-shown s p k e root lives) first)
+        (set-then (shown s p k e) lt rt (half-set true l left) (half-set false u right)))
