@@ -1,8 +1,11 @@
 -- What the answers of the interface stand for.
-use Prim.Native.Nat.{ℕ}
+use Prim.Native.Nat.{ℕ, _<_}
 use mathlib.Core.Path.{_≡_}
 use mathlib.Core.List.{List}
+use lib.IntN.{ℤ}
+use lib.ListN.{length}
 use Rattle.sheet.specs.declared.Extent as Sheet
+use Rattle.view.specs.Shown.{Rectangle}
 use Rattle.rollmap.specs.declared.Answer.{Answer}
 use Rattle.rollmap.specs.declared.Extent.{Extent}
 use Rattle.rollmap.specs.Jobs.{Outcome, after}
@@ -10,6 +13,14 @@ use Rattle.rollmap.specs.Jobs.{Outcome, after}
 -- the number and the value of an outcome
 abbrev pub answerOf : Outcome → Answer
 answerOf o = record { number = o .number; value = o .value }
+
+-- "The first 'no' gives its number, with 0 for every length and count"
+abbrev pub refusal : ℕ → Answer
+refusal number = record { number = number; value = 0 }
+
+-- the rectangle of these edges
+abbrev pub edges : ℤ → ℤ → ℤ → ℤ → Rectangle
+edges x0 x1 y0 y1 = record { x0 = x0; x1 = x1; y0 = y0; y1 = y1 }
 
 -- a part's place
 abbrev pub extentOf : Sheet.Extent → Extent
@@ -19,3 +30,9 @@ extentOf e = record { offset = e .offset; length = e .length }
 pub record Gives (o : Outcome) (before : List ℕ) (r : Answer) (buffer : List ℕ) : Type 0 where
   pub answered : r ≡ answerOf o
   pub bytes : buffer ≡ after o before
+
+-- What a call that answers `r` leaves in a work buffer that held `before`: a refused call has written nothing, and after a success only
+-- the length is said.
+pub record Lent (r : Answer) (before buffer : List ℕ) : Type 0 where
+  pub long : length buffer ≡ length before
+  pub refused : 0 < r .number → buffer ≡ before

@@ -57,10 +57,13 @@ newBodies s = s ∷ newSchedule s ∷ newIndex s ∷ []
 unfoldable pub scheduled : List ℕ → List ℕ
 scheduled s = join (newBodies (marksPart (split s)))
 
--- "scheduling 1 to 9 and 13": "32 + 27n bytes for n marks", "a work buffer of at least 32n + 1,024 bytes"
+-- "32 + 27n bytes for n marks", "a work buffer of at least 32n + 1,024 bytes"
+abbrev pub hasRoom : ℕ → ℕ → ℕ → Bool
+hasRoom n work room = leb (32 * n + 1024) work && leb (27 * n + 32) room
+
+-- "scheduling 1 to 9 and 13"
 unfoldable pub scheduleQuestions : List ℕ → ℕ → ℕ → List Question
-scheduleQuestions s work room =
-    checkQuestions s ++ ((13 asks leb (32 * sheetCount s + 1024) work && leb (27 * sheetCount s + 32) room) ∷ [])
+scheduleQuestions s work room = checkQuestions s ++ ((13 asks hasRoom (sheetCount s) work room) ∷ [])
 
 unfoldable pub scheduleJob : List ℕ → ℕ → ℕ → Outcome
 scheduleJob s work room = outcome (scheduleQuestions s work room) (length (scheduled s)) (scheduled s)

@@ -1,10 +1,23 @@
 // The public library: the five jobs, for C and Rust.
 use sheet::Assembled;
+use view::Edges;
+use view::Scale;
+use view::Zoom;
 ghost use mathlib.Core.Path.{_≡_};
+ghost use Prim.Native.Nat.{_+_, _*_, _≤_};
 ghost use lib.ListN.{length};
+ghost use Rattle.elimination.specs.Sheet.{Schedulable};
+ghost use Rattle.sheet.specs.Contents.{countAt, join};
+ghost use Rattle.sheet.specs.Questions.{check};
+ghost use Rattle.sheet.specs.Accepted.{MarksRight};
 ghost use Rattle.sheet.specs.Layout.{opened, placeOf};
-ghost use Rattle.rollmap.specs.Jobs.{checkJob, assembleJob, walkJob};
-ghost use Rattle.rollmap.specs.Answers.{answerOf, extentOf, Gives};
+ghost use Rattle.sheet.specs.Assembled.{over};
+ghost use Rattle.view.specs.declared.Zoom.the-variants.{Stop, Wheel};
+ghost use Rattle.view.specs.View.{rectangle};
+ghost use Rattle.view.specs.Questions.{question11};
+ghost use Rattle.rollmap.specs.Jobs.{checkJob, newBodies, hasRoom, scheduleJob, assembleJob, viewJob, walkJob};
+ghost use Rattle.rollmap.specs.Answers.{refusal, answerOf, extentOf, edges, Gives, Lent};
+ghost use Rattle.rollmap.specs.Steps.{resultsOver, viewAt};
 
 // What a call answers: 0 or the refusal's number, and the length, count or mark number asked for.
 #[repr(C)]
@@ -18,6 +31,13 @@ pub struct Answer {
 pub struct Extent {
     pub offset: u32,
     pub length: u32,
+}
+
+// A refusal counts and measures nothing.
+fn refused(number: u32) -> Answer
+    ensures { λ r. ⌜ r ≡ refusal number ⌝ }
+{
+    Answer { number, value: 0 }
 }
 
 // ---- sheets
@@ -57,15 +77,144 @@ pub extern "C" fn rollmap_assemble(
     ensures { λ r. ⌜ Gives (assembleJob parts (now (body1 .entry)) (now (body2 .entry)) (now (body3 .entry)) (length (now (out .entry)))) (now (out .entry)) r (now (out .exit)) ⌝ }
 {
     match sheet::assemble(parts, body1, body2, body3, out) {
-        Assembled::Refused(number) => Answer {
-            number: number,
-            value: 0,
-        },
+        Assembled::Refused(number) => refused(number),
         Assembled::Written(size) => Answer {
             number: 0,
             value: size,
         },
     }
+}
+
+// ---- scheduling
+
+// Writes part 2, the schedule of the n marks, at the start of `tail`, and part 3, their index, behind it.
+fn put_results(marks: &[u8], work: &mut [u8], tail: &mut [u8], n: usize)
+    requires { ⌜ Schedulable (now marks) (now work) (now tail) n × (16 * n ≤ length (now tail)) ⌝ }
+    ensures { λ _. ⌜ now (tail .exit) ≡ resultsOver (now (marks .entry)) n (now (tail .entry)) ⌝ }
+{
+    elimination::schedule(marks, work, tail, n);
+    indexing::build(marks, work, tail, n);
+}
+
+// Writes the scheduled sheet of the n marks that part 1 of an accepted sheet has.
+fn put_scheduled(marks: &[u8], work: &mut [u8], out: &mut [u8], n: usize)
+    requires { ⌜ MarksRight (now marks) n × (32 * n + 1024 ≤ length (now work)) × (27 * n + 32 ≤ length (now out)) ⌝ }
+    ensures { λ _. ⌜ now (out .exit) ≡ over (join (newBodies (now (marks .entry)))) (now (out .entry)) ⌝ }
+{
+    let sizes = [marks.len(), 14 * n, 2 * n];
+    let start = sheet::put_contents(out, &sizes);
+    let rest = sheet::put(out, start, marks);
+    put_results(marks, work, &mut out[rest..], n);
+}
+
+// 13. Are the work buffer and the written one long enough for n marks?
+fn has_room(n: usize, work: usize, out: usize) -> bool
+    requires { ⌜ n ≤ 4096 ⌝ }
+    ensures { λ r. ⌜ r ≡ hasRoom n work out ⌝ }
+{
+    32 * n + 1024 <= work && 27 * n + 32 <= out
+}
+
+// Writes the sheet of three parts that a sheet's marks give, and answers its length: questions 1 to 9 and 13. What the work buffer holds
+// plays no part, and what it is left with after a success is not said.
+#[no_mangle]
+pub extern "C" fn rollmap_schedule(sheet: &[u8], work: &mut [u8], out: &mut [u8]) -> Answer
+    ensures { λ r. ⌜ Gives (scheduleJob (now (sheet .entry)) (length (now (work .entry))) (length (now (out .entry)))) (now (out .entry)) r (now (out .exit)) ⌝ }
+    ensures { λ r. ⌜ Lent r (now (work .entry)) (now (work .exit)) ⌝ }
+{
+    let number = sheet::check(sheet);
+    if number != 0 {
+        return refused(number);
+    }
+    let marks = sheet::body(sheet, 0);
+    let n = marks.len() / 11;
+    if !has_room(n, work.len(), out.len()) {
+        return refused(13);
+    }
+    put_scheduled(marks, work, out, n);
+    Answer {
+        number: 0,
+        value: (27 * n + 32) as u32,
+    }
+}
+
+// ---- viewing
+
+// 11. Is x0 ≤ x1 and y0 ≤ y1?
+fn is_rectangle(e: Edges) -> bool
+    ensures { λ r. ⌜ r ≡ question11 (rectangle e) ⌝ }
+{
+    (e.x0 <= e.x1) & (e.y0 <= e.y1)
+}
+
+// The view of an accepted sheet of three parts at z = k/64: question 13, and then the map and the count.
+fn view_at(sheet: &[u8], edges: Edges, k: u32, map: &mut [u8]) -> Answer
+    requires { ⌜ (check (now sheet) ≡ 0) × (countAt (now sheet) ≡ 3) ⌝ }
+    ensures { λ r. ⌜ Gives (viewAt (now (sheet .entry)) (rectangle edges) k (length (now (map .entry)))) (now (map .entry)) r (now (map .exit)) ⌝ }
+{
+    let marks = sheet::body(sheet, 0);
+    let n = marks.len() / 11;
+    if map.len() < (n + 7) / 8 {
+        return refused(13);
+    }
+    let schedule = sheet::body(sheet, 1);
+    let index = sheet::body(sheet, 2);
+    Answer {
+        number: 0,
+        value: view::show(marks, schedule, index, n, edges, k, map),
+    }
+}
+
+// Writes the map of a view, and answers how many marks it shows: questions 1 to 13.
+fn view(sheet: &[u8], edges: Edges, zoom: Zoom, map: &mut [u8]) -> Answer
+    ensures { λ r. ⌜ Gives (viewJob (now (sheet .entry)) (rectangle edges) zoom (length (now (map .entry)))) (now (map .entry)) r (now (map .exit)) ⌝ }
+{
+    let number = sheet::check(sheet);
+    if number != 0 {
+        return refused(number);
+    }
+    if sheet::count_at(sheet) < 3 {
+        return refused(10);
+    }
+    if !is_rectangle(edges) {
+        return refused(11);
+    }
+    match view::scale_of(zoom) {
+        Scale::Refused => refused(12),
+        Scale::Taken(k) => view_at(sheet, edges, k, map),
+    }
+}
+
+// The view at a stop.
+#[no_mangle]
+pub extern "C" fn rollmap_view_stop(
+    sheet: &[u8],
+    x0: i16,
+    x1: i16,
+    y0: i16,
+    y1: i16,
+    stop: u8,
+    map: &mut [u8],
+) -> Answer
+    ensures { λ r. ⌜ Gives (viewJob (now (sheet .entry)) (edges x0 x1 y0 y1) (Stop stop) (length (now (map .entry)))) (now (map .entry)) r (now (map .exit)) ⌝ }
+{
+    view(sheet, Edges { x0, x1, y0, y1 }, Zoom::Stop(stop), map)
+}
+
+// The view at a wheel value.
+#[no_mangle]
+pub extern "C" fn rollmap_view_wheel(
+    sheet: &[u8],
+    x0: i16,
+    x1: i16,
+    y0: i16,
+    y1: i16,
+    wheel: f32,
+    map: &mut [u8],
+) -> Answer
+    ensures { λ r. ⌜ Gives (viewJob (now (sheet .entry)) (edges x0 x1 y0 y1) (Wheel wheel) (length (now (map .entry)))) (now (map .entry)) r (now (map .exit)) ⌝ }
+{
+    view(sheet, Edges { x0, x1, y0, y1 }, Zoom::Wheel(wheel), map)
 }
 
 // ---- the walk

@@ -8,7 +8,7 @@
 //! A call asks the questions that its comment names, in turn; the first no is its
 //! [`Refusal`], and then no buffer is written.
 //!
-//! ```no_run
+//! ```
 //! use rollmap::{assemble, schedule_to_vec, view_to_map, View, Zoom};
 //!
 //! // Two marks of radius 10 and kind 0 at (0, 0) and (100, 0); the first has the

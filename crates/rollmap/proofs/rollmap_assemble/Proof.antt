@@ -11,6 +11,9 @@ assemble-requires c κs = search needs
 enum-known-number : tie.Need-enum-known-number
 enum-known-number c = search needs
 
+refused-requires : tie.Need-refused-requires
+refused-requires c κs = search needs
+
 enum-known-size : tie.Need-enum-known-size
 enum-known-size c = search needs
 
@@ -20,7 +23,8 @@ same-length c = search needs
 returns : tie.Need-returns
 unfolding numberOf lengthOf
 returns c =
-    rw (c .before .number .given .1) at (assemble-gives _ _ _ _ _ _ _ (c .before .before .before .before .before .assemble .ensures))
+    rw (c .refused .ensures)
+    (rw (c .before .before .number .given .1) at (assemble-gives _ _ _ _ _ _ _ (c .before .before .before .before .before .before .assemble .ensures)))
 
 same-length-2 : tie.Need-same-length-2
 same-length-2 c = search needs
@@ -36,6 +40,7 @@ rollmap-assemble-spec =
     (tie.spec
     assemble-requires
     enum-known-number
+    refused-requires
     enum-known-size
     same-length
     returns

@@ -13,7 +13,8 @@ use Rattle.sheet.specs.Asking.{Question, answer}
 use Rattle.sheet.specs.Questions.{checkQuestions, check, given, assembleQuestions}
 use Rattle.sheet.specs.Assembled.{numberOf, lengthOf, over, Assembling}
 use Rattle.rollmap.specs.Jobs.{Outcome, outcome, after, checkJob, assembleJob}
-use Rattle.rollmap.specs.Answers.{answerOf, Gives}
+use Rattle.rollmap.specs.declared.Answer.{Answer}
+use Rattle.rollmap.specs.Answers.{refusal, answerOf, Gives}
 
 module _ (questions : List Question) (value : ℕ) (written : List ℕ) where
   pub outcome-yes : answer questions ≡ 0 → outcome questions value written ≡ record { number = 0; value = value; written = written }
@@ -28,6 +29,22 @@ module _ (questions : List Question) (value : ℕ) (written : List ℕ) where
 pub after-none : (number : ℕ) (buffer : List ℕ) → after (record { number = number; value = 0; written = [] }) buffer ≡ buffer
 unfolding after
 after-none number buffer = refl
+
+module _ (questions : List Question) (value : ℕ) (written buffer : List ℕ) {r : Answer} where
+  -- a call that stops at the question of this number
+  pub refused-gives : (number : ℕ) → answer questions ≡ number → 0 < number → r ≡ refusal number
+      → Gives (outcome questions value written) buffer r buffer
+  refused-gives number e some is =
+      let no : outcome questions value written ≡ record { number = answer questions; value = 0; written = [] } =
+      outcome-no questions value written (omega (arith, e, some)) in
+      rw no (record { answered = rw (is, e); bytes = sym (after-none (answer questions) buffer) })
+
+  -- a call that asks them all and then writes
+  pub written-gives : answer questions ≡ 0 → r ≡ record { number = 0; value = value } → {left : List ℕ} → left ≡ over written buffer
+      → Gives (outcome questions value written) buffer r left
+  unfolding after over
+  written-gives e is bytes =
+      rw (outcome-yes questions value written e) (record { answered = is; bytes = bytes })
 
 pub check-gives : (s : List ℕ) → record { number = check s; value = 0 } ≡ answerOf (checkJob s)
 unfolding checkJob outcome check

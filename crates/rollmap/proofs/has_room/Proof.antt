@@ -1,0 +1,31 @@
+-- `rollmap::has_room`: the two bounds in their order. Assumes nothing.
+use Prim.Native.Nat.{_+_, _*_}
+use borrow.Author.Needs.{needs}
+use borrow.Author.Tests.{le-leb, lt-leb}
+use Rattle.rollmap.proofs.has_room.Statement.{statement}
+use Rattle.rollmap.proofs.has_room.Tie as tie
+
+mul-if1 : tie.Need-mul-if1
+mul-if1 c = search needs
+
+add-if1 : tie.Need-add-if1
+add-if1 c = search needs
+
+mul-result : tie.Need-mul-result
+mul-result c = search needs
+
+add-result : tie.Need-add-result
+add-result c = search needs
+
+returns : tie.Need-returns
+returns c =
+    let a = c .before .args in
+    rw (le-leb (32 * a .n + 1024) (a .work) (c .if1 .taken))
+
+returns-2 : tie.Need-returns-2
+returns-2 c =
+    let a = c .before .args in
+    rw (lt-leb (32 * a .n + 1024) (a .work) (c .if1 .left))
+
+pub has-room-spec : {M : Type 1} → statement M
+has-room-spec = tie.close (tie.spec mul-if1 add-if1 mul-result add-result returns returns-2)

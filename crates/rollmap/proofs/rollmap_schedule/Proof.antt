@@ -1,0 +1,96 @@
+-- `rollmap::rollmap_schedule`: each way out by the question that ended it, and else the sheet as it was written. Assumes nothing.
+use Prim.Native.Nat.{_/_}
+use mathlib.Core.Path.{_≡_, refl, sym, _∙_}
+use mathlib.Core.Bool.{true, false}
+use native.Mathlib.Omega.{arith}
+use lib.ListN.{length}
+use borrow.Author.Needs.{needs}
+use denote.Ref.{now}
+use Rattle.sheet.specs.Questions.{check}
+use Rattle.sheet.specs.Accepted.{MarksRight}
+use Rattle.sheet.specs.Lemmas.Tests.{said-no, said-yes}
+use Rattle.sheet.specs.Laws.{accepted-iff}
+use Rattle.rollmap.specs.Lemmas.Scheduling.{room-there, schedule-refused, schedule-no-room, schedule-written}
+use Rattle.rollmap.proofs.rollmap_schedule.Statement.{statement}
+use Rattle.rollmap.proofs.rollmap_schedule.Tie as tie
+
+-- the sheet was accepted
+accepted : (c : tie.Else1) → check (now (c .before .before .before .before .before .args .sheet)) ≡ 0
+accepted c = sym (c .before .check .ensures) ∙ c .if1 .left
+
+-- and part 1 holds these marks
+marks-right : (c : tie.After-body) → MarksRight (now (c .body .result)) (length (now (c .body .result)) / 11)
+marks-right c = rw (c .body .ensures) (accepted-iff _ .0 (accepted (c .before)) .fitting .marks)
+
+check-requires : tie.Need-check-requires
+check-requires c κs = search needs
+
+refused-requires : tie.Need-refused-requires
+refused-requires c κs = search needs
+
+returns : tie.Need-returns
+returns c =
+    let found = c .before .before .check .ensures in
+    (schedule-refused _ _ _ (omega (arith, found, c .before .if1 .taken)) (rw found at (c .refused .ensures)), record { long = refl; refused = λ h. refl })
+
+body-requires : tie.Need-body-requires
+body-requires c κs = accepted-iff _ .0 (accepted c) .laid
+
+has-room-requires : tie.Need-has-room-requires
+has-room-requires c κs = marks-right c .few
+
+refused-requires-2 : tie.Need-refused-requires-2
+refused-requires-2 c κs = search needs
+
+returns-2 : tie.Need-returns-2
+returns-2 c =
+    let b = c .before .before .before in
+    let short = rw (b .body .ensures) at (said-no (c .before .before .has-room .ensures) (c .before .if2 .taken)) in
+    (schedule-no-room _ _ _ (accepted (b .before)) short (c .refused2 .ensures), record { long = refl; refused = λ h. refl })
+
+put-scheduled-requires : tie.Need-put-scheduled-requires
+put-scheduled-requires c κs =
+    let room = room-there _ _ _ (said-yes (c .before .before .before .has-room .ensures) (c .before .before .if2 .left)) in
+    (marks-right (c .before .before .before .before), room .0, room .1)
+
+mul-t8 : tie.Need-mul-t8
+mul-t8 c = omega (arith, marks-right (c .before .before .before .before .before .before .before .before .before) .few)
+
+add-t9 : tie.Need-add-t9
+add-t9 c = omega (arith, marks-right (c .before .before .before .before .before .before .before .before .before) .few)
+
+cast-t16 : tie.Need-cast-t16
+cast-t16 c = omega (arith, marks-right (c .before .before .before .before .before .before .before .before .before) .few)
+
+same-length : tie.Need-same-length
+same-length c = search needs
+
+same-length-2 : tie.Need-same-length-2
+same-length-2 c = search needs
+
+returns-3 : tie.Need-returns-3
+returns-3 c =
+    let p = c .before .before .before .before in
+    let h = p .before .before .before .before in
+    let b = h .before in
+    let room = rw (b .body .ensures) at (said-yes (h .has-room .ensures) (p .before .before .before .if2 .left)) in
+    (schedule-written _ _ _ (accepted (b .before)) room (rw (b .body .ensures)) (rw (b .body .ensures) at (p .put-scheduled .ensures)), record { long = search needs; refused = λ z. absurd (omega (arith, z)) })
+
+pub rollmap-schedule-spec : {M : Type 1} → statement M
+rollmap-schedule-spec =
+    tie.close
+    (tie.spec
+    check-requires
+    refused-requires
+    returns
+    body-requires
+    has-room-requires
+    refused-requires-2
+    returns-2
+    put-scheduled-requires
+    mul-t8
+    add-t9
+    cast-t16
+    same-length
+    same-length-2
+    returns-3)

@@ -1,0 +1,114 @@
+-- Viewing: each way out answers as the job says. Assumes nothing.
+use Prim.Native.Nat.{ℕ, _/_, _+_, _<_, _≤_}
+use mathlib.Core.Path.{_≡_, refl, sym, ap, _∙_}
+use mathlib.Core.Bool.{Bool, true, false, and-false}
+use mathlib.Core.List.{List, [], _∷_, _++_}
+use mathlib.Core.Option.{Option, none, some}
+use native.Mathlib.Omega.{arith}
+use borrow.Author.Tests.{le-leb, lt-leb}
+use lib.Dec.{leb}
+use lib.ListN.{length, drop}
+use Rattle.sheet.specs.Contents.{countAt, split, has, marksPart, schedulePart, indexPart}
+use Rattle.sheet.specs.Asking.{Question, _asks_, answer}
+use Rattle.sheet.specs.Questions.{sheetCount, checkQuestions, check}
+use Rattle.sheet.specs.Assembled.{over}
+use Rattle.sheet.specs.Laws.{append-yes, append-no, check-numbered, accepted-iff, split-length}
+use Rattle.bitmap.specs.Map.{mapSize, mapBytes, countShown}
+use Rattle.bitmap.specs.Laws.{map-length}
+use Rattle.view.specs.declared.Zoom.{Zoom}
+use Rattle.view.specs.Zoom.{scaleOf}
+use Rattle.view.specs.Shown.{Rectangle, shown}
+use Rattle.view.specs.View.{Viewable, Viewed}
+use Rattle.view.specs.Questions.{question10, question11, isTaken, viewQuestions}
+use Rattle.rollmap.specs.declared.Answer.{Answer}
+use Rattle.rollmap.specs.Jobs.{outcome, scale, shownIn, viewJob}
+use Rattle.rollmap.specs.Answers.{refusal, Gives}
+use Rattle.rollmap.specs.Steps.{viewAt}
+use Rattle.rollmap.specs.Lemmas.Outcomes.{refused-gives, written-gives}
+
+-- ---- question 13, the map and the count
+
+module _ (s : List ℕ) (e : Rectangle) (k : ℕ) (buffer : List ℕ) where
+  abbrev show : ℕ → Bool
+  show = shown (marksPart (split s)) (schedulePart (split s)) k e
+
+  pub view-no-room : {r : Answer} → length buffer < mapSize (sheetCount s) → r ≡ refusal 13 → Gives (viewAt s e k (length buffer)) buffer r buffer
+  unfolding viewAt answer
+  view-no-room short is =
+      refused-gives ((13 asks leb (mapSize (sheetCount s)) (length buffer)) ∷ []) (countShown show (sheetCount s)) (mapBytes show (sheetCount s)) buffer 13 (rw (lt-leb (mapSize (sheetCount s)) (length buffer) short)) (omega arith) is
+
+  pub view-written : {r : Answer} → mapSize (sheetCount s) ≤ length buffer → {count : ℕ} {left : List ℕ} → Viewed show (sheetCount s) buffer left count
+      → r ≡ record { number = 0; value = count } → Gives (viewAt s e k (length buffer)) buffer r left
+  unfolding viewAt answer over
+  view-written room v is =
+      written-gives ((13 asks leb (mapSize (sheetCount s)) (length buffer)) ∷ []) (countShown show (sheetCount s)) (mapBytes show (sheetCount s)) buffer (rw (le-leb (mapSize (sheetCount s)) (length buffer) room))
+      (rw (v .count-is) at is) (rw (map-length show (sheetCount s)) (v .map-is))
+
+-- ---- questions 1 to 12
+
+module _ (s : List ℕ) (e : Rectangle) (zoom : Zoom) (buffer : List ℕ) where
+  abbrev later : List Question
+  later =
+      (10 asks question10 (split s)) ∷ (11 asks question11 e) ∷ (12 asks isTaken (scaleOf zoom)) ∷ (13 asks leb (mapSize (sheetCount s)) (length buffer)) ∷ []
+
+  refused-at : {r : Answer} (number : ℕ) → answer (viewQuestions s e zoom (length buffer)) ≡ number → 0 < number → r ≡ refusal number
+      → Gives (viewJob s e zoom (length buffer)) buffer r buffer
+  unfolding viewJob
+  refused-at =
+      refused-gives (viewQuestions s e zoom (length buffer)) (countShown (shownIn s e zoom) (sheetCount s)) (mapBytes (shownIn s e zoom) (sheetCount s)) buffer
+
+  pub view-refused : {r : Answer} → 0 < check s → r ≡ refusal (check s) → Gives (viewJob s e zoom (length buffer)) buffer r buffer
+  unfolding viewQuestions check
+  view-refused found is = refused-at (check s) (append-no (checkQuestions s) later (check-numbered s) found) found is
+
+  module _ (ok : check s ≡ 0) where
+    asked : answer (viewQuestions s e zoom (length buffer)) ≡ answer later
+    unfolding viewQuestions check
+    asked = append-yes (checkQuestions s) later (check-numbered s) ok
+
+    few : countAt s ≤ 3
+    few = accepted-iff s .0 ok .laid .whole .few
+
+    pub view-no-parts : {r : Answer} → countAt s < 3 → r ≡ refusal 10 → Gives (viewJob s e zoom (length buffer)) buffer r buffer
+    unfolding question10 answer
+    view-no-parts short is =
+        let missing : question10 (split s) ≡ false = rw (split-length s, lt-leb 3 (countAt s) short) (and-false (leb 2 (countAt s))) in
+        refused-at 10 (asked ∙ rw missing) (omega arith) is
+
+    module _ (three : 3 ≤ countAt s) where
+      there : question10 (split s) ≡ true
+      unfolding question10
+      there = rw (split-length s, le-leb 2 (countAt s) (omega (arith, three)), le-leb 3 (countAt s) three)
+
+      pub view-no-rectangle : {r : Answer} → question11 e ≡ false → r ≡ refusal 11 → Gives (viewJob s e zoom (length buffer)) buffer r buffer
+      unfolding answer
+      view-no-rectangle wrong is = refused-at 11 (asked ∙ rw (there, wrong)) (omega arith) is
+
+      module _ (right : question11 e ≡ true) where
+        pub view-no-zoom : {r : Answer} → scaleOf zoom ≡ none → r ≡ refusal 12 → Gives (viewJob s e zoom (length buffer)) buffer r buffer
+        unfolding answer
+        view-no-zoom refused is = refused-at 12 (asked ∙ rw (there, right, refused)) (omega arith) is
+
+        -- the zoom is taken: 13 is all that is left to ask
+        pub view-taken : (k : ℕ) → scaleOf zoom ≡ some k → viewJob s e zoom (length buffer) ≡ viewAt s e k (length buffer)
+        unfolding viewJob viewAt shownIn outcome answer
+        view-taken k taken = rw (asked, there, right, taken)
+
+-- ---- what the search asks for
+
+pub viewable : (s map : List ℕ) → check s ≡ 0 → countAt s ≡ 3 → mapSize (sheetCount s) ≤ length map
+    → Viewable (marksPart (split s)) (schedulePart (split s)) (indexPart (split s)) map (sheetCount s)
+viewable s map ok three room =
+    let f = accepted-iff s .0 ok .fitting in
+    let k : length (split s) ≡ 3 = split-length s ∙ three in
+    record {
+      whole =
+          record {
+            few = f .marks .few;
+            marks-long = omega (arith, f .marks .long);
+            schedule-long = omega (arith, f .schedule-long (omega (arith, k)));
+            index-long = f .index-long (omega (arith, k));
+          };
+      index-right = f .index-right (omega (arith, k));
+      room = room;
+    }

@@ -1,0 +1,23 @@
+-- What the steps of scheduling and viewing give.
+use Prim.Native.Nat.{ℕ, _*_}
+use mathlib.Core.List.{List, [], _∷_, _++_}
+use lib.Dec.{leb}
+use lib.ListN.{length, drop}
+use Rattle.elimination.specs.Records.{scheduleOf}
+use Rattle.index.specs.Index.{indexOf, indexBytes}
+use Rattle.sheet.specs.Contents.{split, marksPart, schedulePart}
+use Rattle.sheet.specs.Asking.{_asks_}
+use Rattle.sheet.specs.Questions.{sheetCount}
+use Rattle.view.specs.Shown.{Rectangle, shown}
+use Rattle.bitmap.specs.Map.{mapSize, mapBytes, countShown}
+use Rattle.rollmap.specs.Jobs.{Outcome, outcome}
+
+-- parts 2 and 3 of the n marks of part 1, `s`, at the start of a buffer
+unfoldable pub resultsOver : List ℕ → ℕ → List ℕ → List ℕ
+resultsOver s n buffer = scheduleOf s n ++ (indexBytes (indexOf s (scheduleOf s n) n) ++ drop (16 * n) buffer)
+
+-- viewing an accepted sheet at a zoom that is taken: 13 is all that is left to ask
+unfoldable pub viewAt : List ℕ → Rectangle → ℕ → ℕ → Outcome
+viewAt s e k room =
+    let show = shown (marksPart (split s)) (schedulePart (split s)) k e in
+    outcome ((13 asks leb (mapSize (sheetCount s)) room) ∷ []) (countShown show (sheetCount s)) (mapBytes show (sheetCount s))
