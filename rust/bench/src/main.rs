@@ -28,6 +28,9 @@ const DATA: [(&str, Shape); 5] = [
 /// The numbers of marks that growth is seen over.
 const SIZES: [usize; 3] = [256, 1_024, 4_096];
 
+/// Besides, the small numbers that scheduling is timed on.
+const SMALL: [usize; 2] = [16, 64];
+
 /// The largest of them.
 const MOST: usize = 4_096;
 
@@ -179,7 +182,7 @@ fn growth() {
     );
     for (name, shape) in [("uniform", Shape::Uniform), ("clustered", Shape::Clustered)] {
         let (mut proved, mut plain) = (Vec::new(), Vec::new());
-        for n in SIZES {
+        for n in SMALL.into_iter().chain(SIZES) {
             let calls = (MOST / n) as u32;
             let [ours, theirs, _] = time_scheduling(&sheet_of(shape, n), n, calls);
             proved.push(ours);
@@ -250,8 +253,8 @@ fn square_about(x: i16, y: i16, half: i16) -> View {
 }
 
 /// The least times of a view at k/64: proved, plain, and of the proved check alone. The
-/// first two are seen to show the same. Answers the count too.
-fn time_view(sheet: &[u8], rectangle: View, k: u32) -> (u32, [Micros; 3]) {
+/// first two are seen to show the same. Answers how many marks are shown and looked at, too.
+fn time_view(sheet: &[u8], rectangle: View, k: u32) -> ([usize; 2], [Micros; 3]) {
     let ours = View {
         zoom: Zoom::Wheel(k as f32 / 64.0),
         ..rectangle
@@ -276,7 +279,9 @@ fn time_view(sheet: &[u8], rectangle: View, k: u32) -> (u32, [Micros; 3]) {
             &mut || _ = black_box(rollmap::check(sheet)),
         ],
     );
-    (plain_count.expect("the view is taken"), times)
+    let visited = plain::view::visited(sheet, theirs);
+    let count = plain_count.expect("the view is taken") as usize;
+    ([count, visited.expect("the view is taken")], times)
 }
 
 fn viewing() {
@@ -287,6 +292,7 @@ fn viewing() {
             "rectangle",
             "64 times the zoom",
             "shown",
+            "looked at",
             "proved, µs",
             "plain Rust, µs",
             "ratio",
@@ -299,9 +305,9 @@ fn viewing() {
         let small = square_about(first.x, first.y, 500);
         for (size, rectangle) in [("1,000 wide", small), ("whole", WHOLE)] {
             for k in [1, 64, 1_024, 16_384] {
-                let (count, [ours, theirs, check]) = time_view(&sheet, rectangle, k);
+                let ([count, visited], [ours, theirs, check]) = time_view(&sheet, rectangle, k);
                 println!(
-                    "| {name} | {size} | {k} | {count} | {:.1} | {:.1} | {:.2} | {:.2} |",
+                    "| {name} | {size} | {k} | {count} | {visited} | {:.1} | {:.1} | {:.2} | {:.2} |",
                     ours.0,
                     theirs.0,
                     ours.over(theirs),

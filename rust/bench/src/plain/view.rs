@@ -15,6 +15,22 @@ pub struct View {
 
 /// Answers a view: writes its map and answers the count. Asks 1 to 13.
 pub fn view(sheet: &[u8], view: View, map: &mut [u8]) -> Result<u32, Refusal> {
+    let search = search(sheet, view)?;
+    let n = search.indexed.marks.len();
+    let bytes = n.div_ceil(8);
+    ask(13, map.len() >= bytes)?;
+    map[..bytes].fill(0);
+    Ok(search.block(0, n, 0, map))
+}
+
+/// How many marks a view looks at. Asks 1 to 12.
+pub fn visited(sheet: &[u8], view: View) -> Result<usize, Refusal> {
+    let search = search(sheet, view)?;
+    Ok(search.visited(0, search.indexed.marks.len(), 0))
+}
+
+/// The search of a view. Asks 1 to 12.
+fn search(sheet: &[u8], view: View) -> Result<Search<'_>, Refusal> {
     let opened = open(sheet)?;
     let (Some(records), Some(index)) = (opened.records, opened.index) else {
         return Err(10);
@@ -24,16 +40,12 @@ pub fn view(sheet: &[u8], view: View, map: &mut [u8]) -> Result<u32, Refusal> {
         view.low[0] <= view.high[0] && view.low[1] <= view.high[1],
     )?;
     ask(12, (1..=65_536).contains(&view.k))?;
-    let bytes = opened.marks.len().div_ceil(8);
-    ask(13, map.len() >= bytes)?;
     let indexed = Indexed {
         marks: opened.marks,
         records,
         index,
     };
-    map[..bytes].fill(0);
-    let search = Search { indexed, view };
-    Ok(search.block(0, index.len(), 0, map))
+    Ok(Search { indexed, view })
 }
 
 /// A search down the tree.
@@ -57,17 +69,39 @@ impl Search<'_> {
         let inside =
             (0..2).all(|axis| view.low[axis] <= place[axis] && place[axis] <= view.high[axis]);
         map[root / 8] |= u8::from(inside) << (root % 8);
-        let half = size / 2;
-        let (left, right) = (from + 1, from + 1 + half);
         let mut count = u32::from(inside);
-        let right_size = size - 1 - half;
-        if right_size == 0 || self.head(right, axis) >= view.low[axis] {
-            count += self.block(left, half, 1 - axis, map);
-        }
-        if right_size > 0 && self.head(left, axis) <= view.high[axis] {
-            count += self.block(right, right_size, 1 - axis, map);
+        for (from, size) in self.halves(from, size, axis) {
+            count += self.block(from, size, 1 - axis, map);
         }
         count
+    }
+
+    /// How many marks of a block are looked at.
+    fn visited(&self, from: usize, size: usize, axis: usize) -> usize {
+        if size == 0 {
+            return 0;
+        }
+        if !self.lives(self.indexed.number(from)) {
+            return 1;
+        }
+        let halves = self.halves(from, size, axis).into_iter();
+        1 + halves
+            .map(|(from, size)| self.visited(from, size, 1 - axis))
+            .sum::<usize>()
+    }
+
+    /// The two halves below a block's root, with no marks where they lie beyond the
+    /// rectangle.
+    fn halves(&self, from: usize, size: usize, axis: usize) -> [(usize, usize); 2] {
+        let Self { view, .. } = self;
+        let (left_size, right_size) = (size / 2, size - 1 - size / 2);
+        let (left, right) = (from + 1, from + 1 + left_size);
+        let search_left = right_size == 0 || self.head(right, axis) >= view.low[axis];
+        let search_right = right_size > 0 && self.head(left, axis) <= view.high[axis];
+        [
+            (left, if search_left { left_size } else { 0 }),
+            (right, if search_right { right_size } else { 0 }),
+        ]
     }
 
     fn place(&self, mark: usize) -> [i16; 2] {

@@ -1,0 +1,137 @@
+-- The answer to the program's questions, and what is printed for each answer. Assumes nothing.
+use Prim.Native.Nat.{ℕ, _*_, _<_, _≤_}
+use mathlib.Core.Path.{_≡_, refl, sym, ap, _∙_}
+use mathlib.Core.List.{List, [], _∷_, _++_}
+use native.Mathlib.Omega.{arith}
+use borrow.Author.Tests.{le-leb, lt-leb, leb-true, ne-eqb}
+use lib.Dec.{leb}
+use lib.ListN.{length, drop}
+use Rattle.numbers.specs.Little.{Bytes}
+use Rattle.text.specs.Text.{decimal, Wrote}
+use Rattle.text.specs.Laws.{wrote-length}
+use Rattle.elimination.specs.Process.{process}
+use Rattle.elimination.specs.Records.{marksOf, scheduleOf}
+use Rattle.elimination.specs.Schedule.{AllowedMarks, schedule-length}
+use Rattle.sheet.specs.Contents.{split, marksPart}
+use Rattle.sheet.specs.Asking.{Question, _asks_, answer}
+use Rattle.sheet.specs.Questions.{markCount, sheetCount, checkQuestions, check}
+use Rattle.sheet.specs.Accepted.{Laid}
+use Rattle.sheet.specs.Assembled.{over}
+use Rattle.sheet.specs.Lemmas.Asked.{none-asked, asked-yes, asked-no, asked-iff}
+use Rattle.sheet.specs.Laws.{append-yes, append-no, append-iff, check-numbered, accepted-iff, over-sets}
+use Rattle.rollmap.specs.Lemmas.Scheduled.{allowed, right, marks-bytes}
+use Rattle.report.specs.Text.{text, line, listing, refusal, printQuestions, printed}
+use Rattle.report.specs.Printing.{removalAt, Printable, textRoom, workedOut, Prints}
+use Rattle.report.specs.Lemmas.Lines.{refusal-room, listing-room, listing-same}
+use Rattle.report.specs.Lemmas.Removals.{removal-process, schedule-printable}
+
+-- what is known of part 1 where no question said 'no'
+pub record Taken (part : List ℕ) : Type 0 where
+  pub few : markCount part ≤ 2000
+  pub long : length part ≡ 11 * markCount part
+  pub allowed : AllowedMarks part (markCount part)
+
+module _ (s : List ℕ) where
+  last : List Question
+  last = (14 asks leb (sheetCount s) 2000) ∷ []
+
+  -- ---- the first 'no'
+
+  pub answer-long : 65536 < length s → answer (printQuestions s) ≡ 14
+  unfolding printQuestions
+  answer-long h = asked-no 14 _ (lt-leb (length s) 65536 h)
+
+  module _ (short : length s ≤ 65536) where
+    pub answer-refused : 0 < check s → answer (printQuestions s) ≡ check s
+    unfolding printQuestions check
+    answer-refused h = asked-yes 14 _ (le-leb (length s) 65536 short) ∙ append-no (checkQuestions s) _ (check-numbered s) h
+
+    module _ (ok : check s ≡ 0) where
+      accepted : answer (printQuestions s) ≡ answer last
+      unfolding printQuestions check last
+      accepted = asked-yes 14 _ (le-leb (length s) 65536 short) ∙ append-yes (checkQuestions s) _ (check-numbered s) ok
+
+      pub answer-many : 2000 < sheetCount s → answer (printQuestions s) ≡ 14
+      unfolding last
+      answer-many h = accepted ∙ asked-no 14 _ (lt-leb (sheetCount s) 2000 h)
+
+      pub answer-taken : sheetCount s ≤ 2000 → answer (printQuestions s) ≡ 0
+      unfolding last
+      answer-taken h = accepted ∙ asked-yes 14 _ (le-leb (sheetCount s) 2000 h) ∙ none-asked
+
+  -- ---- what is printed
+
+  -- the text of `w` at the start of a buffer that has room for it
+  record Stands (out out-after : List ℕ) (r : ℕ) : Type 0 where
+    size : r ≡ length (printed s)
+    inside : r ≤ length out-after
+    text : out-after ≡ over (printed s) out
+
+  stands : (w : List ℕ) {out out-after : List ℕ} {r : ℕ} → printed s ≡ w → length w ≤ length out → Wrote out out-after 0 w r → Stands out out-after r
+  stands w {out} e room o =
+      record {
+        size = rw e (omega (arith, o .ends));
+        inside = omega (arith, o .ends, wrote-length o);
+        text = o .holds ∙ over-sets w out room ∙ ap (λ (t : List ℕ). over t out) (sym e);
+      }
+
+  module _ {number : ℕ} (e : number ≡ answer (printQuestions s)) (no : 0 < number) where
+    refusal-printed : printed s ≡ refusal number
+    unfolding printed
+    refusal-printed = rw (← e, ne-eqb number 0 (λ z. omega arith))
+
+    none-worked-out : workedOut s ≡ []
+    unfolding workedOut
+    none-worked-out = rw (← e, ne-eqb number 0 (λ z. omega arith))
+
+    pub prints-refusal : (work schedule : List ℕ) {out out-after : List ℕ} {r : ℕ} → 29 ≤ length out
+        → Wrote out out-after 0 (line (text "refused" ∷ decimal number ∷ [])) r → Prints s work schedule out r work schedule out-after
+    unfolding refusal over
+    prints-refusal work schedule room o =
+        let w = stands (refusal number) refusal-printed (omega (arith, refusal-room number)) o in
+        record { size = w .size; inside = w .inside; text = w .text; records = rw none-worked-out; refused = λ h. refl }
+
+  -- no question said 'no'
+  module _ (yes : answer (printQuestions s) ≡ 0) where
+    asked : (check s ≡ 0) × (answer last ≡ 0)
+    unfolding printQuestions check last
+    asked = append-iff (checkQuestions s) _ (check-numbered s) .0 (asked-iff 14 (leb (length s) 65536) _ (omega arith) .0 yes .1)
+
+    pub taken-laid : Laid s
+    taken-laid = accepted-iff s .0 (asked .0) .laid
+
+    few : sheetCount s ≤ 2000
+    unfolding last
+    few = leb-true (sheetCount s) 2000 (asked-iff 14 (leb (sheetCount s) 2000) [] (omega arith) .0 (asked .1) .0)
+
+  -- then `part` is part 1
+  module _ (bytes : Bytes s) (yes : answer (printQuestions s) ≡ 0) {part : List ℕ} (is : part ≡ marksPart (split s)) where
+    pub taken : Taken part
+    taken =
+        let ok : check s ≡ 0 = asked yes .0 in
+        let marks = right s bytes ok in
+        rw is (record { few = few yes; long = marks .long; allowed = allowed (marksPart (split s)) marks (marks-bytes s bytes ok) })
+
+    module _ {p : List ℕ} (before : List ℕ) (schedule : p ≡ scheduleOf part (markCount part) ++ drop (14 * markCount part) before) where
+      rest : List ℕ
+      rest = drop (14 * markCount part) before
+
+      pub taken-printable : Printable p (markCount part)
+      unfolding rest
+      taken-printable = rw schedule (schedule-printable part rest (markCount part) (taken .allowed))
+
+      same : listing (removalAt p) (markCount part) ≡ printed s
+      unfolding printed rest
+      same =
+          let e = listing-same (removalAt p) (process (marksOf part (markCount part))) (markCount part) (rw schedule (removal-process part rest (markCount part) (taken .allowed))) in
+          rw (yes, ← is) e
+
+      worked-out : p ≡ over (workedOut s) before
+      unfolding workedOut over
+      worked-out = rw (yes, ← is, schedule-length part (markCount part)) schedule
+
+      pub prints-listing : (work work-after : List ℕ) {out out-after : List ℕ} {r : ℕ} → textRoom 2000 ≤ length out
+          → Wrote out out-after 0 (listing (removalAt p) (markCount part)) r → Prints s work before out r work-after p out-after
+      prints-listing work work-after room o =
+          let w = stands (listing (removalAt p) (markCount part)) (sym same) (omega (arith, listing-room (removalAt p) (markCount part), taken .few)) o in
+          record { size = w .size; inside = w .inside; text = w .text; records = worked-out; refused = λ h. absurd (omega (arith, h, yes)) }

@@ -1,0 +1,80 @@
+-- The schedule that was worked out for the marks says, record by record, what the process makes of them. Assumes nothing.
+use Prim.Native.Nat.{ℕ, _+_, _*_, _<_, _≤_}
+use mathlib.Core.Path.{_≡_, refl, sym, _∙_, subst}
+use mathlib.Core.Bool.{Bool, true, false, _&&_, true≢false}
+use mathlib.Core.List.{List, _++_}
+use native.Mathlib.Omega.{arith}
+use borrow.Author.Tests.{ne-eqb}
+use lib.Dec.{eqb}
+use lib.ListN.{length, length-append}
+use Rattle.numbers.specs.Laws.{le-append}
+use Rattle.fractions.specs.declared.Fraction.{Fraction}
+use Rattle.fractions.specs.Order.{Small}
+use Rattle.marks.specs.Laws.{touching-small, touching-positive}
+use Rattle.elimination.specs.Process.{Removal, stays, gone, process}
+use Rattle.elimination.specs.Records.{eliminatorAt, numAt, isNever, marksOf, scheduleOf}
+use Rattle.elimination.specs.Lemmas.Records.{Reads}
+use Rattle.elimination.specs.Sheet.{sheet-proper}
+use Rattle.elimination.specs.Theorems.{process-eliminator}
+use Rattle.elimination.specs.Schedule.{AllowedMarks, schedule-length, schedule-stays, schedule-gone}
+use Rattle.report.specs.Printing.{removalAt, Zoomable, Printable}
+
+-- a record reads the same with more bytes behind the schedule
+reads-append : (p rest : List ℕ) (m h num den : ℕ) → 14 * m + 14 ≤ length p → Reads p m h num den → Reads (p ++ rest) m h num den
+reads-append p rest m h num den k r =
+    record {
+      eliminator = le-append 2 p rest (14 * m) (omega arith) ∙ r .eliminator;
+      numerator = le-append 8 p rest (14 * m + 2) (omega arith) ∙ r .numerator;
+      denominator = le-append 4 p rest (14 * m + 10) (omega arith) ∙ r .denominator;
+    }
+
+none-both : (a b : Bool) → a && (b && false) ≡ false
+none-both true true = refl
+none-both true false = refl
+none-both false b = refl
+
+-- record m reads as what becomes of mark m
+record Says (p : List ℕ) (m : ℕ) (r : Removal) : Type 0 where
+  removal : removalAt p m ≡ r
+  zoom : isNever p m ≡ false → Zoomable p m
+
+says-stays : (p : List ℕ) (m : ℕ) → Reads p m 65535 0 0 → Says p m stays
+unfolding removalAt isNever
+says-stays p m r =
+    let e : isNever p m ≡ true = rw (r .eliminator, r .numerator, r .denominator) in
+    record { removal = rw e; zoom = λ n. absurd (true≢false (sym e ∙ n)) }
+
+says-gone : (p : List ℕ) (m h : ℕ) (f : Fraction) → Reads p m h (f .num) (f .den) → Small f → 0 < f .den → Says p m (gone h f)
+unfolding removalAt isNever
+says-gone p m h f r small positive =
+    let some : eqb (f .den) 0 ≡ false = ne-eqb (f .den) 0 (λ z. omega arith) in
+    let e : isNever p m ≡ false = rw (r .denominator, some) (none-both (eqb (eliminatorAt p m) 65535) (eqb (numAt p m) 0)) in
+    record {
+      removal = rw (e, r .eliminator, r .numerator, r .denominator);
+      zoom = λ n. record { small = rw (r .numerator, r .denominator) small; positive = rw (r .denominator) positive };
+    }
+
+module _ (s rest : List ℕ) (n : ℕ) (ok : AllowedMarks s n) where
+  says : (m : ℕ) → m < n → Says (scheduleOf s n ++ rest) m (process (marksOf s n) m)
+  says m k = cases (process (marksOf s n) m) refl
+    where
+      inside : 14 * m + 14 ≤ length (scheduleOf s n)
+      inside = omega (arith, schedule-length s n)
+
+      cases : (r : Removal) → process (marksOf s n) m ≡ r → Says (scheduleOf s n ++ rest) m r
+      cases stays e = says-stays _ m (reads-append (scheduleOf s n) rest m 65535 0 0 inside (schedule-stays s n ok m k e))
+      cases (gone h f) e =
+          let x = process-eliminator (marksOf s n) (sheet-proper s n (ok .few)) m h f k e in
+          let small : Small f = subst Small (sym (x .exact)) (touching-small s h m (ok .bytes) (ok .radii h (x .inside)) (ok .radii m k)) in
+          let positive : 0 < f .den = rw (x .exact) (touching-positive s h m) in
+          says-gone _ m h f (reads-append (scheduleOf s n) rest m h (f .num) (f .den) inside (schedule-gone s n ok m h f k e)) small positive
+
+  pub removal-process : (m : ℕ) → m < n → removalAt (scheduleOf s n ++ rest) m ≡ process (marksOf s n) m
+  removal-process m k = says m k .removal
+
+  pub schedule-printable : Printable (scheduleOf s n ++ rest) n
+  schedule-printable =
+      record {
+        long = omega (arith, length-append (scheduleOf s n) rest, schedule-length s n);
+        zooms = λ m k. says m k .zoom;
+      }

@@ -1,0 +1,61 @@
+-- What the functions of src say they write, and what they ask of the buffers lent to them.
+use Prim.Native.Nat.{ℕ, _+_, _*_, _<_, _≤_}
+use mathlib.Core.Path.{_≡_}
+use mathlib.Core.Bool.{false, cond}
+use mathlib.Core.List.{List, []}
+use lib.Dec.{eqb}
+use lib.ListN.{length}
+use Rattle.fractions.specs.Order.{Small}
+use Rattle.elimination.specs.Process.{Removal, stays, gone}
+use Rattle.elimination.specs.Records.{eliminatorAt, denAt, fractionAt, isNever, scheduleOf}
+use Rattle.sheet.specs.Contents.{split, marksPart}
+use Rattle.sheet.specs.Asking.{answer}
+use Rattle.sheet.specs.Questions.{sheetCount}
+use Rattle.sheet.specs.Assembled.{over}
+use Rattle.report.specs.Text.{printQuestions, printed}
+
+-- ---- a schedule's records
+
+-- What becomes of mark m, by its record in the schedule `p`.
+unfoldable pub removalAt : List ℕ → ℕ → Removal
+removalAt p m = cond (isNever p m) stays (gone (eliminatorAt p m) (fractionAt p m))
+
+-- the removal zoom of such a value can be worked out in 64 bits
+pub record Zoomable (p : List ℕ) (m : ℕ) : Type 0 where
+  pub small : Small (fractionAt p m)
+  pub positive : 0 < denAt p m
+
+-- n records, each of them 'never' or with a removal zoom
+pub record Printable (p : List ℕ) (n : ℕ) : Type 0 where
+  pub long : 14 * n ≤ length p
+  pub zooms : (m : ℕ) → m < n → isNever p m ≡ false → Zoomable p m
+
+-- ---- room
+
+-- The longest line has five numbers, each of at most 20 digits and one byte behind them.
+abbrev pub lineRoom : ℕ
+lineRoom = 105
+
+-- The first line has a word of at most 7 letters, a space, and one such number.
+abbrev pub textRoom : ℕ → ℕ
+textRoom n = lineRoom * n + 29
+
+-- "at most 2,000 marks": their work buffer, their records and their lines
+pub record Room (work schedule out : List ℕ) : Type 0 where
+  pub work-room : 32 * 2000 + 1024 ≤ length work
+  pub schedule-room : 14 * 2000 ≤ length schedule
+  pub out-room : textRoom 2000 ≤ length out
+
+-- ---- the whole call
+
+-- the records that are worked out for a sheet: none where it is refused
+unfoldable pub workedOut : List ℕ → List ℕ
+workedOut s = cond (eqb (answer (printQuestions s)) 0) (scheduleOf (marksPart (split s)) (sheetCount s)) []
+
+-- What printing the sheet `s` answers, `r`, and what it leaves in `out` and `schedule`; of `work`, that a refusal leaves it alone.
+pub record Prints (s work schedule out : List ℕ) (r : ℕ) (work-after schedule-after out-after : List ℕ) : Type 0 where
+  pub size : r ≡ length (printed s)
+  pub inside : r ≤ length out-after
+  pub text : out-after ≡ over (printed s) out
+  pub records : schedule-after ≡ over (workedOut s) schedule
+  pub refused : 0 < answer (printQuestions s) → work-after ≡ work
