@@ -17,12 +17,13 @@ use plain::schedule::Desk;
 use race::{race, Micros};
 
 /// The data that scheduling is timed on.
-const DATA: [(&str, Shape); 5] = [
+const DATA: [(&str, Shape); 6] = [
     ("uniform", Shape::Uniform),
     ("clustered", Shape::Clustered),
     ("line", Shape::Line),
     ("one place", Shape::OnePlace),
     ("huge radius", Shape::HugeRadius),
+    ("1 % huge radius", Shape::FewHuge),
 ];
 
 /// The numbers of marks that growth is seen over.

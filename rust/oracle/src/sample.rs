@@ -60,19 +60,22 @@ pub enum Shape {
     Grid,
     /// Anywhere, with the largest radius or nearly so.
     HugeRadius,
+    /// Anywhere, one in a hundred with the largest radius.
+    FewHuge,
     /// At the ends and the middle of the range of places, with extreme radii.
     Extreme,
 }
 
 impl Shape {
     /// Every shape.
-    pub const ALL: [Self; 7] = [
+    pub const ALL: [Self; 8] = [
         Self::Uniform,
         Self::Clustered,
         Self::Line,
         Self::OnePlace,
         Self::Grid,
         Self::HugeRadius,
+        Self::FewHuge,
         Self::Extreme,
     ];
 }
@@ -112,6 +115,11 @@ fn mark(generator: &mut Generator, shape: Shape, sites: &[(i16, i16)], n: usize)
     let (radius, priority) = match shape {
         Shape::Grid => (generator.choose(&[10, 10, 20]), generator.below(3) as u16),
         Shape::HugeRadius => (LARGEST_RADIUS + 1 - small, generator.below(65_536) as u16),
+        Shape::FewHuge => {
+            let huge = generator.below(100) == 0;
+            let radius = if huge { LARGEST_RADIUS } else { small };
+            (radius, generator.below(65_536) as u16)
+        }
         Shape::Extreme => (
             generator.choose(&[0, 1, LARGEST_RADIUS]),
             generator.choose(&[0, 65_535]),
@@ -137,7 +145,9 @@ fn place(generator: &mut Generator, shape: Shape, sites: &[(i16, i16)], n: usize
     let side = 1 + n.isqrt() as u32;
     let (site_x, site_y) = sites[0];
     match shape {
-        Shape::Uniform | Shape::HugeRadius => (anywhere(generator), anywhere(generator)),
+        Shape::Uniform | Shape::HugeRadius | Shape::FewHuge => {
+            (anywhere(generator), anywhere(generator))
+        }
         Shape::Clustered => {
             let (x, y) = generator.choose(sites);
             (

@@ -45,3 +45,8 @@ pub use sheet::{
 };
 pub use view::{map_bytes, view, view_to_map, Map, View, Zoom};
 pub use walk::{shown, walk, Shown};
+
+/// The README's example, run as a documentation test.
+#[cfg(doctest)]
+#[doc = include_str!("../../../README.md")]
+struct Readme;
