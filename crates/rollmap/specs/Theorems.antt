@@ -1,30 +1,31 @@
 -- Demands 2 and 3 over the bytes of sheets. Assumes nothing.
-use Prim.Native.Nat.{ℕ, _*_, _<_, _≤_}
-use mathlib.Core.Path.{_≡_, refl, ap, _∙_}
-use mathlib.Core.Bool.{Bool, _&&_}
+use Prim.Native.Nat.{ℕ, _<_}
+use mathlib.Core.Path.{_≡_, refl, sym, ap, _∙_, subst}
 use mathlib.Core.List.{List}
 use mathlib.Core.Logic.{_↔_}
 use native.Mathlib.Omega.{arith}
-use lib.ListN.{length, drop}
+use lib.ListN.{length, take, drop}
+use lib.Seq.{take-append-seam}
 use Rattle.numbers.specs.Little.{Bytes}
 use Rattle.fractions.specs.declared.Value.{Value}
 use Rattle.fractions.specs.Order.{Equal}
-use Rattle.elimination.specs.Marks.{Marks}
-use Rattle.elimination.specs.Records.{marksOf, valueAt, scheduleOf}
-use Rattle.elimination.specs.Rules.{FirstRule, SecondRule, AllSound}
+use Rattle.elimination.specs.Records.{scheduleOf}
 use Rattle.elimination.specs.Schedule.{AllowedMarks, schedule-iff, schedule-later}
 use Rattle.sheet.specs.Contents.{split, join, marksPart, schedulePart}
-use Rattle.sheet.specs.Asking.{answer}
-use Rattle.sheet.specs.Questions.{sheetCount, check}
-use Rattle.sheet.specs.Laws.{split-join, fitting-writable, join-accepted}
+use Rattle.sheet.specs.Asking.{Question, answer}
+use Rattle.sheet.specs.Questions.{sheetCount, checkQuestions, check}
+use Rattle.sheet.specs.Laws.{append-iff, check-numbered, split-join, fitting-writable, join-accepted}
 use Rattle.bitmap.specs.Map.{bit, mapBytes, countShown}
-use Rattle.bitmap.specs.Facts.{Shows}
 use Rattle.bitmap.specs.Laws.{map-shows}
 use Rattle.view.specs.declared.Zoom.{Zoom}
 use Rattle.view.specs.Zoom.{scaleOf}
-use Rattle.view.specs.Shown.{Rectangle, zoomSquared, livesAt, inside, shown}
+use Rattle.view.specs.Shown.{Rectangle, zoomSquared, livesAt, shown}
 use Rattle.view.specs.Questions.{viewQuestions}
-use Rattle.rollmap.specs.Jobs.{Outcome, outcome, after, newBodies, scheduled, ScheduledHere, scale, shownIn, viewJob}
+use Rattle.rollmap.specs.declared.Answer.{Answer}
+use Rattle.rollmap.specs.Jobs.{Outcome, outcome, after, newBodies, scheduled, ScheduledHere, scheduleQuestions, scheduleJob, scale, shownIn, viewJob}
+use Rattle.rollmap.specs.Answers.{Gives}
+use Rattle.rollmap.specs.Demand3.{sheetValue, IsList, KeepsRules, shownBy, ShowsLiving, Demand3, Meets, MeetsView}
+use Rattle.rollmap.specs.Lemmas.Outcomes.{all-yes, value-is, bytes-are}
 use Rattle.rollmap.specs.Lemmas.Scheduled.{later-same, count-same, allowed, new-fitting, right, marks-bytes}
 
 -- ---- demand 2: what scheduling writes, for an accepted sheet g
@@ -51,18 +52,6 @@ module _ (g : List ℕ) (bytes : Bytes g) (ok : check g ≡ 0) where
 
 -- ---- demand 3, of a sheet s scheduled here
 
--- the marks of a sheet, as the process and the rules see them
-abbrev pub sheetMarks : List ℕ → Marks
-sheetMarks s = marksOf (marksPart (split s)) (sheetCount s)
-
--- the removal value that a sheet's part 2 names for mark m
-abbrev pub sheetValue : List ℕ → ℕ → Value
-sheetValue s = valueAt (schedulePart (split s))
-
--- A list keeps both rules against a sheet.
-abbrev pub KeepsRules : List ℕ → (ℕ → Value) → Type 0
-KeepsRules s r = FirstRule (sheetMarks s) r × SecondRule (sheetMarks s) r
-
 module _ (s : List ℕ) (here : ScheduledHere s) where
   open ScheduledHere here using (given-sheet as g, bytes, accepted, written)
 
@@ -79,27 +68,22 @@ module _ (s : List ℕ) (here : ScheduledHere s) where
   schedule-is : schedulePart (split s) ≡ scheduleOf (marksPart (split s)) (sheetCount s)
   schedule-is = rw parts
 
-  module _ (r : ℕ → Value) (sound : AllSound (sheetMarks s) r) where
-    -- Whatever list someone holds against a sheet scheduled here: it equals ours, mark by mark, exactly when it keeps both rules.
-    pub same-iff : ((m : ℕ) → m < sheetCount s → Equal (sheetValue s m) (r m)) ↔ KeepsRules s r
-    same-iff = rw schedule-is (schedule-iff (marksPart (split s)) (sheetCount s) fine r sound)
+  module _ (list : ℕ → Value) (sound : IsList s list) where
+    -- A list equals ours, mark by mark, exactly when it keeps both rules.
+    pub same-iff : ((m : ℕ) → m < sheetCount s → Equal (sheetValue s m) (list m)) ↔ KeepsRules s list
+    same-iff = rw schedule-is (schedule-iff (marksPart (split s)) (sheetCount s) fine list sound)
 
     -- And such a list has the same marks living at every zoom.
-    pub lives-same : KeepsRules s r → (m k : ℕ) → m < sheetCount s → livesAt k (r m) ≡ livesAt k (sheetValue s m)
+    pub lives-same : KeepsRules s list → (m k : ℕ) → m < sheetCount s → livesAt k (list m) ≡ livesAt k (sheetValue s m)
     unfolding livesAt
     lives-same rules m k h =
-        let e = rw (← schedule-is) at (schedule-later (marksPart (split s)) (sheetCount s) fine r sound rules m (zoomSquared k) h) in
-        later-same (r m) (sheetValue s m) (zoomSquared k) e
+        let e = rw (← schedule-is) at (schedule-later (marksPart (split s)) (sheetCount s) fine list sound rules m (zoomSquared k) h) in
+        later-same (list m) (sheetValue s m) (zoomSquared k) e
 
-    -- The view clause: for each accepted view, mark m's bit in the map is 1 exactly when m's point lies in the rectangle and the list
-    -- has it living, the unused bits are 0, and the count is the number of those marks. `buffer` is what the lent map held.
-    module _ (rules : KeepsRules s r) (e : Rectangle) (zoom : Zoom) (buffer : List ℕ)
+    -- The view clause. `buffer` is what the lent map held.
+    module _ (rules : KeepsRules s list) (e : Rectangle) (zoom : Zoom) (buffer : List ℕ)
         (taken : answer (viewQuestions s e zoom (length buffer)) ≡ 0) where
-      -- who is shown, with the living taken from the list
-      abbrev pub shownBy : ℕ → Bool
-      shownBy m = livesAt (scale (scaleOf zoom)) (r m) && inside (marksPart (split s)) e m
-
-      shown-same : (m : ℕ) → m < sheetCount s → shownIn s e zoom m ≡ shownBy m
+      shown-same : (m : ℕ) → m < sheetCount s → shownIn s e zoom m ≡ shownBy s e zoom list m
       unfolding shownIn shown
       shown-same m h = rw (lives-same rules m (scale (scaleOf zoom)) h)
 
@@ -108,11 +92,59 @@ module _ (s : List ℕ) (here : ScheduledHere s) where
       unfolding viewJob outcome
       viewed = rw taken
 
-      pub view-bits : Shows shownBy (sheetCount s) (after (viewJob s e zoom (length buffer)) buffer)
+      pub view-living : ShowsLiving s e zoom list (after (viewJob s e zoom (length buffer)) buffer) ((viewJob s e zoom (length buffer)) .value)
       unfolding after
-      view-bits =
+      view-living =
           let w = map-shows (shownIn s e zoom) (sheetCount s) (drop (length (mapBytes (shownIn s e zoom) (sheetCount s))) buffer) in
-          rw viewed (record { bits = λ m h. w .bits m h ∙ ap bit (shown-same m h); unused = w .unused })
+          rw viewed
+          (record {
+            bits = record { bits = λ m h. w .bits m h ∙ ap bit (shown-same m h); unused = w .unused };
+            counted = count-same (shownIn s e zoom) (shownBy s e zoom list) (sheetCount s) shown-same;
+          })
 
-      pub view-count : (viewJob s e zoom (length buffer)) .value ≡ countShown shownBy (sheetCount s)
-      view-count = ap (λ (o : Outcome). o .value) viewed ∙ count-same (shownIn s e zoom) shownBy (sheetCount s) shown-same
+  -- Demand 3, whole.
+  pub demand3 : Demand3 s
+  demand3 = record { same = same-iff; view = view-living }
+
+-- ---- and so of what the calls answer and leave
+
+pub schedule-meets : (g : List ℕ) (work : ℕ) (before : List ℕ) {r : Answer} {out : List ℕ} → Bytes g
+    → Gives (scheduleJob g work (length before)) before r out → Meets g r out
+unfolding scheduleJob scheduleQuestions check
+schedule-meets g work before {r} {out} bytes gives =
+    record {
+      part1 = λ z. rw (sheet z) (part1-kept (scheduled g) (here z));
+      demand3 = λ z. rw (sheet z) (demand3 (scheduled g) (here z));
+    }
+  where
+    questions : List Question
+    questions = scheduleQuestions g work (length before)
+
+    here : r .number ≡ 0 → ScheduledHere (scheduled g)
+    here z =
+        let ok : check g ≡ 0 = append-iff (checkQuestions g) _ (check-numbered g) .0 (all-yes questions (length (scheduled g)) (scheduled g) before gives z) .0 in
+        record { given-sheet = g; bytes = bytes; accepted = ok; written = refl }
+
+    sheet : r .number ≡ 0 → take (r .value) out ≡ scheduled g
+    sheet z =
+        rw (
+          value-is questions (length (scheduled g)) (scheduled g) before gives z,
+          bytes-are questions (length (scheduled g)) (scheduled g) before gives z,
+        )
+        (take-append-seam (scheduled g) (drop (length (scheduled g)) before))
+
+pub view-meets : (s : List ℕ) (e : Rectangle) (zoom : Zoom) (before : List ℕ) {r : Answer} {map : List ℕ}
+    → Gives (viewJob s e zoom (length before)) before r map → MeetsView s e zoom r map
+unfolding viewJob
+view-meets s e zoom before {r} {map} gives =
+    record {
+      living = λ here z list sound rules.
+          (let taken = all-yes (viewQuestions s e zoom (length before)) _ _ before gives z in
+          rw (gives .bytes, ap (λ (a : Answer). a .value) (gives .answered)) (view-living s here list sound rules e zoom before taken));
+    }
+
+-- what a view gives, with demand 3 of it
+pub view-whole : {s : List ℕ} {e : Rectangle} {zoom : Zoom} {before map : List ℕ} {r : Answer}
+    → Gives (viewJob s e zoom (length before)) before r map
+    → Gives (viewJob s e zoom (length before)) before r map × MeetsView s e zoom r map
+view-whole {s} {e} {zoom} {before} gives = (gives, view-meets s e zoom before gives)

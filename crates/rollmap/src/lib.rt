@@ -17,6 +17,7 @@ ghost use Rattle.view.specs.View.{rectangle};
 ghost use Rattle.view.specs.Questions.{question11};
 ghost use Rattle.rollmap.specs.Jobs.{checkJob, newBodies, hasRoom, scheduleJob, assembleJob, viewJob, walkJob};
 ghost use Rattle.rollmap.specs.Answers.{refusal, answerOf, extentOf, edges, Gives, Lent};
+ghost use Rattle.rollmap.specs.Demand3.{Meets, MeetsView};
 ghost use Rattle.rollmap.specs.Steps.{resultsOver, viewAt};
 
 // What a call answers: 0 or the refusal's number, and the length, count or mark number asked for.
@@ -116,11 +117,11 @@ fn has_room(n: usize, work: usize, out: usize) -> bool
 }
 
 // Writes the sheet of three parts that a sheet's marks give, and answers its length: questions 1 to 9 and 13. What the work buffer holds
-// plays no part, and what it is left with after a success is not said.
+// plays no part, and what it is left with after a success is not said. The written sheet meets demand 3.
 #[no_mangle]
 pub extern "C" fn rollmap_schedule(sheet: &[u8], work: &mut [u8], out: &mut [u8]) -> Answer
     ensures { λ r. ⌜ Gives (scheduleJob (now (sheet .entry)) (length (now (work .entry))) (length (now (out .entry)))) (now (out .entry)) r (now (out .exit)) ⌝ }
-    ensures { λ r. ⌜ Lent r (now (work .entry)) (now (work .exit)) ⌝ }
+    ensures { λ r. ⌜ Lent r (now (work .entry)) (now (work .exit)) × Meets (now (sheet .entry)) r (now (out .exit)) ⌝ }
 {
     let number = sheet::check(sheet);
     if number != 0 {
@@ -185,7 +186,7 @@ fn view(sheet: &[u8], edges: Edges, zoom: Zoom, map: &mut [u8]) -> Answer
     }
 }
 
-// The view at a stop.
+// The view at a stop; of a sheet scheduled here it meets demand 3.
 #[no_mangle]
 pub extern "C" fn rollmap_view_stop(
     sheet: &[u8],
@@ -197,11 +198,12 @@ pub extern "C" fn rollmap_view_stop(
     map: &mut [u8],
 ) -> Answer
     ensures { λ r. ⌜ Gives (viewJob (now (sheet .entry)) (edges x0 x1 y0 y1) (Stop stop) (length (now (map .entry)))) (now (map .entry)) r (now (map .exit)) ⌝ }
+    ensures { λ r. ⌜ MeetsView (now (sheet .entry)) (edges x0 x1 y0 y1) (Stop stop) r (now (map .exit)) ⌝ }
 {
     view(sheet, Edges { x0, x1, y0, y1 }, Zoom::Stop(stop), map)
 }
 
-// The view at a wheel value.
+// The view at a wheel value; of a sheet scheduled here it meets demand 3.
 #[no_mangle]
 pub extern "C" fn rollmap_view_wheel(
     sheet: &[u8],
@@ -213,6 +215,7 @@ pub extern "C" fn rollmap_view_wheel(
     map: &mut [u8],
 ) -> Answer
     ensures { λ r. ⌜ Gives (viewJob (now (sheet .entry)) (edges x0 x1 y0 y1) (Wheel wheel) (length (now (map .entry)))) (now (map .entry)) r (now (map .exit)) ⌝ }
+    ensures { λ r. ⌜ MeetsView (now (sheet .entry)) (edges x0 x1 y0 y1) (Wheel wheel) r (now (map .exit)) ⌝ }
 {
     view(sheet, Edges { x0, x1, y0, y1 }, Zoom::Wheel(wheel), map)
 }

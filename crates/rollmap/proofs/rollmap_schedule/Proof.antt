@@ -1,15 +1,21 @@
 -- `rollmap::rollmap_schedule`: each way out by the question that ended it, and else the sheet as it was written. Assumes nothing.
-use Prim.Native.Nat.{_/_}
+use Prim.Native.Nat.{ℕ, _/_}
 use mathlib.Core.Path.{_≡_, refl, sym, _∙_}
-use mathlib.Core.Bool.{true, false}
+use mathlib.Core.List.{List}
 use native.Mathlib.Omega.{arith}
 use lib.ListN.{length}
 use borrow.Author.Needs.{needs}
 use denote.Ref.{now}
+use Rattle.numbers.specs.Little.{Bytes}
 use Rattle.sheet.specs.Questions.{check}
 use Rattle.sheet.specs.Accepted.{MarksRight}
 use Rattle.sheet.specs.Lemmas.Tests.{said-no, said-yes}
 use Rattle.sheet.specs.Laws.{accepted-iff}
+use Rattle.rollmap.specs.declared.Answer.{Answer}
+use Rattle.rollmap.specs.Jobs.{scheduleJob}
+use Rattle.rollmap.specs.Answers.{Gives, Lent}
+use Rattle.rollmap.specs.Demand3.{Meets}
+use Rattle.rollmap.specs.Theorems.{schedule-meets}
 use Rattle.rollmap.specs.Lemmas.Scheduling.{room-there, schedule-refused, schedule-no-room, schedule-written}
 use Rattle.rollmap.proofs.rollmap_schedule.Statement.{statement}
 use Rattle.rollmap.proofs.rollmap_schedule.Tie as tie
@@ -22,6 +28,11 @@ accepted c = sym (c .before .check .ensures) ∙ c .if1 .left
 marks-right : (c : tie.After-body) → MarksRight (now (c .body .result)) (length (now (c .body .result)) / 11)
 marks-right c = rw (c .body .ensures) (accepted-iff _ .0 (accepted (c .before)) .fitting .marks)
 
+-- what a way out gives, with demand 3 of it
+whole : {g : List ℕ} (work : ℕ) {before out w w′ : List ℕ} {r : Answer} → Bytes g → Gives (scheduleJob g work (length before)) before r out
+    → Lent r w w′ → Gives (scheduleJob g work (length before)) before r out × (Lent r w w′ × Meets g r out)
+whole {g} work {before} bytes gives lent = (gives, (lent, schedule-meets g work before bytes gives))
+
 check-requires : tie.Need-check-requires
 check-requires c κs = search needs
 
@@ -31,7 +42,9 @@ refused-requires c κs = search needs
 returns : tie.Need-returns
 returns c =
     let found = c .before .before .check .ensures in
-    (schedule-refused _ _ _ (omega (arith, found, c .before .if1 .taken)) (rw found at (c .refused .ensures)), record { long = refl; refused = λ h. refl })
+    whole _ (λ i. c .before .before .before .before .before .shared-slice-known .given i .fits)
+    (schedule-refused _ _ _ (omega (arith, found, c .before .if1 .taken)) (rw found at (c .refused .ensures)))
+    (record { long = refl; refused = λ h. refl })
 
 body-requires : tie.Need-body-requires
 body-requires c κs = accepted-iff _ .0 (accepted c) .laid
@@ -46,7 +59,9 @@ returns-2 : tie.Need-returns-2
 returns-2 c =
     let b = c .before .before .before in
     let short = rw (b .body .ensures) at (said-no (c .before .before .has-room .ensures) (c .before .if2 .taken)) in
-    (schedule-no-room _ _ _ (accepted (b .before)) short (c .refused2 .ensures), record { long = refl; refused = λ h. refl })
+    whole _ (λ i. c .before .before .before .before .before .before .before .before .shared-slice-known .given i .fits)
+    (schedule-no-room _ _ _ (accepted (b .before)) short (c .refused2 .ensures))
+    (record { long = refl; refused = λ h. refl })
 
 put-scheduled-requires : tie.Need-put-scheduled-requires
 put-scheduled-requires c κs =
@@ -74,7 +89,9 @@ returns-3 c =
     let h = p .before .before .before .before in
     let b = h .before in
     let room = rw (b .body .ensures) at (said-yes (h .has-room .ensures) (p .before .before .before .if2 .left)) in
-    (schedule-written _ _ _ (accepted (b .before)) room (rw (b .body .ensures)) (rw (b .body .ensures) at (p .put-scheduled .ensures)), record { long = search needs; refused = λ z. absurd (omega (arith, z)) })
+    whole _ (λ i. b .before .before .before .before .before .shared-slice-known .given i .fits)
+    (schedule-written _ _ _ (accepted (b .before)) room (rw (b .body .ensures)) (rw (b .body .ensures) at (p .put-scheduled .ensures)))
+    (record { long = search needs; refused = λ z. absurd (omega (arith, z)) })
 
 pub rollmap-schedule-spec : {M : Type 1} → statement M
 rollmap-schedule-spec =

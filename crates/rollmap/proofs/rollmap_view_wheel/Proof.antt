@@ -1,6 +1,7 @@
 -- `rollmap::rollmap_view_wheel`: the view at a wheel value. Assumes nothing.
 use borrow.Author.Needs.{needs}
 use mir.Facts.{toZ-ofZ}
+use Rattle.rollmap.specs.Theorems.{view-whole}
 use Rattle.rollmap.proofs.rollmap_view_wheel.Statement.{statement}
 use Rattle.rollmap.proofs.rollmap_view_wheel.Tie as tie
 
@@ -13,7 +14,8 @@ same-length c = search needs
 returns : tie.Need-returns
 returns c =
     let b = c .before .before .before .before .before .before in
-    rw (toZ-ofZ {z = b .args .x0} (b .fits .x0), toZ-ofZ {z = b .args .x1} (b .fits .x1), toZ-ofZ {z = b .args .y0} (b .fits .y0), toZ-ofZ {z = b .args .y1} (b .fits .y1)) at (c .before .before .view .ensures)
+    view-whole
+    (rw (toZ-ofZ {z = b .args .x0} (b .fits .x0), toZ-ofZ {z = b .args .x1} (b .fits .x1), toZ-ofZ {z = b .args .y0} (b .fits .y0), toZ-ofZ {z = b .args .y1} (b .fits .y1)) at (c .before .before .view .ensures))
 
 pub rollmap-view-wheel-spec : {M : Type 1} → statement M
 rollmap-view-wheel-spec = tie.close (tie.spec view-requires same-length returns)

@@ -2,11 +2,11 @@
 use Prim.Native.Nat.{ℕ, _<_}
 use mathlib.Core.Path.{_≡_, refl, sym, ap, _∙_}
 use mathlib.Core.Bool.{Bool, true, false, cond}
-use mathlib.Core.List.{List, []}
+use mathlib.Core.List.{List, [], _++_}
 use native.Mathlib.Omega.{arith}
 use borrow.Author.Tests.{eq-eqb, ne-eqb, eqb-true}
 use lib.Dec.{eqb}
-use lib.ListN.{length}
+use lib.ListN.{length, drop}
 use Rattle.sheet.specs.declared.Assembled.{Assembled}
 use Rattle.sheet.specs.Contents.{join}
 use Rattle.sheet.specs.Asking.{Question, answer}
@@ -25,10 +25,33 @@ module _ (questions : List Question) (value : ℕ) (written : List ℕ) where
   unfolding outcome
   outcome-no h = rw (ne-eqb (answer questions) 0 (λ e. omega arith))
 
+  pub outcome-number : (outcome questions value written) .number ≡ answer questions
+  unfolding outcome
+  outcome-number = cases (eqb (answer questions) 0) refl
+    where
+      cases : (b : Bool) → eqb (answer questions) 0 ≡ b
+          → (cond {A = Outcome} b (record { number = 0; value = value; written = written }) (record { number = answer questions; value = 0; written = [] })) .number
+          ≡ answer questions
+      cases true e = sym (eqb-true (answer questions) 0 e)
+      cases false e = refl
+
 -- a refused call has written nothing
 pub after-none : (number : ℕ) (buffer : List ℕ) → after (record { number = number; value = 0; written = [] }) buffer ≡ buffer
 unfolding after
 after-none number buffer = refl
+
+-- a call that answers 0
+module _ (questions : List Question) (value : ℕ) (written before : List ℕ) {r : Answer} {left : List ℕ}
+    (gives : Gives (outcome questions value written) before r left) (zero : r .number ≡ 0) where
+  pub all-yes : answer questions ≡ 0
+  all-yes = sym (outcome-number questions value written) ∙ ap (λ (a : Answer). a .number) (sym (gives .answered)) ∙ zero
+
+  pub value-is : r .value ≡ value
+  value-is = rw (outcome-yes questions value written all-yes) at (ap (λ (a : Answer). a .value) (gives .answered))
+
+  pub bytes-are : left ≡ written ++ drop (length written) before
+  unfolding after
+  bytes-are = rw (outcome-yes questions value written all-yes) at (gives .bytes)
 
 module _ (questions : List Question) (value : ℕ) (written buffer : List ℕ) {r : Answer} where
   -- a call that stops at the question of this number

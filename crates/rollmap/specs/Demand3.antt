@@ -1,0 +1,74 @@
+-- Demand 3 over the bytes of sheets: what is claimed. Theorems proves it of every sheet scheduled here, and the contracts of scheduling and
+-- of viewing cite it.
+use Prim.Native.Nat.{ℕ, _<_}
+use mathlib.Core.Path.{_≡_}
+use mathlib.Core.Bool.{Bool, _&&_}
+use mathlib.Core.List.{List}
+use mathlib.Core.Logic.{_↔_}
+use lib.ListN.{length, take}
+use Rattle.fractions.specs.declared.Value.{Value}
+use Rattle.fractions.specs.Order.{Equal}
+use Rattle.elimination.specs.Marks.{Marks}
+use Rattle.elimination.specs.Records.{marksOf, valueAt}
+use Rattle.elimination.specs.Rules.{FirstRule, SecondRule, AllSound}
+use Rattle.sheet.specs.Contents.{split, marksPart, schedulePart}
+use Rattle.sheet.specs.Asking.{answer}
+use Rattle.sheet.specs.Questions.{sheetCount}
+use Rattle.bitmap.specs.Map.{countShown}
+use Rattle.bitmap.specs.Facts.{Shows}
+use Rattle.view.specs.declared.Zoom.{Zoom}
+use Rattle.view.specs.Zoom.{scaleOf}
+use Rattle.view.specs.Shown.{Rectangle, livesAt, inside}
+use Rattle.view.specs.Questions.{viewQuestions}
+use Rattle.rollmap.specs.declared.Answer.{Answer}
+use Rattle.rollmap.specs.Jobs.{after, ScheduledHere, scale, viewJob}
+
+-- ---- a list against a sheet, `s`
+
+-- the marks of a sheet, as the process and the rules see them
+abbrev pub sheetMarks : List ℕ → Marks
+sheetMarks s = marksOf (marksPart (split s)) (sheetCount s)
+
+-- "ours are those in the scheduled sheet's part 2": the removal value that it names for mark m
+abbrev pub sheetValue : List ℕ → ℕ → Value
+sheetValue s = valueAt (schedulePart (split s))
+
+-- "Each that a list names is 'never' or a fraction of any size with a denominator above 0"
+abbrev pub IsList : List ℕ → (ℕ → Value) → Type 0
+IsList s list = AllSound (sheetMarks s) list
+
+-- The list keeps both rules.
+abbrev pub KeepsRules : List ℕ → (ℕ → Value) → Type 0
+KeepsRules s list = FirstRule (sheetMarks s) list × SecondRule (sheetMarks s) list
+
+-- who is shown, "its living taken from any list that keeps both rules"
+abbrev pub shownBy : List ℕ → Rectangle → Zoom → (ℕ → Value) → ℕ → Bool
+shownBy s e zoom list m = livesAt (scale (scaleOf zoom)) (list m) && inside (marksPart (split s)) e m
+
+-- The map shows exactly the marks in the rectangle that the list has living, its unused bits are 0, and the count is their number.
+pub record ShowsLiving (s : List ℕ) (e : Rectangle) (zoom : Zoom) (list : ℕ → Value) (map : List ℕ) (count : ℕ) : Type 0 where
+  pub bits : Shows (shownBy s e zoom list) (sheetCount s) map
+  pub counted : count ≡ countShown (shownBy s e zoom list) (sheetCount s)
+
+-- ---- the demand
+
+-- "Whatever list someone holds against a sheet scheduled here": it equals ours, mark by mark, exactly when it keeps both rules; and such
+-- a list has living, for each accepted view, what the map shows. `buffer` is what the lent map held.
+pub record Demand3 (s : List ℕ) : Type 0 where
+  pub same : (list : ℕ → Value) → IsList s list → ((m : ℕ) → m < sheetCount s → Equal (sheetValue s m) (list m)) ↔ KeepsRules s list
+  pub view : (list : ℕ → Value) → IsList s list → KeepsRules s list
+      → (e : Rectangle) (zoom : Zoom) (buffer : List ℕ) → answer (viewQuestions s e zoom (length buffer)) ≡ 0
+      → ShowsLiving s e zoom list (after (viewJob s e zoom (length buffer)) buffer) ((viewJob s e zoom (length buffer)) .value)
+
+-- ---- what the contracts cite
+
+-- Of scheduling the sheet `given`, which answered r and left `out`: a success has written a sheet with the given part 1, "so no mark
+-- handed in is missing", of which the demand holds.
+pub record Meets (given : List ℕ) (r : Answer) (out : List ℕ) : Type 0 where
+  pub part1 : r .number ≡ 0 → marksPart (split (take (r .value) out)) ≡ marksPart (split given)
+  pub demand3 : r .number ≡ 0 → Demand3 (take (r .value) out)
+
+-- Of viewing the sheet s, which answered r and left `map`.
+pub record MeetsView (s : List ℕ) (e : Rectangle) (zoom : Zoom) (r : Answer) (map : List ℕ) : Type 0 where
+  pub living : ScheduledHere s → r .number ≡ 0
+      → (list : ℕ → Value) → IsList s list → KeepsRules s list → ShowsLiving s e zoom list map (r .value)
