@@ -12,5 +12,3 @@ pub mod Findings
 pub mod Bytes
 pub mod Whole
 pub mod Search
-pub mod Moved
-pub mod Building

@@ -11,9 +11,11 @@ use Rattle.elimination.specs.Process.{least, put, before, pair, next, run, proc
 use Rattle.elimination.specs.Records.{eliminatorAt, numAt, denAt, isNever, valueAt, records, scheduleOf}
 use Rattle.index.specs.Tree.{treeOf}
 use Rattle.index.specs.Index.{beats, coordinate, axisKey, indexOf, indexBytes, sameBytes, isIndex}
-use Rattle.sheet.specs.Contents.{startAt, split, entries, chain, join, marksPart, schedulePart, indexPart}
-use Rattle.sheet.specs.Asking.{answer, every}
-use Rattle.sheet.specs.Questions
+use Rattle.contents.specs.Contents.{startAt, split, entries, chain, join, marksPart, schedulePart, indexPart}
+use Rattle.contents.specs.Asking.{answer, every}
+use Rattle.contents.specs.Questions.{question1, question2, question3}
+use Rattle.bodies.specs.Questions.{question4, markQuestions, question7, namesRight, recordRight, question8, question9, bodyQuestions}
+use Rattle.sheet.specs.Questions.{checkQuestions, check}
 use Rattle.view.specs.declared.Zoom.{Zoom}
 use Rattle.view.specs.declared.Zoom.the-variants.{Stop, Wheel}
 use Rattle.view.specs.Zoom.{stopScale, wheelScale, scaleOf}
@@ -156,9 +158,9 @@ pub examples : map (λ (r : Row). answers (r .asked)) table ≡ map (λ (r : Row
 unfolding table answers pairs sheet marks ofBits
     leAt leBytes less same later level houseRadius isKind isRadius usedRadius square touchingOf touching outranks rankKey
     least put before pair next run process isNever valueAt records scheduleOf treeOf beats coordinate axisKey indexOf indexBytes sameBytes isIndex
-    startAt split entries chain join answer every Questions.question1 Questions.question2 Questions.question3 Questions.question4
-    Questions.markQuestions Questions.question7 Questions.namesRight Questions.recordRight Questions.question8
-    Questions.question9 Questions.bodyQuestions Questions.checkQuestions Questions.check stopScale wheelScale scaleOf livesAt inside
+    startAt split entries chain join answer every question1 question2 question3 question4
+    markQuestions question7 namesRight recordRight question8
+    question9 bodyQuestions checkQuestions check stopScale wheelScale scaleOf livesAt inside
     shown mapByte mapPart mapBytes countShown Viewing.question10 Viewing.question11 Viewing.viewQuestions outcome checkJob scheduled
     shownIn viewJob digits line rootStep root zoomDown markLine markLines listing refusal printQuestions printed
 examples = refl

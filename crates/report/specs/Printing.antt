@@ -8,10 +8,10 @@ use lib.ListN.{length}
 use Rattle.fractions.specs.Order.{Small}
 use Rattle.elimination.specs.Process.{Removal, stays, gone}
 use Rattle.elimination.specs.Records.{eliminatorAt, denAt, fractionAt, isNever, scheduleOf}
-use Rattle.sheet.specs.Contents.{split, marksPart}
-use Rattle.sheet.specs.Asking.{answer}
+use Rattle.contents.specs.Contents.{split, marksPart}
+use Rattle.contents.specs.Asking.{answer}
+use Rattle.contents.specs.Written.{over}
 use Rattle.sheet.specs.Questions.{sheetCount}
-use Rattle.sheet.specs.Assembled.{over}
 use Rattle.report.specs.Text.{printQuestions, printed}
 
 -- ---- a schedule's records

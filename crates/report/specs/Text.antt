@@ -9,8 +9,8 @@ use lib.Dec.{leb, eqb}
 use Rattle.text.specs.Text.{decimal, zoomDown}
 use Rattle.elimination.specs.Process.{Removal, stays, gone, process}
 use Rattle.elimination.specs.Records.{marksOf}
-use Rattle.sheet.specs.Contents.{split, marksPart}
-use Rattle.sheet.specs.Asking.{Question, _asks_, answer}
+use Rattle.contents.specs.Contents.{split, marksPart}
+use Rattle.contents.specs.Asking.{Question, _asks_, answer}
 use Rattle.sheet.specs.Questions.{sheetCount, checkQuestions}
 
 -- ---- texts as bytes

@@ -9,7 +9,7 @@ ghost use Rattle.fractions.specs.Order.{Small};
 ghost use Rattle.text.specs.Text.{decimal, Wrote};
 ghost use Rattle.elimination.specs.Process.{stays, gone};
 ghost use Rattle.elimination.specs.Records.{isNever};
-ghost use Rattle.sheet.specs.Asking.{answer};
+ghost use Rattle.contents.specs.Asking.{answer};
 ghost use Rattle.report.specs.Text.{line, markLine, markLines, listing, printQuestions};
 ghost use Rattle.report.specs.Printing.{removalAt, Zoomable, Printable, lineRoom, textRoom, Room, Prints};
 
@@ -20,7 +20,7 @@ fn put_first_line(out: &mut [u8], word: &[u8], number: u64) -> usize
     requires { ⌜ length (now word) + 22 ≤ length (now out) ⌝ }
     ensures { λ r. ⌜ Wrote (now (out .entry)) (now (out .exit)) 0 (line (now (word .entry) ∷ decimal number ∷ [])) r ⌝ }
 {
-    let next = sheet::put(out, 0, word);
+    let next = contents::put(out, 0, word);
     out[next] = b' ';
     text::put_number(out, next + 1, number, b'\n')
 }
@@ -54,11 +54,11 @@ fn put_mark(schedule: &[u8], out: &mut [u8], at: usize, m: usize) -> usize
     requires { ⌜ (isNever (now schedule) m ≡ false → Zoomable (now schedule) m) ⌝ }
     ensures { λ r. ⌜ Wrote (now (out .entry)) (now (out .exit)) at (markLine m (removalAt (now (schedule .entry)) m)) r ⌝ }
 {
-    if sheet::is_never(schedule, m) {
+    if bodies::is_never(schedule, m) {
         return put_stays(out, at, m);
     }
-    let by = sheet::eliminator_at(schedule, m);
-    put_gone(out, at, m, by, sheet::fraction_at(schedule, m))
+    let by = bodies::eliminator_at(schedule, m);
+    put_gone(out, at, m, by, bodies::fraction_at(schedule, m))
 }
 
 // A line for each of n marks; gives the place behind them.
@@ -97,7 +97,7 @@ fn print_answer(input: &[u8]) -> u32
     if number != 0 {
         return number;
     }
-    if 2000 < sheet::body(input, 0).len() / 11 {
+    if 2000 < contents::body(input, 0).len() / 11 {
         14
     } else {
         0
@@ -114,7 +114,7 @@ pub fn print(input: &[u8], work: &mut [u8], schedule: &mut [u8], out: &mut [u8])
     if number != 0 {
         return put_first_line(out, b"refused", number as u64);
     }
-    let marks = sheet::body(input, 0);
+    let marks = contents::body(input, 0);
     let n = marks.len() / 11;
     elimination::schedule(marks, work, schedule, n);
     put_listing(schedule, out, n)

@@ -4,7 +4,7 @@ use mathlib.Core.Path.{_≡_}
 use mathlib.Core.List.{List}
 use lib.IntN.{ℤ}
 use lib.ListN.{length}
-use Rattle.sheet.specs.declared.Extent as Sheet
+use Rattle.contents.specs.declared.Extent as Sheet
 use Rattle.view.specs.Shown.{Rectangle}
 use Rattle.rollmap.specs.declared.Answer.{Answer}
 use Rattle.rollmap.specs.declared.Extent.{Extent}

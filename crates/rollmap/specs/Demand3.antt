@@ -11,8 +11,8 @@ use Rattle.fractions.specs.Order.{Equal}
 use Rattle.elimination.specs.Marks.{Marks}
 use Rattle.elimination.specs.Records.{marksOf, valueAt}
 use Rattle.elimination.specs.Rules.{FirstRule, SecondRule, AllSound}
-use Rattle.sheet.specs.Contents.{split, marksPart, schedulePart}
-use Rattle.sheet.specs.Asking.{answer}
+use Rattle.contents.specs.Contents.{split, marksPart, schedulePart}
+use Rattle.contents.specs.Asking.{answer}
 use Rattle.sheet.specs.Questions.{sheetCount}
 use Rattle.bitmap.specs.Map.{countShown}
 use Rattle.bitmap.specs.Facts.{Shows}

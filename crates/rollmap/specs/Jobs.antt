@@ -9,9 +9,10 @@ use lib.Dec.{leb, eqb}
 use Rattle.numbers.specs.Little.{Bytes}
 use Rattle.elimination.specs.Records.{scheduleOf}
 use Rattle.index.specs.Index.{indexOf, indexBytes}
-use Rattle.sheet.specs.Contents.{split, join, marksPart, schedulePart}
-use Rattle.sheet.specs.Asking.{Question, _asks_, answer}
-use Rattle.sheet.specs.Questions.{markCount, sheetCount, checkQuestions, check, given, assembleQuestions}
+use Rattle.contents.specs.Contents.{split, join, marksPart, schedulePart, given}
+use Rattle.contents.specs.Asking.{Question, _asks_, answer}
+use Rattle.bodies.specs.Questions.{markCount}
+use Rattle.sheet.specs.Questions.{sheetCount, checkQuestions, check, assembleQuestions}
 use Rattle.view.specs.declared.Zoom.{Zoom}
 use Rattle.view.specs.Zoom.{scaleOf}
 use Rattle.view.specs.Shown.{Rectangle, shown}

@@ -5,8 +5,8 @@ use lib.Dec.{leb}
 use lib.ListN.{length, drop}
 use Rattle.elimination.specs.Records.{scheduleOf}
 use Rattle.index.specs.Index.{indexOf, indexBytes}
-use Rattle.sheet.specs.Contents.{split, marksPart, schedulePart}
-use Rattle.sheet.specs.Asking.{_asks_}
+use Rattle.contents.specs.Contents.{split, marksPart, schedulePart}
+use Rattle.contents.specs.Asking.{_asks_}
 use Rattle.sheet.specs.Questions.{sheetCount}
 use Rattle.view.specs.Shown.{Rectangle, shown}
 use Rattle.bitmap.specs.Map.{mapSize, mapBytes, countShown}

@@ -11,10 +11,11 @@ use Rattle.fractions.specs.declared.Value.{Value}
 use Rattle.fractions.specs.Order.{Equal}
 use Rattle.elimination.specs.Records.{scheduleOf}
 use Rattle.elimination.specs.Schedule.{AllowedMarks, schedule-iff, schedule-later}
-use Rattle.sheet.specs.Contents.{split, join, marksPart, schedulePart}
-use Rattle.sheet.specs.Asking.{Question, answer}
+use Rattle.contents.specs.Contents.{split, join, marksPart, schedulePart}
+use Rattle.contents.specs.Asking.{Question, answer}
+use Rattle.contents.specs.Laws.{append-iff, split-join}
 use Rattle.sheet.specs.Questions.{sheetCount, checkQuestions, check}
-use Rattle.sheet.specs.Laws.{append-iff, check-numbered, split-join, fitting-writable, join-accepted}
+use Rattle.sheet.specs.Laws.{check-numbered, fitting-writable, join-accepted}
 use Rattle.bitmap.specs.Map.{bit, mapBytes, countShown}
 use Rattle.bitmap.specs.Laws.{map-shows}
 use Rattle.view.specs.declared.Zoom.{Zoom}

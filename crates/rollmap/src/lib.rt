@@ -7,11 +7,11 @@ ghost use mathlib.Core.Path.{_≡_};
 ghost use Prim.Native.Nat.{_+_, _*_, _≤_};
 ghost use lib.ListN.{length};
 ghost use Rattle.elimination.specs.Sheet.{Schedulable};
-ghost use Rattle.sheet.specs.Contents.{countAt, join};
+ghost use Rattle.contents.specs.Contents.{countAt, join};
+ghost use Rattle.contents.specs.Written.{over};
+ghost use Rattle.bodies.specs.Fitting.{MarksRight};
 ghost use Rattle.sheet.specs.Questions.{check};
-ghost use Rattle.sheet.specs.Accepted.{MarksRight};
 ghost use Rattle.sheet.specs.Layout.{opened, placeOf};
-ghost use Rattle.sheet.specs.Assembled.{over};
 ghost use Rattle.view.specs.declared.Zoom.the-variants.{Stop, Wheel};
 ghost use Rattle.view.specs.View.{rectangle};
 ghost use Rattle.view.specs.Questions.{question11};
@@ -103,8 +103,8 @@ fn put_scheduled(marks: &[u8], work: &mut [u8], out: &mut [u8], n: usize)
     ensures { λ _. ⌜ now (out .exit) ≡ over (join (newBodies (now (marks .entry)))) (now (out .entry)) ⌝ }
 {
     let sizes = [marks.len(), 14 * n, 2 * n];
-    let start = sheet::put_contents(out, &sizes);
-    let rest = sheet::put(out, start, marks);
+    let start = contents::put_contents(out, &sizes);
+    let rest = contents::put(out, start, marks);
     put_results(marks, work, &mut out[rest..], n);
 }
 
@@ -127,7 +127,7 @@ pub extern "C" fn rollmap_schedule(sheet: &[u8], work: &mut [u8], out: &mut [u8]
     if number != 0 {
         return refused(number);
     }
-    let marks = sheet::body(sheet, 0);
+    let marks = contents::body(sheet, 0);
     let n = marks.len() / 11;
     if !has_room(n, work.len(), out.len()) {
         return refused(13);
@@ -153,13 +153,13 @@ fn view_at(sheet: &[u8], edges: Edges, k: u32, map: &mut [u8]) -> Answer
     requires { ⌜ (check (now sheet) ≡ 0) × (countAt (now sheet) ≡ 3) ⌝ }
     ensures { λ r. ⌜ Gives (viewAt (now (sheet .entry)) (rectangle edges) k (length (now (map .entry)))) (now (map .entry)) r (now (map .exit)) ⌝ }
 {
-    let marks = sheet::body(sheet, 0);
+    let marks = contents::body(sheet, 0);
     let n = marks.len() / 11;
     if map.len() < (n + 7) / 8 {
         return refused(13);
     }
-    let schedule = sheet::body(sheet, 1);
-    let index = sheet::body(sheet, 2);
+    let schedule = contents::body(sheet, 1);
+    let index = contents::body(sheet, 2);
     Answer {
         number: 0,
         value: view::show(marks, schedule, index, n, edges, k, map),
@@ -174,7 +174,7 @@ fn view(sheet: &[u8], edges: Edges, zoom: Zoom, map: &mut [u8]) -> Answer
     if number != 0 {
         return refused(number);
     }
-    if sheet::count_at(sheet) < 3 {
+    if contents::count_at(sheet) < 3 {
         return refused(10);
     }
     if !is_rectangle(edges) {

@@ -1,12 +1,5 @@
 -- The lemmas behind Laws, in the order in which they build on one another.
-pub mod Tests
-pub mod Asked
-pub mod Parts
 pub mod Accepting
-pub mod Entries
-pub mod Joined
-pub mod Fits
-pub mod Cut
-pub mod Writing
+pub mod Opened
+pub mod Given
 pub mod Assembling
-pub mod Records

@@ -1,8 +1,5 @@
--- What a sheet is, how questions are put, and the questions; then what follows from them.
-pub mod Contents
-pub mod Asking
+-- The questions of a whole sheet, what is known of an accepted one, and what the jobs give; then what follows from them.
 pub mod Questions
-pub mod Stages
 pub mod Accepted
 pub mod Layout
 pub mod Assembled

@@ -6,8 +6,8 @@ use mathlib.Core.Option.{Option, none, some}
 use lib.ListN.{length}
 use lib.Dec.{leb}
 use lib.Signed.{leZ}
-use Rattle.sheet.specs.Contents.{split, has}
-use Rattle.sheet.specs.Asking.{Question, _asks_}
+use Rattle.contents.specs.Contents.{split, has}
+use Rattle.contents.specs.Asking.{Question, _asks_}
 use Rattle.sheet.specs.Questions.{checkQuestions, sheetCount}
 use Rattle.view.specs.declared.Zoom.{Zoom}
 use Rattle.view.specs.Zoom.{scaleOf}

@@ -5,7 +5,7 @@ use native.Mathlib.Omega.{arith}
 use denote.Ref.{now}
 use borrow.Author.Needs.{needs}
 use Rattle.numbers.specs.Little.{Bytes}
-use Rattle.sheet.specs.Asking.{answer}
+use Rattle.contents.specs.Asking.{answer}
 use Rattle.report.specs.Text.{printQuestions}
 use Rattle.report.specs.Lemmas.Printed.{Taken, prints-refusal, taken-laid, taken, taken-printable, prints-listing}
 use Rattle.report.proofs.print.Statement.{statement}

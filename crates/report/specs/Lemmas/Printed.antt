@@ -12,13 +12,15 @@ use Rattle.text.specs.Laws.{wrote-length}
 use Rattle.elimination.specs.Process.{process}
 use Rattle.elimination.specs.Records.{marksOf, scheduleOf}
 use Rattle.elimination.specs.Schedule.{AllowedMarks, schedule-length}
-use Rattle.sheet.specs.Contents.{split, marksPart}
-use Rattle.sheet.specs.Asking.{Question, _asks_, answer}
-use Rattle.sheet.specs.Questions.{markCount, sheetCount, checkQuestions, check}
-use Rattle.sheet.specs.Accepted.{Laid}
-use Rattle.sheet.specs.Assembled.{over}
-use Rattle.sheet.specs.Lemmas.Asked.{none-asked, asked-yes, asked-no, asked-iff}
-use Rattle.sheet.specs.Laws.{append-yes, append-no, append-iff, check-numbered, accepted-iff, over-sets}
+use Rattle.contents.specs.Contents.{split, marksPart}
+use Rattle.contents.specs.Asking.{Question, _asks_, answer}
+use Rattle.contents.specs.Laid.{Laid}
+use Rattle.contents.specs.Written.{over}
+use Rattle.contents.specs.Lemmas.Asked.{none-asked, asked-yes, asked-no, asked-iff}
+use Rattle.contents.specs.Laws.{append-yes, append-no, append-iff, over-sets}
+use Rattle.bodies.specs.Questions.{markCount}
+use Rattle.sheet.specs.Questions.{sheetCount, checkQuestions, check}
+use Rattle.sheet.specs.Laws.{check-numbered, accepted-iff}
 use Rattle.rollmap.specs.Lemmas.Scheduled.{allowed, right, marks-bytes}
 use Rattle.report.specs.Text.{text, line, listing, refusal, printQuestions, printed}
 use Rattle.report.specs.Printing.{removalAt, Printable, textRoom, workedOut, Prints}

@@ -7,9 +7,9 @@ use lib.ListN.{length}
 use borrow.Author.Needs.{needs}
 use denote.Ref.{now}
 use Rattle.numbers.specs.Little.{Bytes}
+use Rattle.contents.specs.Lemmas.Tests.{said-no, said-yes}
+use Rattle.bodies.specs.Fitting.{MarksRight}
 use Rattle.sheet.specs.Questions.{check}
-use Rattle.sheet.specs.Accepted.{MarksRight}
-use Rattle.sheet.specs.Lemmas.Tests.{said-no, said-yes}
 use Rattle.sheet.specs.Laws.{accepted-iff}
 use Rattle.rollmap.specs.declared.Answer.{Answer}
 use Rattle.rollmap.specs.Jobs.{scheduleJob}

@@ -5,9 +5,9 @@ use mathlib.Core.Bool.{true}
 use native.Mathlib.Omega.{arith}
 use borrow.Author.Needs.{needs}
 use denote.Ref.{now}
-use Rattle.sheet.specs.Contents.{countAt}
+use Rattle.contents.specs.Contents.{countAt}
+use Rattle.contents.specs.Lemmas.Tests.{said-no, said-yes}
 use Rattle.sheet.specs.Questions.{check}
-use Rattle.sheet.specs.Lemmas.Tests.{said-no, said-yes}
 use Rattle.sheet.specs.Laws.{accepted-iff}
 use Rattle.view.specs.Zoom.{scaleIs}
 use Rattle.view.specs.View.{rectangle}

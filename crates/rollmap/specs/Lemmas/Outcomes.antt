@@ -8,10 +8,11 @@ use borrow.Author.Tests.{eq-eqb, ne-eqb, eqb-true}
 use lib.Dec.{eqb}
 use lib.ListN.{length, drop}
 use Rattle.sheet.specs.declared.Assembled.{Assembled}
-use Rattle.sheet.specs.Contents.{join}
-use Rattle.sheet.specs.Asking.{Question, answer}
-use Rattle.sheet.specs.Questions.{checkQuestions, check, given, assembleQuestions}
-use Rattle.sheet.specs.Assembled.{numberOf, lengthOf, over, Assembling}
+use Rattle.contents.specs.Contents.{join, given}
+use Rattle.contents.specs.Asking.{Question, answer}
+use Rattle.contents.specs.Written.{over}
+use Rattle.sheet.specs.Questions.{checkQuestions, check, assembleQuestions}
+use Rattle.sheet.specs.Assembled.{numberOf, lengthOf, Assembling}
 use Rattle.rollmap.specs.Jobs.{Outcome, outcome, after, checkJob, assembleJob}
 use Rattle.rollmap.specs.declared.Answer.{Answer}
 use Rattle.rollmap.specs.Answers.{refusal, answerOf, Gives}

@@ -25,11 +25,12 @@ use Rattle.elimination.specs.Schedule.{AllowedMarks, schedule-length, schedule-
 use Rattle.index.specs.Index.{indexOf, isIndex}
 use Rattle.index.specs.Lemmas.Bytes.{same-self, index-length}
 use Rattle.index.specs.Lemmas.Whole.{index-size}
-use Rattle.sheet.specs.Contents.{offsetAt, lengthAt, split, marksPart}
-use Rattle.sheet.specs.Questions.{markCount, sheetCount, check, namesRight, recordRight, question8}
-use Rattle.sheet.specs.Accepted.{MarksRight, Fitting}
-use Rattle.sheet.specs.Lemmas.Parts.{split-at}
-use Rattle.sheet.specs.Lemmas.Tests.{every-of}
+use Rattle.contents.specs.Contents.{offsetAt, lengthAt, split, marksPart}
+use Rattle.contents.specs.Lemmas.Parts.{split-at}
+use Rattle.contents.specs.Lemmas.Tests.{every-of}
+use Rattle.bodies.specs.Questions.{markCount, namesRight, recordRight, question8}
+use Rattle.bodies.specs.Fitting.{MarksRight, Fitting}
+use Rattle.sheet.specs.Questions.{sheetCount, check}
 use Rattle.sheet.specs.Laws.{accepted-iff}
 use Rattle.bitmap.specs.Map.{countShown}
 use Rattle.rollmap.specs.Jobs.{newSchedule, newIndex, newBodies}

@@ -15,13 +15,15 @@ use Rattle.index.specs.Index.{indexOf, indexBytes}
 use Rattle.index.specs.Lemmas.Bytes.{index-length}
 use Rattle.index.specs.Lemmas.Whole.{index-size}
 use Rattle.indexing.specs.Tail.{withIndex}
-use Rattle.sheet.specs.Contents.{split, chain, join, marksPart}
-use Rattle.sheet.specs.Asking.{answer}
-use Rattle.sheet.specs.Questions.{markCount, sheetCount, checkQuestions, check}
-use Rattle.sheet.specs.Accepted.{MarksRight}
-use Rattle.sheet.specs.Assembled.{contentsOf, over}
-use Rattle.sheet.specs.Lemmas.Tests.{both-iff}
-use Rattle.sheet.specs.Laws.{append-yes, append-no, check-numbered, accepted-iff, join-contents, contents-length, join-length, sets-append, over-sets}
+use Rattle.contents.specs.Contents.{split, chain, join, marksPart}
+use Rattle.contents.specs.Asking.{answer}
+use Rattle.contents.specs.Written.{contentsOf, over}
+use Rattle.contents.specs.Lemmas.Tests.{both-iff}
+use Rattle.contents.specs.Laws.{append-yes, append-no, join-contents, contents-length, join-length, sets-append, over-sets}
+use Rattle.bodies.specs.Questions.{markCount}
+use Rattle.bodies.specs.Fitting.{MarksRight}
+use Rattle.sheet.specs.Questions.{sheetCount, checkQuestions, check}
+use Rattle.sheet.specs.Laws.{check-numbered, accepted-iff}
 use Rattle.rollmap.specs.declared.Answer.{Answer}
 use Rattle.rollmap.specs.Jobs.{outcome, after, newSchedule, newIndex, newBodies, scheduled, hasRoom, scheduleQuestions, scheduleJob}
 use Rattle.rollmap.specs.Answers.{refusal, Gives}

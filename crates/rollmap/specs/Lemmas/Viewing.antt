@@ -8,11 +8,12 @@ use native.Mathlib.Omega.{arith}
 use borrow.Author.Tests.{le-leb, lt-leb}
 use lib.Dec.{leb}
 use lib.ListN.{length, drop}
-use Rattle.sheet.specs.Contents.{countAt, split, has, marksPart, schedulePart, indexPart}
-use Rattle.sheet.specs.Asking.{Question, _asks_, answer}
+use Rattle.contents.specs.Contents.{countAt, split, has, marksPart, schedulePart, indexPart}
+use Rattle.contents.specs.Asking.{Question, _asks_, answer}
+use Rattle.contents.specs.Written.{over}
+use Rattle.contents.specs.Laws.{append-yes, append-no, split-length}
 use Rattle.sheet.specs.Questions.{sheetCount, checkQuestions, check}
-use Rattle.sheet.specs.Assembled.{over}
-use Rattle.sheet.specs.Laws.{append-yes, append-no, check-numbered, accepted-iff, split-length}
+use Rattle.sheet.specs.Laws.{check-numbered, accepted-iff}
 use Rattle.bitmap.specs.Map.{mapSize, mapBytes, countShown}
 use Rattle.bitmap.specs.Laws.{map-length}
 use Rattle.view.specs.declared.Zoom.{Zoom}

@@ -6,7 +6,7 @@ use native.Mathlib.Omega.{arith}
 use native.Mathlib.Decide.{decLt}
 use borrow.Author.Tests.{le-leb, lt-leb}
 use lib.ListN.{length}
-use Rattle.sheet.specs.Asking.{answer}
+use Rattle.contents.specs.Asking.{answer}
 use Rattle.bitmap.specs.Map.{mapSize, walk}
 use Rattle.bitmap.specs.Facts.{Walked}
 use Rattle.bitmap.specs.Laws.{walked}

@@ -5,12 +5,13 @@ use mathlib.Core.List.{List, []}
 use native.Mathlib.Omega.{arith}
 use borrow.Author.Needs.{needs}
 use denote.Ref.{now}
-use Rattle.sheet.specs.Contents.{split}
-use Rattle.sheet.specs.Asking.{answer}
-use Rattle.sheet.specs.Questions.{bodyQuestions}
-use Rattle.sheet.specs.Accepted.{Laid}
-use Rattle.sheet.specs.Lemmas.Parts.{split-length, given-parts}
-use Rattle.sheet.specs.Lemmas.Accepting.{count-iff, laid-iff, check-refused, check-laid}
+use Rattle.contents.specs.Contents.{split}
+use Rattle.contents.specs.Asking.{answer}
+use Rattle.contents.specs.Laid.{Laid}
+use Rattle.contents.specs.Lemmas.Parts.{split-length, given-parts}
+use Rattle.contents.specs.Lemmas.Laid.{count-iff, laid-iff}
+use Rattle.bodies.specs.Questions.{bodyQuestions}
+use Rattle.sheet.specs.Lemmas.Accepting.{check-refused, check-laid}
 use Rattle.sheet.proofs.check.Statement.{statement}
 use Rattle.sheet.proofs.check.Tie as tie
 

@@ -2,7 +2,7 @@
 use mathlib.Core.Path.{sym, _∙_}
 use borrow.Author.Needs.{needs}
 use Rattle.sheet.specs.Lemmas.Accepting.{accepted-iff}
-use Rattle.sheet.specs.Lemmas.Cut.{opened-accepted, opened-refused}
+use Rattle.sheet.specs.Lemmas.Opened.{opened-accepted, opened-refused}
 use Rattle.sheet.proofs.opened.Statement.{statement}
 use Rattle.sheet.proofs.opened.Tie as tie
 

@@ -42,7 +42,8 @@ use denote.Triple.Table.{entered, cited}
 use denote.Triple.Walked.{says, Stays, stay-none, walkOf, goes-none, Walks, ends-at, walked, walk-meets}
 use denote.Exit.{yes}
 use denote.Triple.Clauses.{ensured, lasts}
-use Rattle.sheet.specs.Layout.{placeOf, cutOf}
+use Rattle.contents.specs.Extent.{cutOf}
+use Rattle.sheet.specs.Layout.{placeOf}
 use Rattle.sheet.specs.declared.Sheet.{Sheet}
 use Rattle.sheet.proofs.Sheet as T
 use Rattle.sheet.proofs.Sheet.Laws as T′

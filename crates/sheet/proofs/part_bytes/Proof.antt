@@ -1,7 +1,7 @@
 -- `sheet::part_bytes` meets its contract: the part that the opened layout gives is the part of the sheet. Assumes nothing.
 use mathlib.Core.Path.{_∙_}
 use denote.Ref.{now}
-use Rattle.sheet.specs.Lemmas.Cut.{opened-part}
+use Rattle.sheet.specs.Lemmas.Opened.{opened-part}
 use Rattle.sheet.proofs.part_bytes.Statement.{statement}
 use Rattle.sheet.proofs.part_bytes.Tie as tie
 

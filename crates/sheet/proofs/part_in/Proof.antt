@@ -1,7 +1,7 @@
 -- `sheet::part_in` meets its contract: the bytes at the part's place. Assumes nothing.
 use mathlib.Core.Path.{ap, _∙_}
 use borrow.Author.Needs.{needs}
-use Rattle.sheet.specs.Layout.{cutOf}
+use Rattle.contents.specs.Extent.{cutOf}
 use Rattle.sheet.proofs.part_in.Statement.{statement}
 use Rattle.sheet.proofs.part_in.Tie as tie
 

@@ -5,10 +5,9 @@ use native.Mathlib.Omega.{arith}
 use lib.ListN.{length}
 use borrow.Author.Needs.{needs}
 use denote.Ref.{now}
-use Rattle.sheet.specs.Contents.{join}
-use Rattle.sheet.specs.Questions.{given}
-use Rattle.sheet.specs.Lemmas.Accepting.{count-iff}
-use Rattle.sheet.specs.Lemmas.Writing.{kept-join, kept-length}
+use Rattle.contents.specs.Contents.{join, given}
+use Rattle.contents.specs.Lemmas.Laid.{count-iff}
+use Rattle.sheet.specs.Lemmas.Given.{kept-join, kept-length}
 use Rattle.sheet.specs.Lemmas.Assembling.{written, no-room}
 use Rattle.sheet.proofs.put_sheet.Statement.{statement}
 use Rattle.sheet.proofs.put_sheet.Tie as tie

@@ -10,14 +10,20 @@ use lib.Seq.{sets}
 use borrow.Author.Tests.{le-leb, lt-leb, ne-eqb}
 use Rattle.sheet.specs.declared.Assembled.{Assembled}
 use Rattle.sheet.specs.declared.Assembled.the-variants.{Refused, Written}
-use Rattle.sheet.specs.Contents.{join, Writable}
-use Rattle.sheet.specs.Asking.{answer}
-use Rattle.sheet.specs.Questions.{isCount, bodyQuestions, given, assembleQuestions}
-use Rattle.sheet.specs.Assembled.{numberOf, lengthOf, over, Placing, Assembling}
-use Rattle.sheet.specs.Lemmas.Asked.{bodies-numbered, none-asked, asked-yes, asked-no, append-yes, append-no}
-use Rattle.sheet.specs.Lemmas.Accepting.{count-iff, fitting-iff}
-use Rattle.sheet.specs.Lemmas.Fits.{fitting-writable}
-use Rattle.sheet.specs.Lemmas.Writing.{kept-count, over-sets}
+use Rattle.contents.specs.Contents.{join, Writable, given}
+use Rattle.contents.specs.Asking.{answer}
+use Rattle.contents.specs.Questions.{isCount}
+use Rattle.contents.specs.Written.{over}
+use Rattle.contents.specs.Lemmas.Asked.{none-asked, asked-yes, asked-no, append-yes, append-no}
+use Rattle.contents.specs.Lemmas.Laid.{count-iff}
+use Rattle.contents.specs.Lemmas.Writing.{over-sets}
+use Rattle.bodies.specs.Questions.{bodyQuestions}
+use Rattle.bodies.specs.Lemmas.Numbered.{bodies-numbered}
+use Rattle.bodies.specs.Lemmas.Fitting.{fitting-iff}
+use Rattle.bodies.specs.Lemmas.Small.{fitting-writable}
+use Rattle.sheet.specs.Questions.{assembleQuestions}
+use Rattle.sheet.specs.Assembled.{numberOf, lengthOf, Placing, Assembling}
+use Rattle.sheet.specs.Lemmas.Given.{kept-count}
 
 -- bodies that pass 4 to 9 are small enough for the contents
 pub given-writable : (k : ℕ) (a b c : List ℕ) → isCount k ≡ true → answer (bodyQuestions (given k a b c)) ≡ 0 → Writable (given k a b c)

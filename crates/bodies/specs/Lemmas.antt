@@ -1,0 +1,5 @@
+-- The lemmas behind Laws, in the order in which they build on one another.
+pub mod Numbered
+pub mod Fitting
+pub mod Small
+pub mod Records

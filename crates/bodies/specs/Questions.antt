@@ -1,0 +1,71 @@
+-- Questions 4 to 9, each by its number: those of the bodies. Checking a sheet and putting parts together ask the same.
+use Prim.Native.Nat.{ℕ, zero, suc, _*_, _/_, _%_}
+use mathlib.Core.Bool.{Bool, _&&_, _||_}
+use mathlib.Core.List.{List, [], _∷_, _++_}
+use lib.ListN.{length}
+use lib.Dec.{ltb, leb, eqb}
+use Rattle.fractions.specs.declared.Fraction.{Fraction}
+use Rattle.fractions.specs.Order.{later}
+use Rattle.marks.specs.Marks.{kindAt, radiusAt, isKind, isRadius, outranks, touching}
+use Rattle.elimination.specs.Records.{eliminatorAt, fractionAt, isNever, valueAt}
+use Rattle.index.specs.Index.{isIndex}
+use Rattle.contents.specs.Contents.{has, marksPart, schedulePart, indexPart}
+use Rattle.contents.specs.Asking.{Question, _asks_, every, ifThere}
+
+-- ---- of part 1, `s`
+
+-- 4. "Is part 1 a multiple of 11 and at most 45,056 bytes?"
+unfoldable pub question4 : List ℕ → Bool
+question4 s = eqb (length s % 11) 0 && leb (length s) 45056
+
+-- n: how many marks part 1 has
+abbrev pub markCount : List ℕ → ℕ
+markCount s = length s / 11
+
+-- 5 and 6. "Mark by mark, before its radius: is the kind below 200? Is the radius at most 16,383?" Of the first n marks.
+unfoldable pub markQuestions : List ℕ → ℕ → List Question
+markQuestions s zero = []
+markQuestions s (suc n) = markQuestions s n ++ ((5 asks isKind (kindAt s n)) ∷ (6 asks isRadius (radiusAt s n)) ∷ [])
+
+-- ---- of parts 2 and 3; `s` is part 1, `p` part 2 and `n` the number of marks
+
+-- 7. "Are parts 2 and 3, if present, 14n and 2n bytes?"
+unfoldable pub question7 : List (List ℕ) → ℕ → Bool
+question7 bodies n =
+    ifThere (has bodies 2) (eqb (length (schedulePart bodies)) (14 * n)) && ifThere (has bodies 3) (eqb (length (indexPart bodies)) (2 * n))
+
+-- the two numbers as they stand: "its two unreduced numbers"
+abbrev pub exactly : Fraction → Fraction → Bool
+exactly f g = eqb (f .num) (g .num) && eqb (f .den) (g .den)
+
+-- "does it name a higher-ranked mark below n, with their touching value as its two unreduced numbers"
+unfoldable pub namesRight : List ℕ → List ℕ → ℕ → ℕ → Bool
+namesRight s p n m =
+    (ltb (eliminatorAt p m) n && outranks s (eliminatorAt p m) m) && exactly (fractionAt p m) (touching s (eliminatorAt p m) m)
+
+-- "Is each schedule record the 'never' record, or else .., and is that mark removed later?"
+unfoldable pub recordRight : List ℕ → List ℕ → ℕ → ℕ → Bool
+recordRight s p n m = isNever p m || (namesRight s p n m && later (valueAt p (eliminatorAt p m)) (valueAt p m))
+
+-- 8.
+unfoldable pub question8 : List ℕ → List ℕ → ℕ → Bool
+question8 s p n = every (recordRight s p n) n
+
+-- 9. "Is part 3 the tree that parts 1 and 2 give?"
+unfoldable pub question9 : List ℕ → List ℕ → List ℕ → ℕ → Bool
+question9 = isIndex
+
+-- ---- in their order
+
+-- 4 to 9, of a sheet's bodies
+unfoldable pub bodyQuestions : List (List ℕ) → List Question
+bodyQuestions bodies =
+    let s = marksPart bodies in
+    let p = schedulePart bodies in
+    let n = markCount s in
+    (4 asks question4 s)
+    ∷ markQuestions s n
+    ++ ((7 asks question7 bodies n)
+    ∷ (8 asks ifThere (has bodies 2) (question8 s p n))
+    ∷ (9 asks ifThere (has bodies 3) (question9 s p (indexPart bodies) n))
+    ∷ [])

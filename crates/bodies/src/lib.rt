@@ -1,0 +1,195 @@
+// The bodies of a sheet: questions 4 to 9.
+use fractions::Fraction;
+use marks::House;
+ghost use mathlib.Core.Path.{_≡_};
+ghost use mathlib.Core.Bool.{true};
+ghost use Prim.Native.Nat.{_+_, _*_, _<_, _≤_};
+ghost use lib.ListN.{length};
+ghost use Rattle.elimination.specs.Records.{eliminatorAt, fractionAt, isNever};
+ghost use Rattle.contents.specs.Contents.{given};
+ghost use Rattle.contents.specs.Asking.{answer};
+ghost use Rattle.contents.specs.Questions.{isCount};
+ghost use Rattle.bodies.specs.Questions.{question4, markQuestions, exactly, namesRight, recordRight, question8, bodyQuestions};
+ghost use Rattle.bodies.specs.Stages.{oneMark, sizesRight, lastQuestions};
+ghost use Rattle.bodies.specs.Fitting.{MarksRight};
+
+// ---- questions 4 to 6, of part 1
+
+// 4. Is part 1 a multiple of 11 and at most 45,056 bytes?
+fn is_marks(s: &[u8]) -> bool
+    ensures { λ r. ⌜ r ≡ question4 (now (s .entry)) ⌝ }
+{
+    s.len() % 11 == 0 && s.len() <= 45056
+}
+
+// 5 and 6, of one mark: its kind is asked before its radius.
+fn mark_answer(s: &[u8], m: usize) -> u32
+    requires { ⌜ 11 * m + 11 ≤ length (now s) ⌝ }
+    ensures { λ r. ⌜ r ≡ answer (oneMark (now (s .entry)) m) ⌝ }
+{
+    let house = marks::house_radius(marks::kind_at(s, m));
+    if let House::Refused = house {
+        return 5;
+    }
+    if 16383 < marks::written_radius_at(s, m) {
+        return 6;
+    }
+    0
+}
+
+// 5 and 6, mark by mark: the first 'no' of the first n marks, or 0.
+fn marks_answer(s: &[u8], n: usize) -> u32
+    requires { ⌜ 11 * n ≤ length (now s) ⌝ }
+    ensures { λ r. ⌜ r ≡ answer (markQuestions (now (s .entry)) n) ⌝ }
+{
+    let mut m = 0;
+    while m < n {
+        let number = mark_answer(s, m);
+        if number != 0 {
+            return number;
+        }
+        m += 1;
+    }
+    0
+}
+
+// ---- question 8, of part 2
+
+// The number of the mark that removes mark m.
+pub fn eliminator_at(schedule: &[u8], m: usize) -> usize
+    requires { ⌜ 14 * m + 14 ≤ length (now schedule) ⌝ }
+    ensures { λ r. ⌜ r ≡ eliminatorAt (now (schedule .entry)) m ⌝ }
+{
+    numbers::read(schedule, 14 * m, 2) as usize
+}
+
+// The two numbers of mark m's record as they stand.
+pub fn fraction_at(schedule: &[u8], m: usize) -> Fraction
+    requires { ⌜ 14 * m + 14 ≤ length (now schedule) ⌝ }
+    ensures { λ r. ⌜ r ≡ fractionAt (now (schedule .entry)) m ⌝ }
+{
+    Fraction {
+        num: numbers::read(schedule, 14 * m + 2, 8),
+        den: numbers::read_u32(schedule, 14 * m + 10),
+    }
+}
+
+// Are these the same two numbers?
+fn exactly(f: Fraction, g: Fraction) -> bool
+    ensures { λ r. ⌜ r ≡ exactly f g ⌝ }
+{
+    f.num == g.num && f.den == g.den
+}
+
+// Is mark m's record the 'never' record?
+pub fn is_never(schedule: &[u8], m: usize) -> bool
+    requires { ⌜ 14 * m + 14 ≤ length (now schedule) ⌝ }
+    ensures { λ r. ⌜ r ≡ isNever (now (schedule .entry)) m ⌝ }
+{
+    let zero = Fraction { num: 0, den: 0 };
+    eliminator_at(schedule, m) == 65535 && exactly(fraction_at(schedule, m), zero)
+}
+
+// Does mark m's record name a higher-ranked mark below n, with their touching value as it is, unreduced?
+fn names_right(marks: &[u8], schedule: &[u8], n: usize, m: usize) -> bool
+    requires { ⌜ MarksRight (now marks) n × (14 * n ≤ length (now schedule)) × (m < n) ⌝ }
+    ensures { λ r. ⌜ r ≡ namesRight (now (marks .entry)) (now (schedule .entry)) n m ⌝ }
+{
+    let by = eliminator_at(schedule, m);
+    if n <= by {
+        return false;
+    }
+    if !marks::outranks(marks, by, m) {
+        return false;
+    }
+    exactly(fraction_at(schedule, m), marks::touching(marks, by, m))
+}
+
+// Is mark m's record the 'never' record, or does it name a mark rightly that is removed later?
+fn record_right(marks: &[u8], schedule: &[u8], n: usize, m: usize) -> bool
+    requires { ⌜ MarksRight (now marks) n × (14 * n ≤ length (now schedule)) × (m < n) ⌝ }
+    ensures { λ r. ⌜ r ≡ recordRight (now (marks .entry)) (now (schedule .entry)) n m ⌝ }
+{
+    if is_never(schedule, m) {
+        return true;
+    }
+    if !names_right(marks, schedule, n, m) {
+        return false;
+    }
+    let by = eliminator_at(schedule, m);
+    fractions::later(index::value_at(schedule, by), index::value_at(schedule, m))
+}
+
+// 8. Is each record right?
+pub fn is_schedule(marks: &[u8], schedule: &[u8], n: usize) -> bool
+    requires { ⌜ MarksRight (now marks) n × (14 * n ≤ length (now schedule)) ⌝ }
+    ensures { λ r. ⌜ r ≡ question8 (now (marks .entry)) (now (schedule .entry)) n ⌝ }
+{
+    let mut m = 0;
+    while m < n {
+        if !record_right(marks, schedule, n, m) {
+            return false;
+        }
+        m += 1;
+    }
+    true
+}
+
+// ---- questions 7 to 9, and 4 to 9
+
+// 7, of the lengths of parts 2 and 3: are those that are there 14n and 2n bytes?
+fn has_sizes(count: usize, schedule: usize, index: usize, n: usize) -> bool
+    requires { ⌜ n ≤ 4096 ⌝ }
+    ensures { λ r. ⌜ r ≡ sizesRight count schedule index n ⌝ }
+{
+    if count < 2 {
+        return true;
+    }
+    if schedule != 14 * n {
+        return false;
+    }
+    if count < 3 {
+        return true;
+    }
+    index == 2 * n
+}
+
+// 7 to 9: the first 'no', or 0.
+fn last_answer(count: usize, marks: &[u8], schedule: &[u8], index: &[u8], n: usize) -> u32
+    requires { ⌜ MarksRight (now marks) n ⌝ }
+    ensures { λ r. ⌜ r ≡ answer (lastQuestions (now (marks .entry)) (now (schedule .entry)) (now (index .entry)) count n) ⌝ }
+{
+    if !has_sizes(count, schedule.len(), index.len(), n) {
+        return 7;
+    }
+    if count < 2 {
+        return 0;
+    }
+    if !is_schedule(marks, schedule, n) {
+        return 8;
+    }
+    if count < 3 {
+        return 0;
+    }
+    if index::is_index(marks, schedule, index, n) {
+        0
+    } else {
+        9
+    }
+}
+
+// 4 to 9, of the first `count` of three bodies: the first 'no', or 0.
+pub fn bodies_answer(count: usize, body1: &[u8], body2: &[u8], body3: &[u8]) -> u32
+    requires { ⌜ isCount count ≡ true ⌝ }
+    ensures { λ r. ⌜ r ≡ answer (bodyQuestions (given count (now (body1 .entry)) (now (body2 .entry)) (now (body3 .entry)))) ⌝ }
+{
+    if !is_marks(body1) {
+        return 4;
+    }
+    let n = body1.len() / 11;
+    let number = marks_answer(body1, n);
+    if number != 0 {
+        return number;
+    }
+    last_answer(count, body1, body2, body3, n)
+}

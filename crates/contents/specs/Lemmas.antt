@@ -1,0 +1,9 @@
+-- The lemmas behind Laws, in the order in which they build on one another.
+pub mod Tests
+pub mod Asked
+pub mod Parts
+pub mod Laid
+pub mod Entries
+pub mod Joined
+pub mod Cut
+pub mod Writing
