@@ -117,7 +117,10 @@ fn record_right(marks: &[u8], schedule: &[u8], n: usize, m: usize) -> bool
         return false;
     }
     let by = eliminator_at(schedule, m);
-    fractions::later(index::value_at(schedule, by), index::value_at(schedule, m))
+    fractions::later(
+        elimination::value_at(schedule, by),
+        elimination::value_at(schedule, m),
+    )
 }
 
 // 8. Is each record right?

@@ -1,12 +1,9 @@
 // Part 3 of a sheet, the index: its check. `marks`, `schedule` and `index` are the bytes of parts 1, 2 and 3; an `axis` is true for x.
-use fractions::Fraction;
-use fractions::Value;
 ghost use mathlib.Core.Path.{_≡_};
 ghost use mathlib.Core.Bool.{true};
 ghost use mathlib.Core.Logic.{_↔_};
 ghost use Prim.Native.Nat.{_+_, _*_, _<_, _≤_, min, max};
 ghost use lib.ListN.{length};
-ghost use Rattle.elimination.specs.Records.{valueAt};
 ghost use Rattle.index.specs.Index.{beats, shifted, coordinate, axisKey, isIndex};
 ghost use Rattle.index.specs.Valid.{heads};
 ghost use Rattle.index.specs.Blocks.{entryAt, block};
@@ -14,27 +11,13 @@ ghost use Rattle.index.specs.Check.{keyBound, findingOf, joinSpans, side
 
 // ---- who is removed later
 
-// The removal value that a mark's record names.
-pub fn value_at(schedule: &[u8], m: usize) -> Value
-    requires { ⌜ 14 * m + 14 ≤ length (now schedule) ⌝ }
-    ensures { λ r. ⌜ r ≡ valueAt (now (schedule .entry)) m ⌝ }
-{
-    let at = 14 * m;
-    let den = numbers::read_u32(schedule, at + 10);
-    if den == 0 {
-        return Value::Never;
-    }
-    let num = numbers::read(schedule, at + 2, 8);
-    Value::At(Fraction { num, den })
-}
-
 // Is a removed later than b, or at an equal value with the lower number?
 pub fn beats(schedule: &[u8], a: usize, b: usize) -> bool
     requires { ⌜ (14 * a + 14 ≤ length (now schedule)) × (14 * b + 14 ≤ length (now schedule)) ⌝ }
     ensures { λ r. ⌜ r ≡ beats (now (schedule .entry)) a b ⌝ }
 {
-    let v = value_at(schedule, a);
-    let w = value_at(schedule, b);
+    let v = elimination::value_at(schedule, a);
+    let w = elimination::value_at(schedule, b);
     if fractions::later(v, w) {
         return true;
     }

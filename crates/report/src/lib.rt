@@ -116,6 +116,6 @@ pub fn print(input: &[u8], work: &mut [u8], schedule: &mut [u8], out: &mut [u8])
     }
     let marks = contents::body(input, 0);
     let n = marks.len() / 11;
-    elimination::schedule(marks, work, schedule, n);
+    scheduling::schedule(marks, work, schedule, n);
     put_listing(schedule, out, n)
 }

@@ -6,7 +6,7 @@ use view::Zoom;
 ghost use mathlib.Core.Path.{_≡_};
 ghost use Prim.Native.Nat.{_+_, _*_, _≤_};
 ghost use lib.ListN.{length};
-ghost use Rattle.elimination.specs.Sheet.{Schedulable};
+ghost use Rattle.scheduling.specs.Filling.{Schedulable};
 ghost use Rattle.contents.specs.Contents.{countAt, join};
 ghost use Rattle.contents.specs.Written.{over};
 ghost use Rattle.bodies.specs.Fitting.{MarksRight};
@@ -93,7 +93,7 @@ fn put_results(marks: &[u8], work: &mut [u8], tail: &mut [u8], n: usize)
     requires { ⌜ Schedulable (now marks) (now work) (now tail) n × (16 * n ≤ length (now tail)) ⌝ }
     ensures { λ _. ⌜ now (tail .exit) ≡ resultsOver (now (marks .entry)) n (now (tail .entry)) ⌝ }
 {
-    elimination::schedule(marks, work, tail, n);
+    scheduling::schedule(marks, work, tail, n);
     indexing::build(marks, work, tail, n);
 }
 

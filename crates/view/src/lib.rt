@@ -75,7 +75,7 @@ pub fn lives(schedule: &[u8], k: u32, m: usize) -> bool
 {
     let num = k as u64 * k as u64;
     let zoom = Value::At(Fraction { num, den: 4096 });
-    fractions::later(index::value_at(schedule, m), zoom)
+    fractions::later(elimination::value_at(schedule, m), zoom)
 }
 
 // A mark's x or y.

@@ -1,0 +1,166 @@
+-- A row becomes the last of its cell. Assumes nothing.
+use Prim.Native.Nat.{ℕ, suc, _+_, _*_, _<_, _≤_}
+use mathlib.Core.Path.{_≡_, refl, sym, ap, _∙_}
+use mathlib.Core.List.{List}
+use mathlib.Core.Logic.{_≢_}
+use native.Mathlib.Omega.{arith}
+use native.Mathlib.Decide.{ℕ-discrete}
+use borrow.Author.Count.{below-more}
+use borrow.Author.Tests.{eq-eqb, ne-eqb}
+use lib.ListN.{length}
+use lib.IntN.{ℤ}
+use Rattle.sorting.specs.Frame.{Kept, kept-wide, kept-then, number-kept}
+use Rattle.grid.specs.Table.{entry, headAt, countAt, linkAt, Ready, Chained, assign, shifted, Boxed}
+use Rattle.grid.specs.Steps.{Put, Grown, Widened, Linked, Added}
+use Rattle.grid.proofs.Entries.{entry-other}
+use Rattle.grid.proofs.Boxes.{boxed-grown}
+
+-- ---- the link
+
+module _ {w t u v : List ℕ} {at p c h k : ℕ} (hc : c < 80) (room : at + 1122 + 2 * p ≤ length w) (rd : Ready w at p)
+    (eh : h ≡ headAt w at c) (ek : k ≡ countAt w at c) (k1 : Put w t at (560 + p) h) (k2 : Put t u at c (p + 1))
+    (k3 : Put u v at (80 + c) (k + 1)) where
+  other : (i : ℕ) → i ≢ 560 + p → i ≢ c → i ≢ 80 + c → entry v at i ≡ entry w at i
+  other i d e f = entry-other k3 i f ∙ entry-other k2 i e ∙ entry-other k1 i d
+
+  link-same : (j : ℕ) → j < p → linkAt v at j ≡ linkAt w at j
+  link-same j h = other (560 + j) (λ e. omega arith) (λ e. omega arith) (λ e. omega arith)
+
+  link-here : linkAt v at p ≡ headAt w at c
+  link-here = entry-other k3 (560 + p) (λ e. omega arith) ∙ entry-other k2 (560 + p) (λ e. omega arith) ∙ k1 .here ∙ eh
+
+  head-same : (d : ℕ) → d < 80 → d ≢ c → headAt v at d ≡ headAt w at d
+  head-same d h n = other d (λ e. omega arith) n (λ e. omega arith)
+
+  head-here : headAt v at c ≡ p + 1
+  head-here = entry-other k3 c (λ e. omega arith) ∙ k2 .here
+
+  count-same : (d : ℕ) → d < 80 → d ≢ c → countAt v at d ≡ countAt w at d
+  count-same d h n = other (80 + d) (λ e. omega arith) (λ e. omega arith) (λ e. n (omega arith))
+
+  boxes : (i : ℕ) → 160 ≤ i → i < 560 → entry v at i ≡ entry w at i
+  boxes i h l = other i (λ e. omega arith) (λ e. omega arith) (λ e. omega arith)
+
+  kept : Kept w v at (at + 1122 + 2 * p)
+  kept =
+      kept-then (kept-wide (k1 .kept) (omega arith) (omega arith))
+      (kept-then (kept-wide (k2 .kept) (omega arith) (omega arith)) (kept-wide (k3 .kept) (omega arith) (omega arith)))
+
+  ready : Ready v at (p + 1)
+  ready =
+      record {
+        room = omega (arith, kept .long);
+        head-low = λ d h.
+            elim (ℕ-discrete d c)
+            [ yes e ↦ rw (e, head-here) (omega arith) | no e ↦ rw (head-same d h e) (omega (arith, rd .head-low d h)) ];
+        link-low = below-more _ p (λ j h. rw (link-same j h) (rd .link-low j h)) (rw link-here (rd .head-low c hc));
+        count-low = λ d h.
+            elim (ℕ-discrete d c) [
+              | yes e ↦ rw (e, k3 .here) (omega (arith, ek, rd .count-low c hc))
+              | no e ↦ rw (count-same d h e) (omega (arith, rd .count-low d h))
+            ];
+        radius-low = λ d h. rw (boxes (480 + d) (omega arith) (omega arith)) (rd .radius-low d h);
+      }
+
+  module _ (cell : ℕ → ℕ) (ch : Chained w at p cell) where
+    cell-same : (q : ℕ) → q < p → assign cell p c q ≡ cell q
+    cell-same q h = rw (ne-eqb q p (λ e. omega arith))
+
+    cell-here : assign cell p c p ≡ c
+    cell-here = rw (eq-eqb p p refl)
+
+    head-all : (q : ℕ) → q < p → q < headAt v at (assign cell p c q)
+    head-all q h =
+        rw (cell-same q h)
+        (elim (ℕ-discrete (cell q) c) [
+          | yes e ↦ rw (e, head-here) (omega arith)
+          | no e ↦ rw (head-same (cell q) (ch .cell-low q h) e) (ch .head-all q h)
+        ])
+
+    head-in : (d : ℕ) → d < 80 → (i : ℕ) → headAt v at d ≡ suc i → assign cell p c i ≡ d
+    head-in d h i e =
+        elim (ℕ-discrete d c) [
+          | yes f ↦
+              (let x : p + 1 ≡ suc i = sym head-here ∙ ap (headAt v at) (sym f) ∙ e in
+              let y : i ≡ p = omega arith in
+              rw (y, f) cell-here)
+          | no f ↦
+              (let x : headAt w at d ≡ suc i = sym (head-same d h f) ∙ e in
+              let b : i < p = omega (arith, rd .head-low d h, x) in
+              cell-same i b ∙ ch .head-in d h i x)
+        ]
+
+    chained : Chained v at (p + 1) (assign cell p c)
+    chained =
+        record {
+          cell-low = below-more _ p (λ q h. rw (cell-same q h) (ch .cell-low q h)) (rw cell-here hc);
+          head-in = head-in;
+          head-all = below-more _ p head-all (rw (cell-here, head-here) (omega arith));
+          link-in = below-more _ p
+              (λ j h i e.
+              let x : linkAt w at j ≡ suc i = sym (link-same j h) ∙ e in
+              let b : i < p = omega (arith, rd .link-low j h, x) in
+              cell-same i b ∙ ch .link-in j h i x ∙ sym (cell-same j h))
+              (λ i e.
+              let x : headAt w at c ≡ suc i = sym link-here ∙ e in
+              let b : i < p = omega (arith, rd .head-low c hc, x) in
+              cell-same i b ∙ ch .head-in c hc i x ∙ sym cell-here);
+          link-all = below-more _ p
+              (λ j h q b e.
+              let l : q < p = omega arith in
+              rw (link-same j h) (ch .link-all j h q b (sym (cell-same q l) ∙ e ∙ cell-same j h)))
+              (λ q b e. let x : cell q ≡ c = sym (cell-same q b) ∙ e ∙ cell-here in rw link-here (rw x at (ch .head-all q b)));
+        }
+
+  pub linked : Linked w v at p c
+  linked = record { kept = kept; boxes = boxes; ready = ready; chained = chained }
+
+-- ---- the row
+
+module _ {w v : List ℕ} {at : ℕ} (g : Grown w v at) (p : ℕ) where
+  low-same : (i : ℕ) → i < 160 → entry v at i ≡ entry w at i
+  low-same i h = number-kept (g .kept) 2 (at + 2 * i) (omega arith)
+
+  link-still : (j : ℕ) → linkAt v at j ≡ linkAt w at j
+  link-still j = number-kept (g .kept) 2 (at + 2 * (560 + j)) (omega arith)
+
+  pub ready-grown : Ready w at p → Ready v at p
+  ready-grown r =
+      record {
+        room = omega (arith, g .kept .long, r .room);
+        head-low = λ c h. rw (low-same c (omega arith)) (r .head-low c h);
+        link-low = λ j h. rw (link-still j) (r .link-low j h);
+        count-low = λ c h. rw (low-same (80 + c) (omega arith)) (r .count-low c h);
+        radius-low = λ c h. g .low c h (r .radius-low c h);
+      }
+
+  chained-grown : {cell : ℕ → ℕ} → Chained w at p cell → Chained v at p cell
+  chained-grown {cell} r =
+      record {
+        cell-low = r .cell-low;
+        head-in = λ c h i e. r .head-in c h i (sym (low-same c (omega arith)) ∙ e);
+        head-all = λ q h. let l = r .cell-low q h in rw (low-same (cell q) (omega arith)) (r .head-all q h);
+        link-in = λ j h i e. r .link-in j h i (sym (link-still j) ∙ e);
+        link-all = λ j h q l e. rw (link-still j) (r .link-all j h q l e);
+      }
+
+  boxed-linked : {u : List ℕ} {c d x y r : ℕ} → d < 80 → Linked v u at p c → Boxed v at d x y r → Boxed u at d x y r
+  boxed-linked {d = d} h l b =
+      record {
+        west = rw (l .boxes (160 + d) (omega arith) (omega arith)) (b .west);
+        east = rw (l .boxes (240 + d) (omega arith) (omega arith)) (b .east);
+        south = rw (l .boxes (320 + d) (omega arith) (omega arith)) (b .south);
+        north = rw (l .boxes (400 + d) (omega arith) (omega arith)) (b .north);
+        radius = rw (l .boxes (480 + d) (omega arith) (omega arith)) (b .radius);
+      }
+
+pub added : {w v u : List ℕ} {at p c : ℕ} (x y : ℤ) {r : ℕ} → c < 80 → Widened w v at c (shifted x) (shifted y) r → Linked v u at p c
+    → Added w u at p c x y r
+added {p = p} x y hc g l =
+    record {
+      kept = kept-then (kept-wide (g .grown .kept) (omega arith) (omega arith)) (l .kept);
+      ready = l .ready;
+      chained = λ cell ch. l .chained cell (chained-grown (g .grown) p ch);
+      inside = boxed-linked (g .grown) p hc l (g .boxed);
+      still = λ d a b s h k. boxed-linked (g .grown) p h l (boxed-grown (g .grown) k);
+    }

@@ -1,0 +1,68 @@
+-- What a search uses of the table: it starts empty, and stays where other bytes of the buffer change. Assumes nothing.
+use Prim.Native.Nat.{ℕ, _+_, _*_, _≤_}
+use mathlib.Core.Path.{_≡_, sym, _∙_}
+use mathlib.Core.List.{List}
+use native.Mathlib.Omega.{arith}
+use lib.ListN.{length}
+use Rattle.sorting.specs.Frame.{Kept, number-kept}
+use Rattle.grid.specs.Table.{entry, Ready, Chained, Boxed}
+use Rattle.grid.specs.Steps.{Cleared}
+
+-- ---- the empty table
+
+module _ {w v : List ℕ} {at : ℕ} (k : Cleared w v at 560) where
+  pub ready-none : at + 1120 ≤ length w → Ready v at 0
+  ready-none room =
+      record {
+        room = omega (arith, k .kept .long);
+        head-low = λ c h. omega (arith, k .zeros c (omega arith));
+        link-low = λ j h. absurd (omega arith);
+        count-low = λ c h. omega (arith, k .zeros (80 + c) (omega arith));
+        radius-low = λ c h. omega (arith, k .zeros (480 + c) (omega arith));
+      }
+
+  pub chained-none : (cell : ℕ → ℕ) → Chained v at 0 cell
+  chained-none cell =
+      record {
+        cell-low = λ q h. absurd (omega arith);
+        head-in = λ c h i e. absurd (omega (arith, k .zeros c (omega arith)));
+        head-all = λ q h. absurd (omega arith);
+        link-in = λ j h. absurd (omega arith);
+        link-all = λ j h. absurd (omega arith);
+      }
+
+-- ---- a write before the table
+
+module _ {w v : List ℕ} {a b : ℕ} (k : Kept w v a b) (at : ℕ) (o : b ≤ at) where
+  pub entry-kept : (i : ℕ) → entry v at i ≡ entry w at i
+  entry-kept i = number-kept k 2 (at + 2 * i) (omega arith)
+
+  pub ready-kept : {p : ℕ} → Ready w at p → Ready v at p
+  ready-kept {p} r =
+      record {
+        room = omega (arith, k .long, r .room);
+        head-low = λ c h. rw (entry-kept c) (r .head-low c h);
+        link-low = λ j h. rw (entry-kept (560 + j)) (r .link-low j h);
+        count-low = λ c h. rw (entry-kept (80 + c)) (r .count-low c h);
+        radius-low = λ c h. rw (entry-kept (480 + c)) (r .radius-low c h);
+      }
+
+  pub chained-kept : {p : ℕ} {cell : ℕ → ℕ} → Chained w at p cell → Chained v at p cell
+  chained-kept {p} {cell} r =
+      record {
+        cell-low = r .cell-low;
+        head-in = λ c h i e. r .head-in c h i (sym (entry-kept c) ∙ e);
+        head-all = λ q h. rw (entry-kept (cell q)) (r .head-all q h);
+        link-in = λ j h i e. r .link-in j h i (sym (entry-kept (560 + j)) ∙ e);
+        link-all = λ j h q l e. rw (entry-kept (560 + j)) (r .link-all j h q l e);
+      }
+
+  pub boxed-kept : {c x y r : ℕ} → Boxed w at c x y r → Boxed v at c x y r
+  boxed-kept {c} b =
+      record {
+        west = rw (entry-kept (160 + c)) (b .west);
+        east = rw (entry-kept (240 + c)) (b .east);
+        south = rw (entry-kept (320 + c)) (b .south);
+        north = rw (entry-kept (400 + c)) (b .north);
+        radius = rw (entry-kept (480 + c)) (b .radius);
+      }

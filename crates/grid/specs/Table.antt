@@ -1,0 +1,69 @@
+-- The table of cells: 80 cells, each with a chain of the rows that were put into it, a box around their places and their largest radius.
+-- `w` is the lent buffer and `at` where the table begins in it; its entries have 2 bytes: for each cell its last row, the number of its rows,
+-- the four sides of its box and its largest radius; then for each row the row before it in its cell. A row is given by one more than its
+-- place, so that 0 means 'none'. Any row may be put into any cell.
+use Prim.Native.Nat.{ℕ, suc, _+_, _-_, _*_, _<_, _≤_}
+use mathlib.Core.Path.{_≡_}
+use mathlib.Core.Bool.{cond}
+use mathlib.Core.List.{List}
+use lib.Dec.{eqb}
+use lib.IntN.{ℤ, pos, negsuc}
+use lib.ListN.{length}
+use Rattle.numbers.specs.Little.{leAt}
+
+abbrev pub entry : List ℕ → ℕ → ℕ → ℕ
+entry w at i = leAt 2 w (at + 2 * i)
+
+abbrev pub headAt : List ℕ → ℕ → ℕ → ℕ
+headAt w at c = entry w at c
+
+abbrev pub countAt : List ℕ → ℕ → ℕ → ℕ
+countAt w at c = entry w at (80 + c)
+
+abbrev pub radiusAt : List ℕ → ℕ → ℕ → ℕ
+radiusAt w at c = entry w at (480 + c)
+
+abbrev pub linkAt : List ℕ → ℕ → ℕ → ℕ
+linkAt w at q = entry w at (560 + q)
+
+-- ---- the chains
+
+-- no entry leads past the p rows that were put in
+pub record Ready (w : List ℕ) (at p : ℕ) : Type 0 where
+  pub room : at + 1120 + 2 * p ≤ length w
+  pub head-low : (c : ℕ) → c < 80 → headAt w at c ≤ p
+  pub link-low : (j : ℕ) → j < p → linkAt w at j ≤ j
+  pub count-low : (c : ℕ) → c < 80 → countAt w at c ≤ p
+  pub radius-low : (c : ℕ) → c < 80 → radiusAt w at c ≤ 16383
+
+-- row q is in cell `cell q`: a cell's head is its last row, and a row's link is the row before it in its cell
+pub record Chained (w : List ℕ) (at p : ℕ) (cell : ℕ → ℕ) : Type 0 where
+  pub cell-low : (q : ℕ) → q < p → cell q < 80
+  pub head-in : (c : ℕ) → c < 80 → (i : ℕ) → headAt w at c ≡ suc i → cell i ≡ c
+  pub head-all : (q : ℕ) → q < p → q < headAt w at (cell q)
+  pub link-in : (j : ℕ) → j < p → (i : ℕ) → linkAt w at j ≡ suc i → cell i ≡ cell j
+  pub link-all : (j : ℕ) → j < p → (q : ℕ) → q < j → cell q ≡ cell j → q < linkAt w at j
+
+-- `cell`, but row p is in cell c
+abbrev pub assign : (ℕ → ℕ) → ℕ → ℕ → ℕ → ℕ
+assign cell p c q = cond (eqb q p) c (cell q)
+
+-- ---- the boxes
+
+-- a coordinate, shifted to be at least 0
+abbrev pub shifted : ℤ → ℕ
+shifted (pos a) = a + 32768
+shifted (negsuc a) = 32768 - suc a
+
+-- The shifted place (u, v) lies in the box of cell c, and r is at most its largest radius. The lower sides are kept as their distance from
+-- 65,535, so that every side of an empty box is 0, and each grows.
+pub record Boxed (w : List ℕ) (at c u v r : ℕ) : Type 0 where
+  pub west : 65535 ≤ entry w at (160 + c) + u
+  pub east : u ≤ entry w at (240 + c)
+  pub south : 65535 ≤ entry w at (320 + c) + v
+  pub north : v ≤ entry w at (400 + c)
+  pub radius : r ≤ radiusAt w at c
+
+-- the same of a mark's place and used radius
+abbrev pub Inside : List ℕ → ℕ → ℕ → ℤ → ℤ → ℕ → Type 0
+Inside w at c x y r = Boxed w at c (shifted x) (shifted y) r

@@ -1,0 +1,5 @@
+pub mod Bytes
+pub mod Cells
+pub mod Progress
+pub mod Sending
+pub mod Filling

@@ -1,0 +1,201 @@
+-- The outer loop: what holds once the rows before p have what was found for them. Assumes nothing.
+use Prim.Native.Nat.{ℕ, _+_, _*_, _^_, _<_, _≤_}
+use mathlib.Core.Path.{_≡_, refl, sym, ap, _∙_}
+use mathlib.Core.List.{List}
+use mathlib.Core.Logic.{_≢_}
+use native.Mathlib.Omega.{arith}
+use native.Mathlib.Nat.{add-zero}
+use borrow.Author.Count.{below-more}
+use borrow.Author.Tests.{eq-eqb, ne-eqb}
+use lib.ListN.{length}
+use lib.Seq.{sets}
+use lib.IntN.{ℤ}
+use Rattle.numbers.specs.Little.{leAt}
+use Rattle.fractions.specs.Order.{Small}
+use Rattle.sorting.specs.Frame.{Kept, kept-none, number-kept}
+use Rattle.elimination.specs.declared.Record.{Record}
+use Rattle.elimination.specs.Marks.{Marks}
+use Rattle.elimination.specs.Process.{Removal, stays, put}
+use Rattle.elimination.specs.Records.{recordBytes}
+use Rattle.elimination.specs.Settled.{SettledAt}
+use Rattle.elimination.specs.Lemmas.RankOrder.{visited, all-settled}
+use Rattle.elimination.specs.Theorems.{settled-process}
+use Rattle.searching.specs.Rows.{rowNumber, rowX, rowY, rowRadius, rowValue, rowsTouch, rowRecord, StoredAt}
+use Rattle.searching.specs.Scan.{Above, Scanned}
+use Rattle.searching.specs.Search.{SearchFor}
+use Rattle.scheduling.specs.Settling.{SameFields, Scannable, Settles, Ordered, Processed}
+use Rattle.scheduling.proofs.Bytes.{record-back, put-kept, off-field}
+
+-- ---- one row
+
+-- the record that was put is read back; u is w but for bytes behind the rows
+pub settles : {w u v : List ℕ} {n p b : ℕ} {t : Record} → p < n → 24 * n ≤ length w → t .num < 2 ^ 64 → t .den < 4294967296
+    → Kept w u (24 * n) b → v ≡ sets u (24 * p + 8) (recordBytes (t .eliminator) (t .num) (t .den)) → Scanned w p t → Settles n w v p
+settles {w} {u} {v} {n} {p} {b} {t} hp room hn hd ku e sc =
+    let i : 24 * p + 8 + 2 ≡ 24 * p + 10 = omega arith in
+    let j : 24 * p + 8 + 10 ≡ 24 * p + 18 = omega arith in
+    let k : Kept u v (24 * p + 8) (24 * p + 22) = put-kept p (t .eliminator) (t .num) (t .den) e in
+    let (who-is, num-is, den-is) =
+    rw (← e) at (record-back u (24 * p + 8) (t .eliminator) (t .num) (t .den) (omega (arith, ku .long)) (sc .number) hn hd) in
+    let is : rowRecord v p ≡ t = rw (who-is, rw i at num-is, rw j at den-is) in
+    record {
+      long = k .long ∙ ku .long;
+      kept = λ m a l o. number-kept k m a o ∙ number-kept ku m a (omega arith);
+      scanned = rw is sc;
+    }
+
+-- ---- the fields stay
+
+-- where only bytes behind the rows change
+pub same-kept : {n b : ℕ} {w v : List ℕ} → Kept w v (24 * n) b → SameFields n w v
+same-kept k = record { long = k .long; field = λ q j h l. number-kept k 2 (24 * q + j) (omega arith) }
+
+same-more : {n p : ℕ} {w v u : List ℕ} → SameFields n w v → Settles n v u p → SameFields n w u
+same-more {n} {p} s k =
+    record {
+      long = k .long ∙ s .long;
+      field = λ q j h l. k .kept 2 (24 * q + j) (omega arith) (off-field q p j l) ∙ s .field q j h l;
+    }
+
+module _ {n : ℕ} {w v : List ℕ} (s : SameFields n w v) where
+  pub number-same : (q : ℕ) → q < n → rowNumber v q ≡ rowNumber w q
+  number-same q h = rw add-zero at (s .field q 0 h (omega arith))
+
+  pub radius-same : (q : ℕ) → q < n → rowRadius v q ≡ rowRadius w q
+  radius-same q h = s .field q 6 h (omega arith)
+
+  touch-same : (q p : ℕ) → q < n → p < n → rowsTouch v q p ≡ rowsTouch w q p
+  touch-same q p hq hp =
+      rw (
+        s .field q 2 hq (omega arith),
+        s .field q 4 hq (omega arith),
+        radius-same q hq,
+        s .field p 2 hp (omega arith),
+        s .field p 4 hp (omega arith),
+        radius-same p hp,
+      )
+
+-- ---- the loop
+
+-- v is w with what was found in the rows before p: it is small, and settles the marks of those rows
+pub record Progress (n p : ℕ) (w v : List ℕ) : Type 0 where
+  pub fields : SameFields n w v
+  pub small : (q : ℕ) → q < p → Small (rowValue v q)
+  pub settled : (M : Marks) (order : ℕ → ℕ) → Ordered M order w n
+      → (s : ℕ → Removal) × ((q : ℕ) → q < p → StoredAt v q (s (order q))) × ((q : ℕ) → q < p → SettledAt M s (order q))
+
+pub start : (n : ℕ) (w : List ℕ) → Progress n 0 w w
+start n w =
+    record {
+      fields = same-kept (kept-none w (24 * n) 0);
+      small = λ q h. absurd (omega arith);
+      settled = λ M order o. ((λ _. stays), (λ q h. absurd (omega arith)), (λ q h. absurd (omega arith)));
+    }
+
+pub ready : {n p : ℕ} {w v : List ℕ} → n ≤ 4096 → 32 * n ≤ length w → ((q : ℕ) → q < n → rowRadius w q ≤ 16383) → p < n → Progress n p w v
+    → Scannable v n p
+ready {n} {p} {w} {v} few room radii hp g =
+    let radius : (q : ℕ) → q < n → rowRadius v q ≤ 16383 = λ q h. rw (radius-same (g .fields) q h) (radii q h) in
+    record {
+      few = few;
+      below = hp;
+      room = omega (arith, g .fields .long);
+      radius = radius p hp;
+      above = λ q h. record { radius = radius q (omega arith); value = g .small q h };
+    }
+
+pub search-for : {w : List ℕ} {n p : ℕ} {x y : ℤ} {r : ℕ} → Scannable w n p → x ≡ rowX w p → y ≡ rowY w p → r ≡ rowRadius w p → SearchFor w p x y r
+search-for s ex ey er =
+    record {
+      few = omega (arith, s .below, s .few);
+      room = omega (arith, s .below, s .room);
+      x-is = ex;
+      y-is = ey;
+      r-is = er;
+      r-small = rw er (s .radius);
+      above = s .above;
+    }
+
+put-here : (s : ℕ → Removal) (h : ℕ) (r : Removal) → put s h r h ≡ r
+unfolding put
+put-here s h r = rw (eq-eqb h h refl)
+
+put-other : (s : ℕ → Removal) (h : ℕ) (r : Removal) (i : ℕ) → i ≢ h → put s h r i ≡ s i
+unfolding put
+put-other s h r i d = rw (ne-eqb i h d)
+
+-- the mark in row p joins the settled ones
+module _ {n p : ℕ} {w v u : List ℕ} (hp : p < n) (g : Progress n p w v) (x : Settles n v u p) where
+  -- what was found for the earlier rows stays
+  number-off : (k a q : ℕ) → q < p → a + k ≤ 22 → leAt k u (24 * q + a) ≡ leAt k v (24 * q + a)
+  number-off k a q h l = x .kept k (24 * q + a) (omega arith) (omega arith)
+
+  value-off : (q : ℕ) → q < p → rowValue u q ≡ rowValue v q
+  value-off q h = rw (number-off 8 10 q h (omega arith), number-off 4 18 q h (omega arith))
+
+  stored-off : (q : ℕ) → q < p → (r : Removal) → StoredAt v q r → StoredAt u q r
+  stored-off q h r st = rw (number-off 2 8 q h (omega arith), value-off q h) st
+
+  module _ (M : Marks) (order : ℕ → ℕ) (o : Ordered M order w n) where
+    inside : p < M .count
+    inside = omega (arith, o .counted)
+
+    apart : (q : ℕ) → q < p → order q ≢ order p
+    apart q h e = let k = ap (M .key) e in omega (arith, o .ranking .rising q p h inside)
+
+    above : (s : ℕ → Removal) → ((q : ℕ) → q < p → StoredAt v q (s (order q))) → Above M order s v p
+    above s st =
+        record {
+          number = λ q h. number-same (g .fields) q (omega arith) ∙ o .number q (omega arith);
+          value = λ q h. touch-same (g .fields) q p (omega arith) hp ∙ o .value q p h hp;
+          removal = st;
+        }
+
+    settled-on : (s : ℕ → Removal) × ((q : ℕ) → q < p + 1 → StoredAt u q (s (order q))) × ((q : ℕ) → q < p + 1 → SettledAt M s (order q))
+    settled-on =
+        let (s, st, se) = g .settled M order o in
+        let (r, sr, fo) = x .scanned .found M order s (o .proper) (above s st) in
+        let t : ℕ → Removal = put s (order p) r in (
+          t,
+          below-more _ _
+              (λ q h. rw (put-other s (order p) r (order q) (apart q h)) (stored-off q h (s (order q)) (st q h)))
+              (rw (put-here s (order p) r) sr),
+          λ q h.
+              visited M order (o .ranking) s t p inside (λ i a d. sym (put-other s (order p) r i d)) r (put-here s (order p) r) fo se q
+              (omega arith),
+        )
+
+  pub advance : Progress n (p + 1) w u
+  advance =
+      record {
+        fields = same-more (g .fields) x;
+        small = below-more _ _ (λ q h. rw (value-off q h) (g .small q h)) (x .scanned .small);
+        settled = settled-on;
+      }
+
+pub finish : {n p : ℕ} {w v : List ℕ} → p ≡ n → Progress n p w v → Processed n w v
+finish {n} {p} {w} {v} e g =
+    record {
+      fields = g .fields;
+      removals = λ M order o k h.
+          let (s, st, se) = g .settled M order o in
+          let all = all-settled M order (o .ranking) s (λ q b. se q (omega (arith, o .counted))) in
+          let b : k < M .count = omega (arith, o .counted) in
+          rw (← settled-process M (o .proper) s all (order k) (o .ranking .inside k b)) (st k (omega arith));
+    }
+
+-- the rows of v are those of w
+pub processed-like : {n : ℕ} {w v u : List ℕ} → SameFields n w v → Processed n v u → Processed n w u
+processed-like s x =
+    record {
+      fields = record { long = x .fields .long ∙ s .long; field = λ q j h l. x .fields .field q j h l ∙ s .field q j h l };
+      removals = λ M order o.
+          x .removals M order
+          (record {
+            proper = o .proper;
+            counted = o .counted;
+            ranking = o .ranking;
+            number = λ q h. number-same s q h ∙ o .number q h;
+            value = λ q p h k. touch-same s q p (omega arith) k ∙ o .value q p h k;
+          });
+    }

@@ -1,0 +1,62 @@
+-- `scheduling::plan_grid` meets its contract: the sum of the radii stays small; nothing else is asked. Assumes nothing.
+use native.Mathlib.Omega.{arith}
+use Prim.Native.Nat.{_≤_, _-_, _*_}
+use borrow.Author.Needs.{needs}
+use Rattle.scheduling.proofs.plan_grid.Statement.{statement}
+use Rattle.scheduling.proofs.plan_grid.Tie as tie
+
+abbrev Inv-loop : tie.InvT-loop
+Inv-loop w n e₀ q₀ e q = (q ≤ n) × (e .radii ≤ 65535 * q)
+
+abbrev μ-loop : tie.MeasureT-loop
+μ-loop w n e₀ q₀ e q = n - q
+
+loop-holds : tie.Need-loop-holds Inv-loop μ-loop
+loop-holds c = (omega arith, omega arith)
+
+row-x-requires : tie.Need-row-x-requires Inv-loop μ-loop
+row-x-requires c κs = search needs
+
+row-y-requires : tie.Need-row-y-requires Inv-loop μ-loop
+row-y-requires c κs = search needs
+
+row-radius-requires : tie.Need-row-radius-requires Inv-loop μ-loop
+row-radius-requires c κs = search needs
+
+extended-requires : tie.Need-extended-requires Inv-loop μ-loop
+extended-requires c κs = omega (arith, c .before .before .before .loop-test .taken, c .before .before .before .before .loop .inv .1, c .before .before .before .before .before .before .pre .0)
+
+add-q : tie.Need-add-q Inv-loop μ-loop
+add-q c = search needs
+
+loop-less : tie.Need-loop-less Inv-loop μ-loop
+loop-less c = search needs
+
+loop-again : tie.Need-loop-again Inv-loop μ-loop
+loop-again c =
+    let r = c .before in
+    let l = r .before .before .before .before in
+    (omega arith, omega (arith, c .extended .ensures, l .loop .inv .1))
+
+plan-of-requires : tie.Need-plan-of-requires Inv-loop μ-loop
+plan-of-requires c κs = (omega (arith, c .before .loop .inv, c .before .before .before .pre .0), c .before .before .before .pre .0)
+
+returns : tie.Need-returns Inv-loop μ-loop
+returns c = c .plan-of .ensures
+
+pub plan-grid-spec : {M : Type 1} → statement M
+plan-grid-spec =
+    tie.close
+    (tie.spec
+    Inv-loop
+    μ-loop
+    loop-holds
+    row-x-requires
+    row-y-requires
+    row-radius-requires
+    extended-requires
+    add-q
+    loop-less
+    loop-again
+    plan-of-requires
+    returns)

@@ -1,0 +1,48 @@
+-- What is found is written, row after row: in the end the rows have the process's removals, for any marks whose rows these are.
+use Prim.Native.Nat.{ℕ, _+_, _*_, _<_, _≤_}
+use mathlib.Core.Path.{_≡_}
+use mathlib.Core.List.{List}
+use lib.ListN.{length}
+use Rattle.numbers.specs.Little.{leAt}
+use Rattle.sorting.specs.Frame.{Clear}
+use Rattle.elimination.specs.Marks.{Marks, Proper}
+use Rattle.elimination.specs.Process.{process}
+use Rattle.elimination.specs.RankOrder.{Ranking}
+use Rattle.searching.specs.Rows.{rowNumber, rowRadius, rowsTouch, rowRecord, StoredAt, Entry}
+use Rattle.searching.specs.Scan.{Scanned}
+
+-- ---- one row
+
+-- row p of n can be searched for: the rows above it are complete
+pub record Scannable (w : List ℕ) (n p : ℕ) : Type 0 where
+  pub few : n ≤ 4096
+  pub below : p < n
+  pub room : 32 * n ≤ length w
+  pub radius : rowRadius w p ≤ 16383
+  pub above : (q : ℕ) → q < p → Entry w q
+
+-- v is w with what the search finds for row p written there; behind the rows it may differ
+pub record Settles (n : ℕ) (w v : List ℕ) (p : ℕ) : Type 0 where
+  pub long : length v ≡ length w
+  pub kept : (k a : ℕ) → a + k ≤ 24 * n → Clear a k (24 * p + 8) (24 * p + 22) → leAt k v a ≡ leAt k w a
+  pub scanned : Scanned w p (rowRecord v p)
+
+-- ---- all rows
+
+-- the rows of w are those of the marks of M, in the order of rank
+pub record Ordered (M : Marks) (order : ℕ → ℕ) (w : List ℕ) (n : ℕ) : Type 0 where
+  pub proper : Proper M
+  pub counted : M .count ≡ n
+  pub ranking : Ranking M order
+  pub number : (q : ℕ) → q < n → rowNumber w q ≡ order q
+  pub value : (q p : ℕ) → q < p → p < n → rowsTouch w q p ≡ M .value (order q) (order p)
+
+-- the fields of the n rows are the same in v as in w
+pub record SameFields (n : ℕ) (w v : List ℕ) : Type 0 where
+  pub long : length v ≡ length w
+  pub field : (q j : ℕ) → q < n → j ≤ 6 → leAt 2 v (24 * q + j) ≡ leAt 2 w (24 * q + j)
+
+-- v is w with the process's removals in the rows
+pub record Processed (n : ℕ) (w v : List ℕ) : Type 0 where
+  pub fields : SameFields n w v
+  pub removals : (M : Marks) (order : ℕ → ℕ) → Ordered M order w n → (p : ℕ) → p < n → StoredAt v p (process M (order p))

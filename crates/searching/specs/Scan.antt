@@ -1,0 +1,23 @@
+-- What the search for row p finds, for any marks whose rows these are: the contract of the search.
+use Prim.Native.Nat.{ℕ, _<_}
+use mathlib.Core.Path.{_≡_}
+use mathlib.Core.List.{List}
+use Rattle.fractions.specs.Order.{Small}
+use Rattle.elimination.specs.declared.Record.{Record}
+use Rattle.elimination.specs.Marks.{Marks, Proper}
+use Rattle.elimination.specs.Process.{Removal}
+use Rattle.elimination.specs.RankOrder.{Found}
+use Rattle.searching.specs.Rows.{rowNumber, rowsTouch, fractionOf, Stored, StoredAt}
+
+-- the rows above p are those of the marks `order 0`, .., with the removals s
+pub record Above (M : Marks) (order : ℕ → ℕ) (s : ℕ → Removal) (w : List ℕ) (p : ℕ) : Type 0 where
+  pub number : (q : ℕ) → q < p → rowNumber w q ≡ order q
+  pub value : (q : ℕ) → q < p → rowsTouch w q p ≡ M .value (order q) (order p)
+  pub removal : (q : ℕ) → q < p → StoredAt w q (s (order q))
+
+-- `t` is what a search of the rows above p finds for row p: its best candidate
+pub record Scanned (w : List ℕ) (p : ℕ) (t : Record) : Type 0 where
+  pub small : Small (fractionOf t)
+  pub number : t .eliminator < 65536
+  pub found : (M : Marks) (order : ℕ → ℕ) (s : ℕ → Removal) → Proper M → Above M order s w p
+      → (r : Removal) × Stored r (t .eliminator) (fractionOf t) × Found M order s (order p) p r
