@@ -62,7 +62,7 @@ fn settle_in_grid(w: &mut [u8], n: usize, p: usize, plan: Plan)
     elimination::put_record(w, 24 * p + 8, found);
 }
 
-// The square in which the rows lie.
+// The cells over the places of the rows.
 fn plan_grid(w: &[u8], n: usize) -> Plan
     requires { ⌜ (n ≤ 4096) × (24 * n ≤ length (now w)) ⌝ }
     ensures { λ r. ⌜ Divides r ⌝ }
