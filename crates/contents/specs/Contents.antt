@@ -1,11 +1,10 @@
 -- 01, "The sheet: contents, then bodies". `s` is a sheet's bytes; a sheet's bodies are a list, that of code 1 first.
 use Prim.Native.Nat.{ℕ, zero, suc, _+_, _*_, _^_, _<_}
 use mathlib.Core.Bool.{Bool}
-use mathlib.Core.List.{List, [], _∷_, _++_, map}
+use mathlib.Core.List.{List, [], _∷_, _++_}
 use lib.ListN.{length, getD, take, drop}
 use lib.Dec.{leb}
 use Rattle.numbers.specs.Little.{leAt, leBytes}
-use Rattle.index.specs.Tree.{upTo}
 
 -- ---- reading
 
@@ -34,9 +33,14 @@ startAt s (suc i) = offsetAt s i + lengthAt s i
 abbrev pub bodyAt : List ℕ → ℕ → List ℕ
 bodyAt s i = take (lengthAt s i) (drop (offsetAt s i) s)
 
+-- the first k bodies of a sheet
+abbrev pub firstBodies : List ℕ → ℕ → List (List ℕ)
+firstBodies s zero = []
+firstBodies s (suc k) = firstBodies s k ++ (bodyAt s k ∷ [])
+
 -- the bodies of a sheet
 unfoldable pub split : List ℕ → List (List ℕ)
-split s = map (bodyAt s) (upTo (countAt s))
+split s = firstBodies s (countAt s)
 
 -- ---- writing
 

@@ -10,7 +10,8 @@ use borrow.Author.Tests.{eq-eqb, ne-eqb}
 use lib.ListN.{length}
 use lib.IntN.{ℤ}
 use Rattle.sorting.specs.Frame.{Kept, kept-wide, kept-then, number-kept}
-use Rattle.grid.specs.Table.{entry, headAt, countAt, linkAt, Ready, Chained, assign, shifted, Boxed}
+use Rattle.marks.specs.Marks.{shifted}
+use Rattle.grid.specs.Table.{entry, headAt, countAt, linkAt, Ready, Chained, assign, Boxed}
 use Rattle.grid.specs.Steps.{Put, Grown, Widened, Linked, Added}
 use Rattle.grid.proofs.Entries.{entry-other}
 use Rattle.grid.proofs.Boxes.{boxed-grown}

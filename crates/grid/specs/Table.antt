@@ -7,9 +7,10 @@ use mathlib.Core.Path.{_≡_}
 use mathlib.Core.Bool.{cond}
 use mathlib.Core.List.{List}
 use lib.Dec.{eqb}
-use lib.IntN.{ℤ, pos, negsuc}
+use lib.IntN.{ℤ}
 use lib.ListN.{length}
 use Rattle.numbers.specs.Little.{leAt}
+use Rattle.marks.specs.Marks.{shifted}
 
 abbrev pub entry : List ℕ → ℕ → ℕ → ℕ
 entry w at i = leAt 2 w (at + 2 * i)
@@ -49,11 +50,6 @@ abbrev pub assign : (ℕ → ℕ) → ℕ → ℕ → ℕ → ℕ
 assign cell p c q = cond (eqb q p) c (cell q)
 
 -- ---- the boxes
-
--- a coordinate, shifted to be at least 0
-abbrev pub shifted : ℤ → ℕ
-shifted (pos a) = a + 32768
-shifted (negsuc a) = 32768 - suc a
 
 -- The shifted place (u, v) lies in the box of cell c, and r is at most its largest radius. The lower sides are kept as their distance from
 -- 65,535, so that every side of an empty box is 0, and each grows.

@@ -5,7 +5,7 @@ use fractions::Fraction;
 ghost use mathlib.Core.Path.{_≡_};
 ghost use Prim.Native.Nat.{_+_, _*_, _<_, _≤_, max};
 ghost use lib.ListN.{length};
-ghost use Rattle.grid.specs.Table.{entry, headAt, countAt, radiusAt, linkAt, shifted, Ready};
+ghost use Rattle.grid.specs.Table.{entry, headAt, countAt, radiusAt, linkAt, Ready};
 ghost use Rattle.grid.specs.Plan.{Divides};
 ghost use Rattle.grid.specs.Steps.{Put, Cleared, Widened, Linked, Added, AwayFrom, Apart, Bound};
 
@@ -92,13 +92,6 @@ fn link(w: &mut [u8], at: usize, p: usize, c: usize)
 
 // ---- boxes
 
-// A place, shifted to be at least 0.
-fn shifted(v: i16) -> u16
-    ensures { λ r. ⌜ r ≡ shifted v ⌝ }
-{
-    (v as i32 + 32768) as u16
-}
-
 fn larger(a: u16, b: u16) -> u16
     ensures { λ r. ⌜ r ≡ max a b ⌝ }
 {
@@ -135,7 +128,7 @@ pub fn add(w: &mut [u8], at: usize, p: usize, c: usize, x: i16, y: i16, r: u16)
     requires { ⌜ Ready (now w) at p ⌝ }
     ensures { λ _. ⌜ Added (now (w .entry)) (now (w .exit)) at p c x y r ⌝ }
 {
-    widen_box(w, at, c, shifted(x), shifted(y), r);
+    widen_box(w, at, c, marks::shifted(x), marks::shifted(y), r);
     link(w, at, p, c);
 }
 
@@ -168,7 +161,7 @@ pub fn bound(w: &[u8], at: usize, c: usize, x: i16, y: i16, r: u16) -> Fraction
     requires { ⌜ (c < 80) × (at + 1120 ≤ length (now w)) × (r ≤ 16383) × (radiusAt (now w) at c ≤ 16383) ⌝ }
     ensures { λ f. ⌜ Bound (now (w .entry)) at c x y r f ⌝ }
 {
-    let num = distance(w, at, c, shifted(x), shifted(y));
+    let num = distance(w, at, c, marks::shifted(x), marks::shifted(y));
     let radii = get(w, at, RADII + c) as u32 + r as u32;
     let den = radii * radii;
     Fraction { num: num, den: den }
@@ -189,8 +182,8 @@ pub fn extended(e: Extent, x: i16, y: i16, r: u16) -> Extent
     requires { ⌜ e .radii ≤ 4294967296 ⌝ }
     ensures { λ f. ⌜ f .radii ≡ e .radii + r ⌝ }
 {
-    let u = shifted(x);
-    let v = shifted(y);
+    let u = marks::shifted(x);
+    let v = marks::shifted(y);
     let radii = e.radii + r as u64;
     Extent {
         west: larger(e.west, 65535 - u),
@@ -296,8 +289,8 @@ pub fn cell_of(plan: Plan, x: i16, y: i16, r: u16) -> usize
 {
     let large = plan.large;
     let rows = plan.rows as usize;
-    let column = cells_between(plan.x, shifted(x), plan.width);
-    let row = cells_between(plan.y, shifted(y), plan.height);
+    let column = cells_between(plan.x, marks::shifted(x), plan.width);
+    let row = cells_between(plan.y, marks::shifted(y), plan.height);
     let cell = among_cells(rows * column + row);
     if large < r as u64 {
         return 64 + cell / 4;

@@ -1,12 +1,11 @@
 -- Part 3 of a sheet, the index: the tree that parts 1 and 2 give. `s` is part 1, `p` part 2, `n` the number of marks.
-use Prim.Native.Nat.{ℕ, suc, _+_, _-_, _*_}
+use Prim.Native.Nat.{ℕ, _+_, _*_}
 use mathlib.Core.Bool.{Bool, true, false, cond, _&&_, _||_}
 use mathlib.Core.List.{List, [], _∷_, _++_}
-use lib.IntN.{ℤ, pos, negsuc}
 use lib.Dec.{ltb, eqb}
 use Rattle.numbers.specs.Little.{leBytes}
 use Rattle.fractions.specs.Order.{later, level}
-use Rattle.marks.specs.Marks.{xAt, yAt}
+use Rattle.marks.specs.Marks.{xAt, yAt, shifted}
 use Rattle.elimination.specs.Records.{valueAt}
 use Rattle.index.specs.Tree.{upTo, treeOf}
 
@@ -14,11 +13,7 @@ use Rattle.index.specs.Tree.{upTo, treeOf}
 unfoldable pub beats : List ℕ → ℕ → ℕ → Bool
 beats p a b = later (valueAt p a) (valueAt p b) || (level (valueAt p a) (valueAt p b) && ltb a b)
 
--- a coordinate, shifted to be at least 0
-abbrev pub shifted : ℤ → ℕ
-shifted (pos a) = a + 32768
-shifted (negsuc a) = 32768 - suc a
-
+-- a mark's x or y, shifted to be at least 0
 unfoldable pub coordinate : List ℕ → Bool → ℕ → ℕ
 coordinate s axis m = cond axis (shifted (xAt s m)) (shifted (yAt s m))
 

@@ -15,7 +15,8 @@ use Rattle.fractions.specs.Order.{later}
 use Rattle.elimination.specs.Records.{valueAt}
 use Rattle.index.specs.Count.{count, _≈_, times, non, below}
 use Rattle.index.specs.Tree.{upTo}
-use Rattle.index.specs.Index.{beats, shifted, coordinate, axisKey, indexOf, indexBytes, isIndex}
+use Rattle.marks.specs.Marks.{shifted}
+use Rattle.index.specs.Index.{beats, coordinate, axisKey, indexOf, indexBytes, isIndex}
 use Rattle.index.specs.Valid.{isTree, Split}
 use Rattle.index.specs.Blocks.{entryAt, block, Halves}
 use Rattle.index.specs.Check.{AllBelow}

@@ -4,7 +4,7 @@ ghost use mathlib.Core.Bool.{true};
 ghost use mathlib.Core.Logic.{_↔_};
 ghost use Prim.Native.Nat.{_+_, _*_, _<_, _≤_, min, max};
 ghost use lib.ListN.{length};
-ghost use Rattle.index.specs.Index.{beats, shifted, coordinate, axisKey, isIndex};
+ghost use Rattle.index.specs.Index.{beats, coordinate, axisKey, isIndex};
 ghost use Rattle.index.specs.Valid.{heads};
 ghost use Rattle.index.specs.Blocks.{entryAt, block};
 ghost use Rattle.index.specs.Check.{keyBound, findingOf, joinSpans, side, joinFindings, HeadReady, Ready, Whole, AllBelow};
@@ -29,22 +29,15 @@ pub fn beats(schedule: &[u8], a: usize, b: usize) -> bool
 
 // ---- the keys by x and by y
 
-// A place, shifted to be at least 0.
-fn shifted(x: i16) -> u64
-    ensures { λ r. ⌜ (r ≡ shifted x) × (r < 65536) ⌝ }
-{
-    (x as i32 + 32768) as u64
-}
-
 // A mark's x or y, shifted.
 pub fn coordinate(marks: &[u8], axis: bool, m: usize) -> u64
     requires { ⌜ 11 * m + 11 ≤ length (now marks) ⌝ }
     ensures { λ r. ⌜ (r ≡ coordinate (now (marks .entry)) axis m) × (r < 65536) ⌝ }
 {
     if axis {
-        return shifted(marks::place_x(marks, m));
+        return marks::shifted(marks::place_x(marks, m)) as u64;
     }
-    shifted(marks::place_y(marks, m))
+    marks::shifted(marks::place_y(marks, m)) as u64
 }
 
 // A mark's coordinate and number, as one number: equal coordinates are ordered by number.

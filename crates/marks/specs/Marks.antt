@@ -1,9 +1,9 @@
 -- 01, "A mark" and "Touching, rank, removal" up to the process. `s` is part 1 of a sheet, the marks' bytes, and `m` a mark's number.
-use Prim.Native.Nat.{ℕ, _+_, _-_, _*_}
+use Prim.Native.Nat.{ℕ, suc, _+_, _-_, _*_}
 use mathlib.Core.Bool.{Bool, cond, _&&_, _||_}
 use mathlib.Core.List.{List}
 use lib.Dec.{ltb, leb, eqb}
-use lib.IntN.{ℤ, _-ℤ_, natAbs}
+use lib.IntN.{ℤ, pos, negsuc, _-ℤ_, natAbs}
 use Rattle.numbers.specs.Little.{leAt, signed}
 use Rattle.fractions.specs.declared.Fraction.{Fraction}
 use Rattle.marks.specs.declared.House.{House}
@@ -17,6 +17,11 @@ xAt s m = signed 2 (leAt 2 s (11 * m))
 
 abbrev pub yAt : List ℕ → ℕ → ℤ
 yAt s m = signed 2 (leAt 2 s (11 * m + 2))
+
+-- a coordinate, shifted to be at least 0: the order stays
+abbrev pub shifted : ℤ → ℕ
+shifted (pos a) = a + 32768
+shifted (negsuc a) = 32768 - suc a
 
 abbrev pub radiusAt : List ℕ → ℕ → ℕ
 radiusAt s m = leAt 2 s (11 * m + 4)

@@ -5,7 +5,7 @@ ghost use Prim.Native.Nat.{_+_, _*_, _<_, _≤_};
 ghost use lib.ListN.{length};
 ghost use lib.IntN.{_-ℤ_, natAbs};
 ghost use Rattle.fractions.specs.Order.{Small};
-ghost use Rattle.marks.specs.Marks.{xAt, yAt, radiusAt, priorityAt, kindAt, houseOf, usedRadius, usedAt};
+ghost use Rattle.marks.specs.Marks.{xAt, yAt, shifted, radiusAt, priorityAt, kindAt, houseOf, usedRadius, usedAt};
 ghost use Rattle.marks.specs.Marks.{square, touchingOf, touching, outranks, rankKey};
 
 // ---- the fields
@@ -22,6 +22,13 @@ pub fn place_y(s: &[u8], m: usize) -> i16
     ensures { λ r. ⌜ r ≡ yAt (now (s .entry)) m ⌝ }
 {
     numbers::read_i16(s, 11 * m + 2)
+}
+
+// A coordinate, shifted to be at least 0.
+pub fn shifted(v: i16) -> u16
+    ensures { λ r. ⌜ r ≡ shifted v ⌝ }
+{
+    (v as i32 + 32768) as u16
 }
 
 // The radius as written, which may be 0.

@@ -1,40 +1,34 @@
 -- Bodies as a list: what stands at a place of `split` and of `chain`.
 use Prim.Native.Nat.{ℕ, zero, suc, _+_, _<_, _≤_}
 use mathlib.Core.Path.{_≡_, refl, ap, _∙_}
-use mathlib.Core.List.{List, [], _∷_, _++_, map}
+use mathlib.Core.List.{List, [], _∷_, _++_}
 use native.Mathlib.Decide.{decLt}
 use native.Mathlib.Omega.{arith}
 use lib.ListN.{length, getD, take, drop, length-append, List·getD-append}
 use lib.Seq.{drop-cons, drop-append-add, take-append-seam, getD-at}
-use Rattle.index.specs.Tree.{upTo}
-use Rattle.contents.specs.Contents.{countAt, bodyAt, split, chain, given}
+use Rattle.contents.specs.Contents.{countAt, bodyAt, firstBodies, split, chain, given}
 
 -- ---- `split`
 
-map-append : {A : Type 0} (f : ℕ → A) (l m : List ℕ) → map f (l ++ m) ≡ map f l ++ map f m
-map-append f [] m = refl
-map-append f (x ∷ l) m = ap (λ t. f x ∷ t) (map-append f l m)
+first-length : (s : List ℕ) (k : ℕ) → length (firstBodies s k) ≡ k
+first-length s zero = refl
+first-length s (suc k) = simp length-append (omega (arith, first-length s k))
 
-map-length : {A : Type 0} (f : ℕ → A) (n : ℕ) → length (map f (upTo n)) ≡ n
-map-length f zero = refl
-map-length f (suc n) = simp (map-append, length-append) (omega (arith, map-length f n))
-
-map-at : {A : Type 0} (f : ℕ → A) (n i : ℕ) (d : A) → i < n → getD (map f (upTo n)) i d ≡ f i
-map-at f zero i d l = absurd (omega arith)
-map-at f (suc n) i d l =
-    rw (map-append f (upTo n) (n ∷ []))
-    (elim (decLt i n) [
-      | yes b ↦ List·getD-append (map f (upTo n)) _ d i (rw (map-length f n) b) ∙ map-at f n i d b
-      | no b ↦ (let q : i ≡ n = omega arith in rw q (getD-at (map f (upTo n)) (f n) [] d n (map-length f n)))
-    ])
+first-at : (s : List ℕ) (k i : ℕ) → i < k → getD (firstBodies s k) i [] ≡ bodyAt s i
+first-at s zero i l = absurd (omega arith)
+first-at s (suc k) i l =
+    elim (decLt i k) [
+      | yes b ↦ List·getD-append (firstBodies s k) _ [] i (rw (first-length s k) b) ∙ first-at s k i b
+      | no b ↦ (let q : i ≡ k = omega arith in rw q (getD-at (firstBodies s k) (bodyAt s k) [] [] k (first-length s k)))
+    ]
 
 pub split-length : (s : List ℕ) → length (split s) ≡ countAt s
 unfolding split
-split-length s = map-length (bodyAt s) (countAt s)
+split-length s = first-length s (countAt s)
 
 pub split-at : (s : List ℕ) (i : ℕ) → i < countAt s → getD (split s) i [] ≡ bodyAt s i
 unfolding split
-split-at s i l = map-at (bodyAt s) (countAt s) i [] l
+split-at s i l = first-at s (countAt s) i l
 
 -- the bodies from body i on
 pub split-from : (s : List ℕ) (i : ℕ) → i < countAt s → drop i (split s) ≡ bodyAt s i ∷ drop (suc i) (split s)

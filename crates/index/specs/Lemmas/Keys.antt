@@ -9,7 +9,8 @@ use lib.IntN.{ℤ, pos, negsuc}
 use lib.Signed.{mag, leZ}
 use borrow.Author.Tests.{ltb-true, leb-true, leb-false, le-leb, lt-leb}
 use Rattle.numbers.specs.Little.{leAt, signed}
-use Rattle.index.specs.Index.{shifted, coordinate, axisKey}
+use Rattle.marks.specs.Marks.{shifted}
+use Rattle.index.specs.Index.{coordinate, axisKey}
 use Rattle.index.specs.Check.{keyBound}
 use Rattle.index.specs.Lemmas.Count.{by-cases}
 

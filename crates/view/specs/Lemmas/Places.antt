@@ -9,7 +9,8 @@ use lib.IntN.{ℤ}
 use lib.Signed.{mag, ltZ, leZ, ltZ-yes, leZ-yes, <ℤ-≤ℤ-trans, clashℤ}
 use borrow.Author.Tests.{ltb-true, ltb-false, leb-false}
 use Rattle.numbers.specs.Little.{leAt, signed}
-use Rattle.index.specs.Index.{shifted, coordinate}
+use Rattle.marks.specs.Marks.{shifted}
+use Rattle.index.specs.Index.{coordinate}
 use Rattle.index.specs.Laws.{shifted-order}
 use Rattle.index.specs.Lemmas.Count.{by-cases, and-left, and-right}
 use Rattle.view.specs.Shown.{Rectangle, inside}

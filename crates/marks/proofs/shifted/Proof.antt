@@ -1,4 +1,4 @@
--- `grid::shifted` meets its contract: 32 bits hold the sum, which is not negative. Assumes nothing.
+-- `marks::shifted` meets its contract: 32 bits hold the sum, which is not negative. Assumes nothing.
 use Prim.Native.Nat.{suc, _<_}
 use mathlib.Core.Path.{_≡_, refl, _∙_}
 use native.Mathlib.Omega.{arith}
@@ -7,9 +7,9 @@ use lib.IntN.{ℤ, pos, negsuc, _+ℤ_}
 use mir.Syntax.{w16, w32}
 use mir.Val.{SFits, toZ, ofZ}
 use mir.Facts.{sfits-widen, toZ-ofZ}
-use Rattle.grid.specs.Table.{shifted}
-use Rattle.grid.proofs.shifted.Statement.{statement}
-use Rattle.grid.proofs.shifted.Tie as tie
+use Rattle.marks.specs.Marks.{shifted}
+use Rattle.marks.proofs.shifted.Statement.{statement}
+use Rattle.marks.proofs.shifted.Tie as tie
 
 sum-is : (x : ℤ) → SFits w16 x → x +ℤ pos 32768 ≡ pos (shifted x)
 sum-is (pos a) f = refl
