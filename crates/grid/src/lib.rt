@@ -178,6 +178,7 @@ pub struct Extent {
     pub radii: u64,
 }
 
+// The extent with one place more. Of the sides nothing is said, since nothing but speed rests on them.
 pub fn extended(e: Extent, x: i16, y: i16, r: u16) -> Extent
     requires { ⌜ e .radii ≤ 4294967296 ⌝ }
     ensures { λ f. ⌜ f .radii ≡ e .radii + r ⌝ }
