@@ -36,13 +36,7 @@ const SMALL: [usize; 2] = [16, 64];
 const MOST: usize = 4_096;
 
 /// The rectangle of all places.
-const WHOLE: View = View {
-    x0: i16::MIN,
-    x1: i16::MAX,
-    y0: i16::MIN,
-    y1: i16::MAX,
-    zoom: Zoom::Stop(0),
-};
+const WHOLE: View = View::whole(Zoom::Stop(0));
 
 /// Rounds of scheduling that the least time is taken of.
 const ROUNDS: usize = 15;

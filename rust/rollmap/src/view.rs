@@ -17,6 +17,19 @@ pub struct View {
     pub zoom: Zoom,
 }
 
+impl View {
+    /// The view of all places.
+    pub const fn whole(zoom: Zoom) -> Self {
+        Self {
+            x0: i16::MIN,
+            x1: i16::MAX,
+            y0: i16::MIN,
+            y1: i16::MAX,
+            zoom,
+        }
+    }
+}
+
 /// A zoom as the viewer has it.
 #[derive(Clone, Copy, Debug, PartialEq)]
 pub enum Zoom {

@@ -18,13 +18,7 @@ use oracle::view::{map_bytes, shown, zoom_in_64ths, Edges};
 use rollmap::{View, Zoom};
 
 /// The whole range of places, at stop 0.
-const WHOLE: View = View {
-    x0: i16::MIN,
-    x1: i16::MAX,
-    y0: i16::MIN,
-    y1: i16::MAX,
-    zoom: Zoom::Stop(0),
-};
+const WHOLE: View = View::whole(Zoom::Stop(0));
 
 /// The edges of a view as the oracle has them.
 fn edges(view: View) -> Edges {
