@@ -107,6 +107,11 @@ struct rollmap_answer rollmap_view_wheel(const uint8_t *sheet, size_t sheet_leng
 struct rollmap_answer rollmap_walk(const uint8_t *map, size_t map_length,
                                    uint32_t n, uint32_t start);
 
+/* Whether the map of n marks shows mark m. The value is 1 or 0, and 0 where m is not below
+   n. Asks 13 as the walk does; a refused call has value 0. */
+struct rollmap_answer rollmap_is_shown(const uint8_t *map, size_t map_length,
+                                       uint32_t n, uint32_t m);
+
 /* Where the part of that code (1 the marks, 2 the schedule, 3 the index) stands in an
    accepted sheet. Both numbers are 0 where there is no such part or the sheet is refused;
    a part that is there has an offset above 0, and may be empty. */

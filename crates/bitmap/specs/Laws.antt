@@ -1,12 +1,13 @@
 -- What the other crates cite of maps, the count and the walk. Their proofs are in Lemmas.
-use Prim.Native.Nat.{ℕ, _*_, _/_, _%_, _≤_, _<_}
-use mathlib.Core.Path.{_≡_}
-use mathlib.Core.Bool.{Bool}
+use Prim.Native.Nat.{ℕ, zero, suc, _+_, _-_, _*_, _/_, _%_, _≤_, _<_}
+use mathlib.Core.Path.{_≡_, refl}
+use mathlib.Core.Bool.{Bool, true, false, cond}
 use mathlib.Core.List.{List, _++_}
 use native.Mathlib.Omega.{arith}
+use lib.Dec.{eqb}
 use lib.ListN.{length, getD, drop}
 use Rattle.numbers.specs.Little.{Bytes}
-use Rattle.bitmap.specs.Map.{mapSize, mapBytes, countShown, bitAt, walk}
+use Rattle.bitmap.specs.Map.{mapSize, bit, mapBytes, countShown, shownFrom, bitAt, isSet, nextSet, walk}
 use Rattle.bitmap.specs.Facts.{Shows, Cleared, Walked, countBits}
 use Rattle.bitmap.specs.Lemmas.Bits.{bit-zero}
 use Rattle.bitmap.specs.Lemmas.Counts as Counts
@@ -47,6 +48,35 @@ count-shown {shown} {n} {map} s = Counts.count-shown shown n map s
 -- The walk keeps its rule, wherever it starts: from 0 on it hands out exactly the numbers below n with a set bit, rising.
 pub walked : (map : List ℕ) (n start : ℕ) → n ≤ 4096 → Walked map n start (walk map n start)
 walked map n start few = Walks.walked map n few start
+
+-- A walk by its first number: none is left, or its bit is set, or the walk is that from the next number.
+pub walk-end : (map : List ℕ) (n start : ℕ) → n ≤ start → walk map n start ≡ 65535
+unfolding walk nextSet
+walk-end map n start h = let z : n - start ≡ 0 = omega arith in rw z
+
+module _ (map : List ℕ) (n start : ℕ) (inside : start < n) where
+  pub walk-here : isSet map start ≡ true → walk map n start ≡ start
+  unfolding walk nextSet
+  walk-here e = let l : n - start ≡ suc (n - suc start) = omega arith in rw (l, e)
+
+  pub walk-past : isSet map start ≡ false → walk map n start ≡ walk map n (suc start)
+  unfolding walk nextSet
+  walk-past e = let l : n - start ≡ suc (n - suc start) = omega arith in rw (l, e)
+
+-- A map that shows the marks has set exactly the bits of those shown.
+pub shown-set : {shown : ℕ → Bool} {n : ℕ} {map : List ℕ} → Shows shown n map → (m : ℕ) → m < n → isSet map m ≡ shown m
+shown-set {shown} s m h = rw (s .bits m h) (go (shown m))
+  where
+    go : (b : Bool) → eqb (bit b) 1 ≡ b
+    go true = refl
+    go false = refl
+
+-- Two tests that agree on the numbers have the same list.
+pub shown-same : (p q : ℕ → Bool) (left m : ℕ) → ((k : ℕ) → m ≤ k → k < m + left → p k ≡ q k) → shownFrom p left m ≡ shownFrom q left m
+unfolding shownFrom
+shown-same p q zero m h = refl
+shown-same p q (suc left) m h =
+    rw (h m (omega arith) (omega arith), shown-same p q left (suc m) (λ k l u. h k (omega arith) (omega arith)))
 
 -- The rule leaves one answer: what keeps it is the walk's.
 pub walked-is : {map : List ℕ} {n start r : ℕ} → n ≤ 4096 → Walked map n start r → r ≡ walk map n start

@@ -34,16 +34,25 @@ unfoldable pub countShown : (ℕ → Bool) → ℕ → ℕ
 countShown shown zero = 0
 countShown shown (suc n) = countShown shown n + bit (shown n)
 
+-- the shown ones of the `left` numbers from m on, rising
+unfoldable pub shownFrom : (ℕ → Bool) → ℕ → ℕ → List ℕ
+shownFrom shown zero m = []
+shownFrom shown (suc left) m = cond (shown m) (m ∷ shownFrom shown left (suc m)) (shownFrom shown left (suc m))
+
 -- ---- reading a map
 
 -- mark m's bit
 abbrev pub bitAt : List ℕ → ℕ → ℕ
 bitAt bytes m = getD bytes (m / 8) 0 / 2 ^ (m % 8) % 2
 
+-- Is mark m's bit set?
+abbrev pub isSet : List ℕ → ℕ → Bool
+isSet bytes m = eqb (bitAt bytes m) 1
+
 -- the least number with a set bit of the `left` numbers from m on, else 65,535
 unfoldable pub nextSet : List ℕ → ℕ → ℕ → ℕ
 nextSet bytes zero m = 65535
-nextSet bytes (suc left) m = cond (eqb (bitAt bytes m) 1) m (nextSet bytes left (suc m))
+nextSet bytes (suc left) m = cond (isSet bytes m) m (nextSet bytes left (suc m))
 
 -- "given a map, n and a start, the least shown number at or after the start and below n, else 65,535"
 unfoldable pub walk : List ℕ → ℕ → ℕ → ℕ

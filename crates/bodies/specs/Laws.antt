@@ -1,13 +1,17 @@
 -- What the project cites of bodies that fit one another. The proofs are in Lemmas. Assumes nothing.
 use Prim.Native.Nat.{ℕ, _<_}
-use mathlib.Core.Path.{_≡_}
+use mathlib.Core.Path.{_≡_, refl}
+use lib.Dec.{eqb}
 use mathlib.Core.Bool.{true}
-use mathlib.Core.List.{List}
+use mathlib.Core.List.{List, [], _∷_}
 use mathlib.Core.Logic.{_↔_}
 use Rattle.numbers.specs.Little.{Bytes}
 use Rattle.fractions.specs.Order.{Small}
 use Rattle.elimination.specs.Records.{fractionAt}
-use Rattle.contents.specs.Asking.{answer}
+use Rattle.marks.specs.Marks.{houseOf, houseNumber, isKind}
+use Rattle.marks.specs.declared.House.{House}
+use Rattle.marks.specs.declared.House.the-variants.{Radius, Refused}
+use Rattle.contents.specs.Asking.{_asks_, answer}
 use Rattle.contents.specs.Lemmas.Asked.{Numbered}
 use Rattle.bodies.specs.Questions.{question8, bodyQuestions}
 use Rattle.bodies.specs.Fitting.{MarksRight, Fitting}
@@ -18,6 +22,15 @@ use Rattle.bodies.specs.Lemmas.Records as Records
 -- No question of the bodies bears the number 0.
 pub bodies-numbered : (bodies : List (List ℕ)) → Numbered (bodyQuestions bodies)
 bodies-numbered = Numbering.bodies-numbered
+
+-- Asking question 5 of a kind answers the number of its house radius.
+pub kind-answer : (kind : ℕ) → answer ((5 asks isKind kind) ∷ []) ≡ houseNumber (houseOf kind)
+unfolding answer isKind
+kind-answer kind = go (houseOf kind)
+  where
+    go : (r : House) → answer ((5 asks eqb (houseNumber r) 0) ∷ []) ≡ houseNumber r
+    go (Radius radius) = refl
+    go Refused = refl
 
 -- what the answer 0 to questions 4 to 9 says
 pub fitting-iff : (bodies : List (List ℕ)) → (answer (bodyQuestions bodies) ≡ 0) ↔ Fitting bodies

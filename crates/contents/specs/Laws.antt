@@ -8,7 +8,7 @@ use lib.Dec.{eqb}
 use lib.ListN.{length}
 use lib.Seq.{sets}
 use Rattle.numbers.specs.Little.{Bytes}
-use Rattle.contents.specs.Contents.{countAt, contentsSize, split, chain, join, Writable}
+use Rattle.contents.specs.Contents.{countAt, contentsSize, split, chain, join, Writable, given}
 use Rattle.contents.specs.Asking.{Question, answer}
 use Rattle.contents.specs.Questions.{contentsQuestions}
 use Rattle.contents.specs.Laid.{Laid}
@@ -45,6 +45,9 @@ laid-iff s = ((λ e. Laying.laid-iff s [] .0 e .0), (λ l. Laying.laid-iff s [] 
 
 pub split-length : (s : List ℕ) → length (split s) ≡ countAt s
 split-length = Parts.split-length
+
+pub given-length : (k : ℕ) (body1 body2 body3 : List ℕ) → k ≤ 3 → length (given k body1 body2 body3) ≡ k
+given-length = Parts.given-length
 
 -- ---- joining and splitting
 

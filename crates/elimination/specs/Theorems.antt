@@ -1,6 +1,7 @@
 -- What the project cites of the process, for any rank and any symmetric pair value. Their proofs are in Lemmas.
 use Prim.Native.Nat.{ℕ, _<_, _≤_}
 use mathlib.Core.Path.{_≡_}
+use mathlib.Core.Option.{none}
 use mathlib.Core.Logic.{_↔_}
 use Rattle.fractions.specs.declared.Fraction.{Fraction}
 use Rattle.fractions.specs.declared.Value.{Value}
@@ -8,11 +9,11 @@ use Rattle.fractions.specs.Order.{Same, Later, Equal}
 use Rattle.fractions.specs.Laws.{later-equal, equal-sym}
 use Rattle.elimination.specs.Marks.{Marks, Proper}
 use Rattle.elimination.specs.Rules.{FirstRule, SecondRule, AllSound, Keeps}
-use Rattle.elimination.specs.Process.{Removal, gone, when, process}
+use Rattle.elimination.specs.Process.{Removal, gone, when, next, process}
 use Rattle.elimination.specs.Settled.{Settled}
 use Rattle.elimination.specs.Lemmas.Unique as Unique
 use Rattle.elimination.specs.Lemmas.Settled.{settled-unique, settled-keeps}
-use Rattle.elimination.specs.Lemmas.Runs.{process-settled}
+use Rattle.elimination.specs.Lemmas.Runs.{ended, process-settled}
 
 module _ (M : Marks) where
   open Marks M using (count as n, key, value)
@@ -27,6 +28,11 @@ module _ (M : Marks) where
     pub highest : (g : ℕ) → g < n → key g < key m → Same f (value g m) → Later (when (s g)) (value g m) → key h ≤ key g
 
   module _ (ok : Proper M) where
+    -- "It goes on until no pair lives": after the process there is none to take.
+    pub process-ends : next M (process M) ≡ none
+    unfolding process
+    process-ends = ended M ok
+
     -- The process keeps both rules.
     pub process-keeps : Keeps M (λ i. when (process M i))
     process-keeps = settled-keeps M ok (process M) (process-settled M ok)

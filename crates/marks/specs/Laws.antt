@@ -16,8 +16,31 @@ use mir.Val.{SFits}
 use Rattle.numbers.specs.Little.{leAt, signed, Bytes}
 use Rattle.numbers.specs.Laws.{le-bound, signed-fits}
 use Rattle.fractions.specs.Order.{Small}
-use Rattle.marks.specs.Marks.{xAt, yAt, radiusAt, kindAt, priorityAt, usedAt, houseRadius, isRadius, usedRadius}
+use Rattle.marks.specs.Marks.{xAt, yAt, radiusAt, kindAt, priorityAt, usedAt, houseRadius, houseOf, houseNumber, houseValue, isKind, isRadius, usedRadius}
+use Rattle.marks.specs.declared.House.the-variants.{Radius, Refused}
 use Rattle.marks.specs.Marks.{square, touchingOf, touching, outranks, rankKey}
+
+-- ---- kinds
+
+-- the kinds that have a house radius are those below 200, and that is theirs
+pub house-there : (kind : ℕ) → kind < 200 → houseOf kind ≡ Radius (houseRadius kind)
+unfolding houseOf
+house-there kind h = rw (lt-ltb kind 200 h)
+
+pub house-none : (kind : ℕ) → 200 ≤ kind → houseOf kind ≡ Refused
+unfolding houseOf
+house-none kind h = rw (le-ltb kind 200 h)
+
+-- "is the kind below 200?"
+pub kind-iff : (kind : ℕ) → (isKind kind ≡ true) ↔ (kind < 200)
+unfolding isKind
+kind-iff kind = (
+  (λ e. elim (decLt kind 200) [ yes l ↦ l | no l ↦ absurd (false≢true (rw (house-none kind (omega arith)) at e)) ]),
+  (λ l. rw (house-there kind l)),
+)
+
+pub house-value : (kind : ℕ) → isKind kind ≡ true → houseValue (houseOf kind) ≡ houseRadius kind
+house-value kind e = ap houseValue (house-there kind (kind-iff kind .0 e))
 
 -- ---- radii
 

@@ -39,13 +39,23 @@ unfoldable pub houseRadius : ℕ → ℕ
 houseRadius kind =
     cond (ltb kind 10) 40 (cond (ltb kind 50) 60 (cond (ltb kind 100) 90 (cond (ltb kind 150) 120 200)))
 
--- "Kinds 200 to 255 don't exist."
-unfoldable pub isKind : ℕ → Bool
-isKind kind = ltb kind 200
-
--- The house radius of a kind, or refusal 5.
+-- "Kinds 200 to 255 don't exist." The house radius of a kind, or refusal 5.
 unfoldable pub houseOf : ℕ → House
-houseOf kind = cond (isKind kind) (Radius (houseRadius kind)) Refused
+houseOf kind = cond (ltb kind 200) (Radius (houseRadius kind)) Refused
+
+-- what each answer stands for: its number, "5. .. is the kind below 200?"
+abbrev pub houseNumber : House → ℕ
+houseNumber (Radius radius) = 0
+houseNumber Refused = 5
+
+-- and its radius, with 0 where it is refused
+abbrev pub houseValue : House → ℕ
+houseValue (Radius radius) = radius
+houseValue Refused = 0
+
+-- 5. "is the kind below 200?": `kind-iff` of Laws
+unfoldable pub isKind : ℕ → Bool
+isKind kind = eqb (houseNumber (houseOf kind)) 0
 
 -- "Radius is 1 to 16,383. Radius 0 means the house radius of the kind."
 unfoldable pub isRadius : ℕ → Bool

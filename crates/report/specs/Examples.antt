@@ -1,12 +1,13 @@
--- 01, "Proved examples": P1 to P12, one table of inputs and answers, shown by one computation.
+-- 01, "Proved examples": P1 to P12, and what 01 computes in its text: one table of inputs and answers, shown by one computation.
 use Prim.Native.Nat.{ℕ, zero, suc, _+_, _-_, _*_}
 use mathlib.Core.Path.{_≡_, refl}
 use mathlib.Core.List.{List, [], _∷_, _++_, map}
+use lib.ListN.{length}
 use lib.IntN.{ℤ, pos, negsuc}
 use lib.Ieee.{binary32, ofBits}
 use Rattle.numbers.specs.Little.{leAt, leBytes}
 use Rattle.fractions.specs.Order.{less, same, later, level}
-use Rattle.marks.specs.Marks.{houseRadius, isKind, isRadius, usedRadius, square, touchingOf, touching, outranks, rankKey}
+use Rattle.marks.specs.Marks.{houseRadius, houseOf, isKind, isRadius, usedRadius, square, touchingOf, touching, outranks, rankKey}
 use Rattle.elimination.specs.Process.{least, put, before, pair, next, run, process}
 use Rattle.elimination.specs.Records.{eliminatorAt, numAt, denAt, isNever, valueAt, records, scheduleOf}
 use Rattle.index.specs.Tree.{treeOf}
@@ -20,7 +21,7 @@ use Rattle.view.specs.declared.Zoom.{Zoom}
 use Rattle.view.specs.declared.Zoom.the-variants.{Stop, Wheel}
 use Rattle.view.specs.Zoom.{stopScale, wheelScale, scaleOf}
 use Rattle.view.specs.Shown.{Rectangle, livesAt, inside, shown}
-use Rattle.bitmap.specs.Map.{mapByte, mapPart, mapBytes, countShown, nextSet, walk}
+use Rattle.bitmap.specs.Map.{bit, mapByte, mapPart, mapBytes, countShown, nextSet, walk}
 use Rattle.view.specs.Questions as Viewing
 use Rattle.rollmap.specs.Jobs.{Outcome, outcome, checkJob, scheduled, scheduleQuestions, scheduleJob, shownIn, viewJob}
 use Rattle.text.specs.Text.{digits, rootStep, root, zoomDown}
@@ -67,6 +68,8 @@ pub data Asked : Type 0 where
   checks : List ℕ → Asked
   -- the used radius of a written radius and a kind
   uses : ℕ → ℕ → Asked
+  -- two fractions, by numerator and denominator: 1 where they are equal, else 0
+  equals : ℕ → ℕ → ℕ → ℕ → Asked
 
 -- the numbers of two bytes each
 pairs : List ℕ → List ℕ
@@ -83,6 +86,7 @@ answers (removes l m) =
 answers (views l e zoom) = let o = viewJob (scheduled (sheet l)) e zoom 1 in o .number ∷ o .value ∷ o .written
 answers (checks s) = (checkJob s) .number ∷ []
 answers (uses radius kind) = usedRadius radius kind ∷ []
+answers (equals a b c d) = bit (same (record { num = a; den = b }) (record { num = c; den = d })) ∷ []
 
 -- ---- the table
 
@@ -103,6 +107,10 @@ p5 = mark (pos 7) (pos 7) 1 0 ∷ mark (pos 7) (pos 7) 1 0 ∷ []
 
 abbrev p6 : List Mark
 p6 = mark (negsuc 32767) (negsuc 32767) 1 0 ∷ mark (pos 32767) (pos 32767) 1 0 ∷ []
+
+-- as far apart and as large as marks can be
+abbrev largest : List Mark
+largest = mark (negsuc 32767) (negsuc 32767) 16383 0 ∷ mark (pos 32767) (pos 32767) 16383 0 ∷ []
 
 abbrev p11 : List Mark
 p11 = mark (pos 60) (pos 0) 2 5 ∷ mark (negsuc 99) (pos 0) 10 9 ∷ mark (pos 0) (pos 0) 10 1 ∷ []
@@ -151,12 +159,21 @@ table =
     -- P12
     ∷ (views p1 p3 (Stop 16) gives (0 ∷ 0 ∷ 0 ∷ []))
     ∷ (views p1 p3 (Stop 17) gives (12 ∷ 0 ∷ []))
+    -- "The largest numerator is 8,589,672,450; the largest denominator 1,073,610,756."
+    ∷ (removes largest 1 gives (0 ∷ 8589672450 ∷ 1073610756 ∷ []))
+    -- "25/1 and 100/4 are equal"
+    ∷ (equals 25 1 100 4 gives (1 ∷ []))
     ∷ []
+
+-- No row is lost.
+pub rows : length table ≡ 21
+unfolding table
+rows = refl
 
 -- Every answer is the expected one.
 pub examples : map (λ (r : Row). answers (r .asked)) table ≡ map (λ (r : Row). r .expected) table
 unfolding table answers pairs sheet marks ofBits
-    leAt leBytes less same later level houseRadius isKind isRadius usedRadius square touchingOf touching outranks rankKey
+    leAt leBytes less same later level houseRadius houseOf isKind isRadius usedRadius square touchingOf touching outranks rankKey
     least put before pair next run process isNever valueAt records scheduleOf treeOf beats coordinate axisKey indexOf indexBytes sameBytes isIndex
     startAt split entries chain join answer every question1 question2 question3 question4
     markQuestions question7 namesRight recordRight question8

@@ -52,10 +52,12 @@ pub record Room (work schedule out : List ℕ) : Type 0 where
 unfoldable pub workedOut : List ℕ → List ℕ
 workedOut s = cond (eqb (answer (printQuestions s)) 0) (scheduleOf (marksPart (split s)) (sheetCount s)) []
 
--- What printing the sheet `s` answers, `r`, and what it leaves in `out` and `schedule`; of `work`, that a refusal leaves it alone.
+-- What printing the sheet `s` answers, `r`, and what it leaves in `out` and `schedule`; of `work`, its length, and that a refusal leaves it
+-- alone.
 pub record Prints (s work schedule out : List ℕ) (r : ℕ) (work-after schedule-after out-after : List ℕ) : Type 0 where
   pub size : r ≡ length (printed s)
   pub inside : r ≤ length out-after
   pub text : out-after ≡ over (printed s) out
   pub records : schedule-after ≡ over (workedOut s) schedule
+  pub long : length work-after ≡ length work
   pub refused : 0 < answer (printQuestions s) → work-after ≡ work

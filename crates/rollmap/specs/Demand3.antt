@@ -13,15 +13,15 @@ use Rattle.elimination.specs.Records.{marksOf, valueAt}
 use Rattle.elimination.specs.Rules.{FirstRule, SecondRule, AllSound}
 use Rattle.contents.specs.Contents.{split, marksPart, schedulePart}
 use Rattle.contents.specs.Asking.{answer}
-use Rattle.sheet.specs.Questions.{sheetCount}
+use Rattle.sheet.specs.Questions.{sheetCount, check}
 use Rattle.bitmap.specs.Map.{countShown}
 use Rattle.bitmap.specs.Facts.{Shows}
 use Rattle.view.specs.declared.Zoom.{Zoom}
-use Rattle.view.specs.Zoom.{scaleOf}
+use Rattle.view.specs.Zoom.{scaleOf, scale}
 use Rattle.view.specs.Shown.{Rectangle, livesAt, inside}
 use Rattle.view.specs.Questions.{viewQuestions}
 use Rattle.rollmap.specs.declared.Answer.{Answer}
-use Rattle.rollmap.specs.Jobs.{after, ScheduledHere, scale, viewJob}
+use Rattle.rollmap.specs.Jobs.{after, ScheduledHere, viewJob}
 
 -- ---- a list against a sheet, `s`
 
@@ -62,9 +62,11 @@ pub record Demand3 (s : List ℕ) : Type 0 where
 
 -- ---- what the contracts cite
 
--- Of scheduling the sheet `given`, which answered r and left `out`: a success has written a sheet with the given part 1, "so no mark
--- handed in is missing", of which the demand holds.
+-- Of scheduling the sheet `given`, which answered r and left `out`: a success has written a sheet that is accepted and scheduled here,
+-- with the given part 1, "so no mark handed in is missing", of which the demand holds. Viewing asks for no more: see `MeetsView`.
 pub record Meets (given : List ℕ) (r : Answer) (out : List ℕ) : Type 0 where
+  pub accepted : r .number ≡ 0 → check (take (r .value) out) ≡ 0
+  pub here : r .number ≡ 0 → ScheduledHere (take (r .value) out)
   pub part1 : r .number ≡ 0 → marksPart (split (take (r .value) out)) ≡ marksPart (split given)
   pub demand3 : r .number ≡ 0 → Demand3 (take (r .value) out)
 

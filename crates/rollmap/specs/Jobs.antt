@@ -1,11 +1,10 @@
 -- What each of the library's jobs gives, for all inputs.
-use Prim.Native.Nat.{ℕ, _+_, _*_}
+use Prim.Native.Nat.{ℕ, zero, suc, _+_, _*_}
 use mathlib.Core.Path.{_≡_}
 use mathlib.Core.Bool.{Bool, cond, _&&_}
 use mathlib.Core.List.{List, [], _∷_, _++_}
-use mathlib.Core.Option.{Option, none, some}
-use lib.ListN.{length, drop}
-use lib.Dec.{leb, eqb}
+use lib.ListN.{length, take, drop}
+use lib.Dec.{ltb, leb, eqb}
 use Rattle.numbers.specs.Little.{Bytes}
 use Rattle.elimination.specs.Records.{scheduleOf}
 use Rattle.index.specs.Index.{indexOf, indexBytes}
@@ -14,9 +13,9 @@ use Rattle.contents.specs.Asking.{Question, _asks_, answer}
 use Rattle.bodies.specs.Questions.{markCount}
 use Rattle.sheet.specs.Questions.{sheetCount, checkQuestions, check, assembleQuestions}
 use Rattle.view.specs.declared.Zoom.{Zoom}
-use Rattle.view.specs.Zoom.{scaleOf}
+use Rattle.view.specs.Zoom.{scaleOf, scale}
 use Rattle.view.specs.Shown.{Rectangle, shown}
-use Rattle.bitmap.specs.Map.{mapBytes, countShown, walk}
+use Rattle.bitmap.specs.Map.{mapBytes, countShown, bitAt, walk}
 use Rattle.view.specs.Questions.{viewQuestions, walkQuestions}
 
 -- ---- outcomes
@@ -76,6 +75,16 @@ pub record ScheduledHere (s : List ℕ) : Type 0 where
   pub accepted : check given-sheet ≡ 0
   pub written : s ≡ scheduled given-sheet
 
+-- The same over the job: some sheet and buffers for which scheduling answers 0 and leaves these bytes. `work` is the length of the work
+-- buffer, and `held` what the written one held. `here-iff` of Theorems.
+pub record LeftByScheduling (s : List ℕ) : Type 0 where
+  pub given-sheet : List ℕ
+  pub bytes : Bytes given-sheet
+  pub work : ℕ
+  pub held : List ℕ
+  pub answered : (scheduleJob given-sheet work (length held)) .number ≡ 0
+  pub left : s ≡ take ((scheduleJob given-sheet work (length held)) .value) (after (scheduleJob given-sheet work (length held)) held)
+
 -- ---- putting together
 
 unfoldable pub assembleJob : ℕ → List ℕ → List ℕ → List ℕ → ℕ → Outcome
@@ -84,11 +93,6 @@ assembleJob k body1 body2 body3 room =
     outcome (assembleQuestions k bodies room) (length (join bodies)) (join bodies)
 
 -- ---- viewing
-
--- k of a zoom that is taken
-abbrev pub scale : Option ℕ → ℕ
-scale none = 0
-scale (some k) = k
 
 -- the marks that a view of an accepted sheet shows
 unfoldable pub shownIn : List ℕ → Rectangle → Zoom → ℕ → Bool
@@ -99,10 +103,21 @@ viewJob s e zoom room =
     let show = shownIn s e zoom in
     outcome (viewQuestions s e zoom room) (countShown show (sheetCount s)) (mapBytes show (sheetCount s))
 
--- ---- walking
+-- ---- reading a map
 
 -- "(65,535 from the walk)"
 unfoldable pub walkJob : List ℕ → ℕ → ℕ → Outcome
 walkJob bytes n start =
     let number = answer (walkQuestions bytes n) in
     record { number = number; value = cond (eqb number 0) (walk bytes n start) 65535; written = [] }
+
+-- Walking on from `start`, each next from one past the last, until 65,535: what the walks answer, `turns` of them at most.
+unfoldable pub walksFrom : List ℕ → ℕ → ℕ → ℕ → List ℕ
+walksFrom bytes n zero start = []
+walksFrom bytes n (suc turns) start =
+    let r = (walkJob bytes n start) .value in
+    r ∷ cond (eqb r 65535) [] (walksFrom bytes n turns (suc r))
+
+-- "mark m is bit m mod 8 of byte m / 8": 1 where the map shows mark m, else 0, and 0 where m is not below n.
+unfoldable pub isShownJob : List ℕ → ℕ → ℕ → Outcome
+isShownJob bytes n m = outcome (walkQuestions bytes n) (cond (ltb m n) (bitAt bytes m) 0) []

@@ -1,7 +1,8 @@
--- Jobs is what each call gives, Demand3 what is claimed of scheduled sheets and their views, and Theorems its proof, with demand 2.
+-- Jobs is what each call gives, Parts and Demand3 what is claimed of sheets and views by demands 2 and 3, and Theorems their proofs.
 -- Steps is what the code's own steps give.
 pub mod Jobs
 pub mod Answers
+pub mod Parts
 pub mod Demand3
 pub mod Theorems
 pub mod Steps

@@ -1,32 +1,42 @@
 -- Demands 2 and 3 over the bytes of sheets. Assumes nothing.
-use Prim.Native.Nat.{ℕ, _<_}
+use Prim.Native.Nat.{ℕ, suc, _+_, _*_, _<_, _≤_}
 use mathlib.Core.Path.{_≡_, refl, sym, ap, _∙_, subst}
-use mathlib.Core.List.{List}
+use mathlib.Core.Bool.{true}
+use mathlib.Core.List.{List, [], _∷_, _++_}
 use mathlib.Core.Logic.{_↔_}
 use native.Mathlib.Omega.{arith}
-use lib.ListN.{length, take, drop}
+use borrow.Author.Tests.{le-leb, lt-ltb}
+use lib.Dec.{leb}
+use lib.ListN.{length, take, drop, length-append}
 use lib.Seq.{take-append-seam}
 use Rattle.numbers.specs.Little.{Bytes}
 use Rattle.fractions.specs.declared.Value.{Value}
 use Rattle.fractions.specs.Order.{Equal}
 use Rattle.elimination.specs.Records.{scheduleOf}
 use Rattle.elimination.specs.Schedule.{AllowedMarks, schedule-iff, schedule-later}
-use Rattle.contents.specs.Contents.{split, join, marksPart, schedulePart}
+use Rattle.contents.specs.Contents.{countAt, split, join, marksPart, schedulePart, given}
 use Rattle.contents.specs.Asking.{Question, answer}
-use Rattle.contents.specs.Laws.{append-iff, split-join}
-use Rattle.sheet.specs.Questions.{sheetCount, checkQuestions, check}
-use Rattle.sheet.specs.Laws.{check-numbered, fitting-writable, join-accepted}
-use Rattle.bitmap.specs.Map.{bit, mapBytes, countShown}
-use Rattle.bitmap.specs.Laws.{map-shows}
+use Rattle.contents.specs.Written.{over}
+use Rattle.contents.specs.Laws.{append-iff, split-join, given-length}
+use Rattle.contents.specs.Lemmas.Tests.{both-iff}
+use Rattle.sheet.specs.Questions.{sheetCount, checkQuestions, check, assembleQuestions}
+use Rattle.sheet.specs.Laws.{check-numbered, accepted-iff, assemble-iff, fitting-writable, join-accepted, join-split, assemble-again}
+use Rattle.bitmap.specs.Map.{mapSize, bit, mapBytes, countShown, shownFrom, isSet}
+use Rattle.bitmap.specs.Facts.{Shows}
+use Rattle.bitmap.specs.Laws.{map-shows, map-length, shown-set, shown-same}
 use Rattle.view.specs.declared.Zoom.{Zoom}
-use Rattle.view.specs.Zoom.{scaleOf}
+use Rattle.view.specs.Zoom.{scaleOf, scale}
 use Rattle.view.specs.Shown.{Rectangle, zoomSquared, livesAt, shown}
-use Rattle.view.specs.Questions.{viewQuestions}
+use Rattle.view.specs.Questions.{viewQuestions, isMap, walkQuestions}
 use Rattle.rollmap.specs.declared.Answer.{Answer}
-use Rattle.rollmap.specs.Jobs.{Outcome, outcome, after, newBodies, scheduled, ScheduledHere, scheduleQuestions, scheduleJob, scale, shownIn, viewJob}
-use Rattle.rollmap.specs.Answers.{Gives}
+use Rattle.rollmap.specs.Jobs.{Outcome, outcome, after, newBodies, scheduled, hasRoom, scheduleQuestions, scheduleJob, ScheduledHere, LeftByScheduling}
+use Rattle.rollmap.specs.Jobs.{assembleJob, shownIn, viewJob, walksFrom, isShownJob}
+use Rattle.rollmap.specs.Answers.{answerOf, Gives}
+use Rattle.rollmap.specs.Parts.{Joins}
 use Rattle.rollmap.specs.Demand3.{sheetValue, IsList, KeepsRules, shownBy, ShowsLiving, Demand3, Meets, MeetsView}
-use Rattle.rollmap.specs.Lemmas.Outcomes.{all-yes, value-is, bytes-are}
+use Rattle.rollmap.specs.Lemmas.Outcomes.{outcome-yes, outcome-number, all-yes, kept}
+use Rattle.rollmap.specs.Lemmas.Walking.{map-iff, map-asked, map-taken, walks-all}
+use Rattle.rollmap.specs.Lemmas.Scheduling.{sheet-long, room-asked}
 use Rattle.rollmap.specs.Lemmas.Scheduled.{later-same, count-same, allowed, new-fitting, right, marks-bytes}
 
 -- ---- demand 2: what scheduling writes, for an accepted sheet g
@@ -44,12 +54,125 @@ module _ (g : List ℕ) (bytes : Bytes g) (ok : check g ≡ 0) where
       split-join (newBodies (marksPart (split g)))
       (fitting-writable (newBodies (marksPart (split g))) (omega arith) (omega arith) (new-fitting (marksPart (split g)) (right g bytes ok) (marks-bytes g bytes ok)))
 
+  -- "32 + 27n bytes for n marks"
+  pub scheduled-length : length (scheduled g) ≡ 32 + 27 * sheetCount g
+  unfolding scheduled
+  scheduled-length =
+      let marks = right g bytes ok in
+      omega (arith, sheet-long (marksPart (split g)) (sheetCount g) (marks .few) (marks .long))
+
   -- Scheduling it again gives the same bytes.
   pub scheduled-again : scheduled (scheduled g) ≡ scheduled g
   unfolding scheduled
   scheduled-again =
       let parts : split (join (newBodies (marksPart (split g)))) ≡ newBodies (marksPart (split g)) = scheduled-parts in
       rw parts
+
+-- ---- 'scheduled here' over the job
+
+-- what scheduling leaves where it answers 0
+module _ (g : List ℕ) (work : ℕ) (held : List ℕ) (answered : (scheduleJob g work (length held)) .number ≡ 0) where
+  abbrev questions : List Question
+  questions = scheduleQuestions g work (length held)
+
+  yes-to-all : answer questions ≡ 0
+  unfolding scheduleJob
+  yes-to-all = sym (outcome-number questions (length (scheduled g)) (scheduled g)) ∙ answered
+
+  pub schedule-accepts : check g ≡ 0
+  unfolding scheduleQuestions check
+  schedule-accepts = append-iff (checkQuestions g) _ (check-numbered g) .0 yes-to-all .0
+
+  pub schedule-leaves : take ((scheduleJob g work (length held)) .value) (after (scheduleJob g work (length held)) held) ≡ scheduled g
+  unfolding scheduleJob after
+  schedule-leaves =
+      rw (outcome-yes questions (length (scheduled g)) (scheduled g) yes-to-all) (take-append-seam (scheduled g) (drop (length (scheduled g)) held))
+
+-- Buffers of the right size are enough: the work buffer, and one of the sheet's own length.
+module _ (g : List ℕ) (bytes : Bytes g) (ok : check g ≡ 0) where
+  pub schedule-answers : (scheduleJob g (32 * sheetCount g + 1024) (length (scheduled g))) .number ≡ 0
+  unfolding scheduleJob
+  schedule-answers =
+      let long = scheduled-length g bytes ok in
+      let room : hasRoom (sheetCount g) (32 * sheetCount g + 1024) (length (scheduled g)) ≡ true =
+      both-iff (leb (32 * sheetCount g + 1024) _) _ .1 (le-leb (32 * sheetCount g + 1024) _ (omega arith), le-leb (27 * sheetCount g + 32) (length (scheduled g)) (omega (arith, long))) in
+      outcome-number (scheduleQuestions g (32 * sheetCount g + 1024) (length (scheduled g))) (length (scheduled g)) (scheduled g)
+      ∙ (room-asked g (32 * sheetCount g + 1024) (scheduled g) ok ∙ rw room)
+
+-- 01's words: "scheduled here if its bytes are those that scheduling, answering 0, writes for some sheet".
+pub here-iff : (s : List ℕ) → ScheduledHere s ↔ LeftByScheduling s
+here-iff s = (
+  (λ h.
+      let g = h .given-sheet in
+      let n = sheetCount g in
+      let yes = schedule-answers g (h .bytes) (h .accepted) in
+      record {
+        given-sheet = g;
+        bytes = h .bytes;
+        work = 32 * n + 1024;
+        held = scheduled g;
+        answered = yes;
+        left = h .written ∙ sym (schedule-leaves g (32 * n + 1024) (scheduled g) yes);
+      }),
+  (λ l.
+      record {
+        given-sheet = l .given-sheet;
+        bytes = l .bytes;
+        accepted = schedule-accepts (l .given-sheet) (l .work) (l .held) (l .answered);
+        written = l .left ∙ schedule-leaves (l .given-sheet) (l .work) (l .held) (l .answered);
+      }),
+)
+
+-- ---- putting together, over the job
+
+module _ (k : ℕ) (body1 body2 body3 : List ℕ) (room : ℕ) where
+  abbrev bodies : List (List ℕ)
+  bodies = given k body1 body2 body3
+
+  -- Number 0: what was written is accepted, and splits into what was given.
+  pub assembled-reads : (assembleJob k body1 body2 body3 room) .number ≡ 0
+      → (check ((assembleJob k body1 body2 body3 room) .written) ≡ 0) × (split ((assembleJob k body1 body2 body3 room) .written) ≡ bodies)
+  unfolding assembleJob
+  assembled-reads zero =
+      let yes : answer (assembleQuestions k bodies room) ≡ 0 = sym (outcome-number (assembleQuestions k bodies room) (length (join bodies)) (join bodies)) ∙ zero in
+      let a = assemble-iff k bodies room .0 yes in
+      let some : 1 ≤ length bodies = rw (given-length k body1 body2 body3 (a .0 .1)) (a .0 .0) in
+      let few : length bodies ≤ 3 = rw (given-length k body1 body2 body3 (a .0 .1)) (a .0 .1) in
+      rw (outcome-yes (assembleQuestions k bodies room) (length (join bodies)) (join bodies) yes)
+      (join-accepted bodies some few (a .1), split-join bodies (fitting-writable bodies some few (a .1)))
+
+  -- An accepted sheet's parts, put together with room enough: 0, its length, its bytes.
+  pub assembled-again : (s : List ℕ) → Bytes s → check s ≡ 0 → countAt s ≡ k → split s ≡ bodies → length s ≤ room
+      → assembleJob k body1 body2 body3 room ≡ record { number = 0; value = length s; written = s }
+  unfolding assembleJob
+  assembled-again s bytes ok count parts fits =
+      let yes : answer (assembleQuestions k bodies room) ≡ 0 = rw (count, parts) at (assemble-again s room bytes ok fits) in
+      let same : join bodies ≡ s = rw parts at (join-split s bytes ok) in
+      outcome-yes (assembleQuestions k bodies room) (length (join bodies)) (join bodies) yes ∙ rw same
+
+pub assemble-joins : (k : ℕ) (body1 body2 body3 before : List ℕ) {r : Answer} {out : List ℕ}
+    → Gives (assembleJob k body1 body2 body3 (length before)) before r out → Joins k (given k body1 body2 body3) before r out
+unfolding assembleJob after over
+assemble-joins k body1 body2 body3 before {r} {out} gives =
+    record {
+      parts = λ z. ap split (kept questions sheet before gives z ∙ sym (written z)) ∙ assembled-reads k body1 body2 body3 (length before) (number z) .1;
+      accepted = λ z. ap check (kept questions sheet before gives z ∙ sym (written z)) ∙ assembled-reads k body1 body2 body3 (length before) (number z) .0;
+      again = λ s bytes ok count parts fits.
+          (let job = assembled-again k body1 body2 body3 (length before) s bytes ok count parts fits in
+          (gives .answered ∙ ap answerOf job, gives .bytes ∙ ap (λ (o : Outcome). after o before) job));
+    }
+  where
+    questions : List Question
+    questions = assembleQuestions k (given k body1 body2 body3) (length before)
+
+    sheet : List ℕ
+    sheet = join (given k body1 body2 body3)
+
+    number : r .number ≡ 0 → (assembleJob k body1 body2 body3 (length before)) .number ≡ 0
+    number z = ap (λ (a : Answer). a .number) (sym (gives .answered)) ∙ z
+
+    written : r .number ≡ 0 → (assembleJob k body1 body2 body3 (length before)) .written ≡ sheet
+    written z = ap (λ (o : Outcome). o .written) (outcome-yes questions (length sheet) sheet (all-yes questions (length sheet) sheet before gives z))
 
 -- ---- demand 3, of a sheet s scheduled here
 
@@ -84,9 +207,9 @@ module _ (s : List ℕ) (here : ScheduledHere s) where
     -- The view clause. `buffer` is what the lent map held.
     module _ (rules : KeepsRules s list) (e : Rectangle) (zoom : Zoom) (buffer : List ℕ)
         (taken : answer (viewQuestions s e zoom (length buffer)) ≡ 0) where
-      shown-same : (m : ℕ) → m < sheetCount s → shownIn s e zoom m ≡ shownBy s e zoom list m
+      living-same : (m : ℕ) → m < sheetCount s → shownIn s e zoom m ≡ shownBy s e zoom list m
       unfolding shownIn shown
-      shown-same m h = rw (lives-same rules m (scale (scaleOf zoom)) h)
+      living-same m h = rw (lives-same rules m (scale (scaleOf zoom)) h)
 
       viewed : viewJob s e zoom (length buffer)
           ≡ record { number = 0; value = countShown (shownIn s e zoom) (sheetCount s); written = mapBytes (shownIn s e zoom) (sheetCount s) }
@@ -99,40 +222,77 @@ module _ (s : List ℕ) (here : ScheduledHere s) where
           let w = map-shows (shownIn s e zoom) (sheetCount s) (drop (length (mapBytes (shownIn s e zoom) (sheetCount s))) buffer) in
           rw viewed
           (record {
-            bits = record { bits = λ m h. w .bits m h ∙ ap bit (shown-same m h); unused = w .unused };
-            counted = count-same (shownIn s e zoom) (shownBy s e zoom list) (sheetCount s) shown-same;
+            bits = record { bits = λ m h. w .bits m h ∙ ap bit (living-same m h); unused = w .unused };
+            counted = count-same (shownIn s e zoom) (shownBy s e zoom list) (sheetCount s) living-same;
           })
 
   -- Demand 3, whole.
   pub demand3 : Demand3 s
   demand3 = record { same = same-iff; view = view-living }
 
+-- ---- the walk as a whole, over the jobs
+
+-- Walking from 0, each next from one past the last, hands out exactly the set bits below n, rising, and then 65,535.
+pub walk-whole : (map : List ℕ) (n turns : ℕ) → answer (walkQuestions map n) ≡ 0 → n < turns
+    → walksFrom map n turns 0 ≡ shownFrom (isSet map) n 0 ++ (65535 ∷ [])
+walk-whole map n turns asked enough = walks-all map n (map-taken map n asked) n 0 turns (omega arith) enough
+
+-- Of a view's map these are exactly the shown marks, and each is told by its bit. `buffer` is what the lent map held.
+module _ (s : List ℕ) (e : Rectangle) (zoom : Zoom) (buffer : List ℕ) (taken : answer (viewQuestions s e zoom (length buffer)) ≡ 0) where
+  abbrev map : List ℕ
+  map = after (viewJob s e zoom (length buffer)) buffer
+
+  map-is : map ≡ mapBytes (shownIn s e zoom) (sheetCount s) ++ drop (length (mapBytes (shownIn s e zoom) (sheetCount s))) buffer
+  unfolding viewJob outcome after
+  map-is = rw taken
+
+  shows : Shows (shownIn s e zoom) (sheetCount s) map
+  shows = rw map-is (map-shows (shownIn s e zoom) (sheetCount s) _)
+
+  ok : check s ≡ 0
+  unfolding viewQuestions check
+  ok = append-iff (checkQuestions s) _ (check-numbered s) .0 taken .0
+
+  -- It is a map that can be walked.
+  is-map : isMap map (sheetCount s) ≡ true
+  is-map =
+      let long : mapSize (sheetCount s) ≤ length map =
+      rw map-is (omega (arith, length-append (mapBytes (shownIn s e zoom) (sheetCount s)) (drop (length (mapBytes (shownIn s e zoom) (sheetCount s))) buffer), map-length (shownIn s e zoom) (sheetCount s))) in
+      map-iff map (sheetCount s) .1 (accepted-iff s .0 ok .fitting .marks .few, long)
+
+  pub walk-view : (turns : ℕ) → sheetCount s < turns
+      → walksFrom map (sheetCount s) turns 0 ≡ shownFrom (shownIn s e zoom) (sheetCount s) 0 ++ (65535 ∷ [])
+  walk-view turns enough =
+      walks-all map (sheetCount s) is-map (sheetCount s) 0 turns (omega arith) enough
+      ∙ ap (λ (l : List ℕ). l ++ (65535 ∷ []))
+      (shown-same (isSet map) (shownIn s e zoom) (sheetCount s) 0 (λ m low h. shown-set shows m (omega arith)))
+
+  pub is-shown-view : (m : ℕ) → m < sheetCount s
+      → isShownJob map (sheetCount s) m ≡ record { number = 0; value = bit (shownIn s e zoom m); written = [] }
+  unfolding isShownJob outcome
+  is-shown-view m h = rw (map-asked map (sheetCount s), is-map, lt-ltb m (sheetCount s) h, shows .bits m h)
+
 -- ---- and so of what the calls answer and leave
 
 pub schedule-meets : (g : List ℕ) (work : ℕ) (before : List ℕ) {r : Answer} {out : List ℕ} → Bytes g
     → Gives (scheduleJob g work (length before)) before r out → Meets g r out
-unfolding scheduleJob scheduleQuestions check
+unfolding scheduleJob
 schedule-meets g work before {r} {out} bytes gives =
     record {
+      accepted = λ z. rw (sheet z) (scheduled-accepted g bytes (ok z));
+      here = λ z. rw (sheet z) (here z);
       part1 = λ z. rw (sheet z) (part1-kept (scheduled g) (here z));
       demand3 = λ z. rw (sheet z) (demand3 (scheduled g) (here z));
     }
   where
-    questions : List Question
-    questions = scheduleQuestions g work (length before)
+    ok : r .number ≡ 0 → check g ≡ 0
+    ok z = schedule-accepts g work before (ap (λ (a : Answer). a .number) (sym (gives .answered)) ∙ z)
 
     here : r .number ≡ 0 → ScheduledHere (scheduled g)
-    here z =
-        let ok : check g ≡ 0 = append-iff (checkQuestions g) _ (check-numbered g) .0 (all-yes questions (length (scheduled g)) (scheduled g) before gives z) .0 in
-        record { given-sheet = g; bytes = bytes; accepted = ok; written = refl }
+    here z = record { given-sheet = g; bytes = bytes; accepted = ok z; written = refl }
 
     sheet : r .number ≡ 0 → take (r .value) out ≡ scheduled g
-    sheet z =
-        rw (
-          value-is questions (length (scheduled g)) (scheduled g) before gives z,
-          bytes-are questions (length (scheduled g)) (scheduled g) before gives z,
-        )
-        (take-append-seam (scheduled g) (drop (length (scheduled g)) before))
+    sheet z = kept (scheduleQuestions g work (length before)) (scheduled g) before gives z
 
 pub view-meets : (s : List ℕ) (e : Rectangle) (zoom : Zoom) (before : List ℕ) {r : Answer} {map : List ℕ}
     → Gives (viewJob s e zoom (length before)) before r map → MeetsView s e zoom r map

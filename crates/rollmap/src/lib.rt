@@ -7,16 +7,17 @@ ghost use mathlib.Core.Path.{_≡_};
 ghost use Prim.Native.Nat.{_+_, _*_, _≤_};
 ghost use lib.ListN.{length};
 ghost use Rattle.scheduling.specs.Filling.{Schedulable};
-ghost use Rattle.contents.specs.Contents.{countAt, join};
+ghost use Rattle.contents.specs.Contents.{countAt, join, given};
 ghost use Rattle.contents.specs.Written.{over};
 ghost use Rattle.bodies.specs.Fitting.{MarksRight};
 ghost use Rattle.sheet.specs.Questions.{check};
-ghost use Rattle.sheet.specs.Layout.{opened, placeOf};
+ghost use Rattle.sheet.specs.Layout.{opened, placeOf, Located};
 ghost use Rattle.view.specs.declared.Zoom.the-variants.{Stop, Wheel};
 ghost use Rattle.view.specs.View.{rectangle};
-ghost use Rattle.view.specs.Questions.{question11};
-ghost use Rattle.rollmap.specs.Jobs.{checkJob, newBodies, hasRoom, scheduleJob, assembleJob, viewJob, walkJob};
+ghost use Rattle.view.specs.Questions.{question11, isMap};
+ghost use Rattle.rollmap.specs.Jobs.{checkJob, newBodies, hasRoom, scheduleJob, assembleJob, viewJob, walkJob, isShownJob};
 ghost use Rattle.rollmap.specs.Answers.{refusal, answerOf, extentOf, edges, Gives, Lent};
+ghost use Rattle.rollmap.specs.Parts.{Joins};
 ghost use Rattle.rollmap.specs.Demand3.{Meets, MeetsView};
 ghost use Rattle.rollmap.specs.Steps.{resultsOver, viewAt};
 
@@ -54,10 +55,10 @@ pub extern "C" fn rollmap_check(sheet: &[u8]) -> Answer
     }
 }
 
-// Where the part of this code lies in an accepted sheet.
+// Where the part of this code lies in an accepted sheet: above 0 where it is there, be it empty or not, and 0 where it is not.
 #[no_mangle]
 pub extern "C" fn rollmap_part(sheet: &[u8], code: u32) -> Extent
-    ensures { λ r. ⌜ r ≡ extentOf (placeOf (opened (now (sheet .entry))) code) ⌝ }
+    ensures { λ r. ⌜ (r ≡ extentOf (placeOf (opened (now (sheet .entry))) code)) × Located (now (sheet .entry)) code (r .offset) (r .length) ⌝ }
 {
     let place = sheet::part_of(sheet, code);
     Extent {
@@ -66,7 +67,8 @@ pub extern "C" fn rollmap_part(sheet: &[u8], code: u32) -> Extent
     }
 }
 
-// Puts parts together into a sheet at the start of `out`: questions 1 (of the number of parts), 4 to 9 and 13.
+// Puts parts together into a sheet at the start of `out`: questions 1 (of the number of parts), 4 to 9 and 13. The sheet has these parts
+// and is accepted; an accepted sheet's own parts give that sheet.
 #[no_mangle]
 pub extern "C" fn rollmap_assemble(
     parts: u32,
@@ -76,6 +78,7 @@ pub extern "C" fn rollmap_assemble(
     out: &mut [u8],
 ) -> Answer
     ensures { λ r. ⌜ Gives (assembleJob parts (now (body1 .entry)) (now (body2 .entry)) (now (body3 .entry)) (length (now (out .entry)))) (now (out .entry)) r (now (out .exit)) ⌝ }
+    ensures { λ r. ⌜ Joins parts (given parts (now (body1 .entry)) (now (body2 .entry)) (now (body3 .entry))) (now (out .entry)) r (now (out .exit)) ⌝ }
 {
     match sheet::assemble(parts, body1, body2, body3, out) {
         Assembled::Refused(number) => refused(number),
@@ -220,21 +223,21 @@ pub extern "C" fn rollmap_view_wheel(
     view(sheet, Edges { x0, x1, y0, y1 }, Zoom::Wheel(wheel), map)
 }
 
-// ---- the walk
+// ---- reading a map
+
+// 13, of a map that is read: has it a bit for each of n marks, and is n at most 4,096?
+fn is_map(map: &[u8], n: u32) -> bool
+    ensures { λ r. ⌜ r ≡ isMap (now (map .entry)) n ⌝ }
+{
+    n <= 4096 && (n as usize + 7) / 8 <= map.len()
+}
 
 // The least shown mark at or after `start` and below n, else 65,535.
 #[no_mangle]
 pub extern "C" fn rollmap_walk(map: &[u8], n: u32, start: u32) -> Answer
     ensures { λ r. ⌜ r ≡ answerOf (walkJob (now (map .entry)) n start) ⌝ }
 {
-    if 4096 < n {
-        return Answer {
-            number: 13,
-            value: 65535,
-        };
-    }
-    let marks = n as usize;
-    if map.len() < (marks + 7) / 8 {
+    if !is_map(map, n) {
         return Answer {
             number: 13,
             value: 65535,
@@ -242,6 +245,26 @@ pub extern "C" fn rollmap_walk(map: &[u8], n: u32, start: u32) -> Answer
     }
     Answer {
         number: 0,
-        value: bitmap::walk(map, marks, start as usize) as u32,
+        value: bitmap::walk(map, n as usize, start as usize) as u32,
+    }
+}
+
+// Whether the map of n marks shows mark m: 1 or 0, and 0 where m is not below n. It asks 13 as the walk does.
+#[no_mangle]
+pub extern "C" fn rollmap_is_shown(map: &[u8], n: u32, m: u32) -> Answer
+    ensures { λ r. ⌜ r ≡ answerOf (isShownJob (now (map .entry)) n m) ⌝ }
+{
+    if !is_map(map, n) {
+        return refused(13);
+    }
+    if n <= m {
+        return Answer {
+            number: 0,
+            value: 0,
+        };
+    }
+    Answer {
+        number: 0,
+        value: bitmap::test_bit(map, m as usize) as u32,
     }
 }

@@ -16,7 +16,7 @@ use Rattle.bodies.specs.Laws.{fitting-iff}
 use Rattle.bodies.specs.Lemmas.Small as Small
 use Rattle.sheet.specs.Questions.{checkQuestions, check, assembleQuestions}
 use Rattle.sheet.specs.Accepted.{Accepted}
-use Rattle.sheet.specs.Layout.{opened, placeOf, openParts, partOf}
+use Rattle.sheet.specs.Layout.{opened, placeOf, openParts, partOf, Located}
 use Rattle.sheet.specs.Lemmas.Accepting as Accepting
 use Rattle.sheet.specs.Lemmas.Opened as Opened
 
@@ -42,6 +42,10 @@ opened-count = Opened.opened-count
 
 pub opened-part : (s : List ℕ) (code : ℕ) → cutOf s (placeOf (opened s) code) ≡ partOf s code
 opened-part = Opened.opened-part
+
+-- Where a part lies are its bytes, and it lies above 0 exactly where it is there.
+pub located : (s : List ℕ) (code : ℕ) → Located s code ((placeOf (opened s) code) .offset) ((placeOf (opened s) code) .length)
+located = Opened.located
 
 -- ---- joining and splitting; that joining and then splitting gives the bodies back is a law of the contents
 

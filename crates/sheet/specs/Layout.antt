@@ -1,11 +1,13 @@
 -- Where the parts of a sheet lie, as a plain value, and what a part read off it is.
-use Prim.Native.Nat.{ℕ}
-use mathlib.Core.Bool.{cond}
+use Prim.Native.Nat.{ℕ, _+_, _<_, _≤_}
+use mathlib.Core.Path.{_≡_}
+use mathlib.Core.Bool.{Bool, true, cond, _&&_}
 use mathlib.Core.List.{List, [], _∷_}
-use lib.ListN.{getD}
-use lib.Dec.{eqb}
+use mathlib.Core.Logic.{_↔_}
+use lib.ListN.{length, getD, take, drop}
+use lib.Dec.{eqb, leb}
 use Rattle.contents.specs.declared.Extent.{Extent}
-use Rattle.contents.specs.Contents.{countAt, split}
+use Rattle.contents.specs.Contents.{countAt, split, has}
 use Rattle.contents.specs.Extent.{nowhere, extentAt}
 use Rattle.sheet.specs.declared.Layout.{Layout}
 use Rattle.sheet.specs.Questions.{check}
@@ -33,3 +35,14 @@ openParts s = cond (eqb (check s) 0) (split s) []
 -- the part of this code; no bytes where there is none
 unfoldable pub partOf : List ℕ → ℕ → List ℕ
 partOf s code = getD ([] ∷ openParts s) code []
+
+-- Is a part of this code there? Codes are counted from 1.
+unfoldable pub isThere : List ℕ → ℕ → Bool
+isThere s code = leb 1 code && has (openParts s) code
+
+-- What a part's place says of the sheet: it lies in it, the bytes there are the part's, and it is above 0 exactly where the part is
+-- there, so that an empty part and a missing one are told apart.
+pub record Located (s : List ℕ) (code offset size : ℕ) : Type 0 where
+  pub inside : offset + size ≤ length s
+  pub bytes : take size (drop offset s) ≡ partOf s code
+  pub there : (0 < offset) ↔ (isThere s code ≡ true)

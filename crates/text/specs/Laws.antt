@@ -12,7 +12,7 @@ use lib.ListN.{length, length-append, set}
 use lib.Pow.{shr-shr, pow-mono}
 use lib.Seq.{sets, length-sets}
 use Rattle.fractions.specs.declared.Fraction.{Fraction}
-use Rattle.text.specs.Text.{digits, decimal, rootStep, root, zoomDown, Wrote}
+use Rattle.text.specs.Text.{digits, decimal, denoted, rootStep, root, zoomDown, Wrote}
 
 -- ---- digits
 
@@ -56,6 +56,33 @@ decimal-more v s h =
 
 pub decimal-longer : (v : ℕ) → v < 18446744073709551616 → 10 ≤ v → length (decimal v) ≡ length (decimal (v / 10)) + 1
 decimal-longer v s h = ap length (decimal-more v s h) ∙ length-append (decimal (v / 10)) ((48 + v % 10) ∷ [])
+
+-- ---- what digits denote
+
+denoted-append : (v : ℕ) (a b : List ℕ) → denoted v (a ++ b) ≡ denoted (denoted v a) b
+unfolding denoted
+denoted-append v [] b = refl
+denoted-append v (d ∷ a) b = denoted-append (10 * v + (d - 48)) a b
+
+none-denote : (v : ℕ) → denoted 0 (digits 0 v) ≡ 0
+unfolding denoted digits
+none-denote v = refl
+
+digits-denote : (width v : ℕ) → v < 10 ^ width → denoted 0 (digits width v) ≡ v
+unfolding denoted
+digits-denote zero v h = omega (arith, none-denote v)
+digits-denote (suc width) v h =
+    elim (decLt v 10) [
+      | yes l ↦ rw (digits-one width v l) (omega arith)
+      | no l ↦
+          (let p = pow-suc 10 width in
+          let s : v / 10 < 10 ^ width = omega arith in
+          rw (digits-more width v (omega arith), denoted-append 0 (digits width (v / 10)) ((48 + v % 10) ∷ []), digits-denote width (v / 10) s) (omega arith))
+    ]
+
+-- The decimal digits of a number of up to 8 bytes denote it.
+pub decimal-denotes : (v : ℕ) → v < 18446744073709551616 → denoted 0 (decimal v) ≡ v
+decimal-denotes v h = digits-denote 20 v (omega arith)
 
 -- ---- writing one text behind another
 

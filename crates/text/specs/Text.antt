@@ -1,5 +1,5 @@
 -- Numbers as text, and the integer root.
-use Prim.Native.Nat.{ℕ, zero, suc, _+_, _*_, _/_, _%_}
+use Prim.Native.Nat.{ℕ, zero, suc, _+_, _-_, _*_, _/_, _%_}
 use mathlib.Core.Path.{_≡_}
 use mathlib.Core.Bool.{cond}
 use mathlib.Core.List.{List, [], _∷_, _++_}
@@ -16,6 +16,11 @@ digits (suc width) v = cond (ltb v 10) [] (digits width (v / 10)) ++ ((48 + v % 
 -- a number of up to 8 bytes has at most 20 digits
 abbrev pub decimal : ℕ → List ℕ
 decimal v = digits 20 v
+
+-- the number that decimal digits denote, the highest first, where those before them denote v
+unfoldable pub denoted : ℕ → List ℕ → ℕ
+denoted v [] = v
+denoted v (d ∷ rest) = denoted (10 * v + (d - 48)) rest
 
 -- the root of v from that of v / 4: doubled, and one more where that fits
 unfoldable pub rootStep : ℕ → ℕ → ℕ

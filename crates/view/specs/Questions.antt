@@ -1,16 +1,16 @@
 -- Questions 10 to 13, and the jobs that ask them: viewing and walking.
 use Prim.Native.Nat.{ℕ}
-use mathlib.Core.Bool.{Bool, true, false, _&&_}
+use mathlib.Core.Bool.{Bool, _&&_}
 use mathlib.Core.List.{List, [], _∷_, _++_}
-use mathlib.Core.Option.{Option, none, some}
 use lib.ListN.{length}
-use lib.Dec.{leb}
+use lib.Dec.{leb, eqb}
 use lib.Signed.{leZ}
 use Rattle.contents.specs.Contents.{split, has}
 use Rattle.contents.specs.Asking.{Question, _asks_}
 use Rattle.sheet.specs.Questions.{checkQuestions, sheetCount}
 use Rattle.view.specs.declared.Zoom.{Zoom}
-use Rattle.view.specs.Zoom.{scaleOf}
+use Rattle.view.specs.declared.Scale.{Scale}
+use Rattle.view.specs.Zoom.{scaleOf, scaleNumber}
 use Rattle.view.specs.Shown.{Rectangle}
 use Rattle.bitmap.specs.Map.{mapSize}
 
@@ -23,9 +23,8 @@ unfoldable pub question11 : Rectangle → Bool
 question11 e = leZ (e .x0) (e .x1) && leZ (e .y0) (e .y1)
 
 -- 12. "Is the zoom taken?"
-abbrev pub isTaken : Option ℕ → Bool
-isTaken none = false
-isTaken (some k) = true
+abbrev pub isTaken : Scale → Bool
+isTaken r = eqb (scaleNumber r) 0
 
 -- "viewing 1 to 13". `room` is the length of the lent map.
 unfoldable pub viewQuestions : List ℕ → Rectangle → Zoom → ℕ → List Question
@@ -37,6 +36,10 @@ viewQuestions s e zoom room =
     ∷ (13 asks leb (mapSize (sheetCount s)) room)
     ∷ [])
 
--- "Walking asks 13": "a walked map, long enough? A walk has n at most 4,096."
+-- 13, of a walked map: "long enough? A walk has n at most 4,096."
+unfoldable pub isMap : List ℕ → ℕ → Bool
+isMap bytes n = leb n 4096 && leb (mapSize n) (length bytes)
+
+-- "Walking asks 13." So does asking whether one mark is shown.
 unfoldable pub walkQuestions : List ℕ → ℕ → List Question
-walkQuestions bytes n = (13 asks leb n 4096 && leb (mapSize n) (length bytes)) ∷ []
+walkQuestions bytes n = (13 asks isMap bytes n) ∷ []

@@ -2,7 +2,7 @@
 use Prim.Native.Nat.{ℕ, _+_, _*_, _/_, _%_, _^_, _≤_, _<_}
 use mathlib.Core.Path.{_≡_, refl, sym, ap, _∙_, subst}
 use mathlib.Core.Bool.{Bool, true, false, cond, _&&_, true≢false}
-use mathlib.Core.Option.{Option, none, some}
+use mathlib.Core.List.{List, [], _∷_}
 use mathlib.Core.Logic.{_↔_}
 use native.Mathlib.Nat.{mul-div-cancel, mul-mod-left, div-add-mod', add-zero, one-mul, mod-eq-of-lt}
 use native.Mathlib.Omega.{arith}
@@ -12,11 +12,15 @@ use lib.Pow.{pow-mono, pow-pos}
 use lib.Ieee.{Float, nan, inf, fin, up, down}
 use lib.Ieee.Exact.{HasValue}
 use lib.Ieee.Fits.{down-pos}
-use Rattle.view.specs.Zoom.{stopScale, wheelScale, scaleOf, Is64}
+use Rattle.contents.specs.Asking.{_asks_, answer}
+use Rattle.view.specs.Zoom.{stopScale, wheelScale, scaleOf, scaleNumber, Is64}
+use Rattle.view.specs.Questions.{isTaken}
 use Rattle.view.specs.declared.Zoom.the-variants.{Stop, Wheel}
+use Rattle.view.specs.declared.Scale.{Scale}
+use Rattle.view.specs.declared.Scale.the-variants.{Taken, Refused}
 
 -- w is k / 64: computing gives k
-pub wheel-is : (w : Float) (k : ℕ) → Is64 w k → wheelScale w ≡ some k
+pub wheel-is : (w : Float) (k : ℕ) → Is64 w k → wheelScale w ≡ Taken k
 unfolding wheelScale
 wheel-is nan k i = absurd (i .2)
 wheel-is (inf s) k i = absurd (i .2)
@@ -27,7 +31,7 @@ wheel-is (fin false m e) k i =
     simp (q, r, le-leb 1 k (i .0), le-leb k 65536 (i .1))
 
 -- and back: where computing gives k, w is k / 64
-pub wheel-from : (w : Float) (k : ℕ) → wheelScale w ≡ some k → Is64 w k
+pub wheel-from : (w : Float) (k : ℕ) → wheelScale w ≡ Taken k → Is64 w k
 unfolding wheelScale
 wheel-from nan k h = absurd (let z : _≡_ {A = ℕ} 0 1 = cc in omega arith)
 wheel-from (inf s) k h = absurd (let z : _≡_ {A = ℕ} 0 1 = cc in omega arith)
@@ -38,7 +42,7 @@ wheel-from (fin false m e) k h = cases (eqb (x % down e) 0) (leb 1 (x / down e))
     x = m * up e * 64
 
     cases : (a b c : Bool) → eqb (x % down e) 0 ≡ a → leb 1 (x / down e) ≡ b → leb (x / down e) 65536 ≡ c
-        → cond (a && b && c) (some (x / down e)) none ≡ some k → Is64 (fin false m e) k
+        → cond (a && b && c) (Taken (x / down e)) Refused ≡ Taken k → Is64 (fin false m e) k
     cases true true true p q r g =
         let is : x / down e ≡ k = cc in
         let z : x % down e ≡ 0 = eqb-true (x % down e) 0 p in
@@ -50,15 +54,15 @@ wheel-from (fin false m e) k h = cases (eqb (x % down e) 0) (leb 1 (x / down e))
     cases false b c p q r g = absurd (let z : _≡_ {A = ℕ} 0 1 = cc in omega arith)
 
 -- 01: "taken only if 64 times the wheel value is a whole number from 1 to 65,536, both exact"
-pub wheel-iff : (w : Float) (k : ℕ) → (wheelScale w ≡ some k) ↔ Is64 w k
+pub wheel-iff : (w : Float) (k : ℕ) → (wheelScale w ≡ Taken k) ↔ Is64 w k
 wheel-iff w k = (wheel-from w k, wheel-is w k)
 
-pub wheel-none : (w : Float) → ((k : ℕ) → Is64 w k → ⊥) → wheelScale w ≡ none
+pub wheel-none : (w : Float) → ((k : ℕ) → Is64 w k → ⊥) → wheelScale w ≡ Refused
 wheel-none w h = cases (wheelScale w) refl
   where
-    cases : (o : Option ℕ) → wheelScale w ≡ o → wheelScale w ≡ none
-    cases none e = e
-    cases (some k) e = absurd (h k (wheel-from w k e))
+    cases : (o : Scale) → wheelScale w ≡ o → wheelScale w ≡ Refused
+    cases Refused e = e
+    cases (Taken k) e = absurd (h k (wheel-from w k e))
 
 -- a stop and the wheel value of the same zoom give the same k
 pub stop-wheel : (s : ℕ) (w : Float) → s ≤ 16 → HasValue w false (2 ^ s) 64 → scaleOf (Stop s) ≡ scaleOf (Wheel w)
@@ -66,12 +70,18 @@ unfolding scaleOf stopScale
 stop-wheel s w h v = simp (le-leb s 16 h) (sym (wheel-is w (2 ^ s) (pow-pos s, pow-mono {i = s} {j = 16} h, v)))
 
 -- what the code of a stop computes
-pub stop-shifted : (s : ℕ) → s ≤ 16 → stopScale s ≡ some (1 * 2 ^ s % 2 ^ 32)
+pub stop-shifted : (s : ℕ) → s ≤ 16 → stopScale s ≡ Taken (1 * 2 ^ s % 2 ^ 32)
 unfolding stopScale
 stop-shifted s h =
     let p : 2 ^ s ≤ 2 ^ 16 = pow-mono {i = s} {j = 16} h in
     simp (le-leb s 16 h, one-mul, mod-eq-of-lt {n = 2 ^ s} {m = 2 ^ 32} (omega arith))
 
-pub stop-refused : (s : ℕ) → 16 < s → stopScale s ≡ none
+pub stop-refused : (s : ℕ) → 16 < s → stopScale s ≡ Refused
 unfolding stopScale
 stop-refused s h = simp (lt-leb s 16 h)
+
+-- Asking question 12 of a zoom answers its number.
+pub zoom-answer : (r : Scale) → answer ((12 asks isTaken r) ∷ []) ≡ scaleNumber r
+unfolding answer
+zoom-answer (Taken k) = refl
+zoom-answer Refused = refl

@@ -9,7 +9,7 @@ ghost use lib.ListN.{length};
 ghost use Rattle.elimination.specs.Records.{valueAt};
 ghost use Rattle.index.specs.Blocks.{entryAt, block};
 ghost use Rattle.index.specs.Check.{AllMarked};
-ghost use Rattle.view.specs.Zoom.{scaleIs, scaleOf, wheelScale};
+ghost use Rattle.view.specs.Zoom.{scaleOf, wheelScale};
 ghost use Rattle.view.specs.Shown.{livesAt, inside, shown};
 ghost use Rattle.view.specs.View.{rectangle, Viewable, Viewed};
 ghost use Rattle.view.specs.Search.{placeAt, edgeOn, isBetween, isBeyond, sizeToSearch, BitsSet, Searchable};
@@ -30,7 +30,7 @@ pub enum Scale {
 
 // The tests on w keep the product in range, so that it is exact; the whole part cast back to a float tells that nothing is cut off.
 fn wheel_scale(w: f32) -> Scale
-    ensures { λ r. ⌜ scaleIs r ≡ wheelScale w ⌝ }
+    ensures { λ r. ⌜ r ≡ wheelScale w ⌝ }
 {
     if w >= 0.015625 {
         if w <= 1024.0 {
@@ -46,7 +46,7 @@ fn wheel_scale(w: f32) -> Scale
 
 // k = 64z of a zoom that is taken. The stop is tested before the shift, whose amount would wrap.
 pub fn scale_of(zoom: Zoom) -> Scale
-    ensures { λ r. ⌜ scaleIs r ≡ scaleOf zoom ⌝ }
+    ensures { λ r. ⌜ r ≡ scaleOf zoom ⌝ }
 {
     match zoom {
         Zoom::Stop(s) => if s <= 16 {

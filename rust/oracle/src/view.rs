@@ -128,12 +128,26 @@ pub fn is_set(map: &[u8], m: usize) -> bool {
 /// Walks a map of n marks: the number of the question refused, or 0, and the
 /// least shown number at or after the start and below n, or 65,535. Asks 13.
 pub fn walk(map: &[u8], n: u32, start: u32) -> (u32, u32) {
-    let long_enough = n <= MOST_MARKS as u32 && map.len() >= map_bytes(n as usize);
-    if !long_enough {
+    if !is_map(map, n) {
         return (13, NO_MARK);
     }
     let found = (start..n).find(|&m| is_set(map, m as usize));
     (0, found.unwrap_or(NO_MARK))
+}
+
+/// Whether a map of n marks shows mark m: the number of the question refused, or 0,
+/// and 1 or 0. Asks 13.
+pub fn is_shown(map: &[u8], n: u32, m: u32) -> (u32, u32) {
+    if !is_map(map, n) {
+        return (13, 0);
+    }
+    (0, u32::from(m < n && is_set(map, m as usize)))
+}
+
+/// 13, of a map that is read: it is long enough for n marks, of which there are at
+/// most 4,096.
+fn is_map(map: &[u8], n: u32) -> bool {
+    n <= MOST_MARKS as u32 && map.len() >= map_bytes(n as usize)
 }
 
 #[cfg(test)]

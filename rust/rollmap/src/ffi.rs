@@ -77,6 +77,8 @@ extern "C" {
 
     fn rollmap_walk(map: *const u8, map_length: usize, n: u32, start: u32) -> Answer;
 
+    fn rollmap_is_shown(map: *const u8, map_length: usize, n: u32, m: u32) -> Answer;
+
     fn rollmap_part(sheet: *const u8, sheet_length: usize, code: u32) -> Extent;
 }
 
@@ -135,6 +137,11 @@ pub(crate) fn view(sheet: &[u8], view: View, map: &mut [u8]) -> Answer {
 pub(crate) fn walk(map: &[u8], n: u32, start: u32) -> Answer {
     // SAFETY: pointer and length are a slice's (see the top of this file).
     unsafe { rollmap_walk(map.as_ptr(), map.len(), n, start) }
+}
+
+pub(crate) fn is_shown(map: &[u8], n: u32, m: u32) -> Answer {
+    // SAFETY: pointer and length are a slice's (see the top of this file).
+    unsafe { rollmap_is_shown(map.as_ptr(), map.len(), n, m) }
 }
 
 pub(crate) fn part(sheet: &[u8], code: u32) -> Extent {

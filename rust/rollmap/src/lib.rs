@@ -44,7 +44,7 @@ pub use sheet::{
     MARK_BYTES, MOST_MARKS,
 };
 pub use view::{map_bytes, view, view_to_map, Map, View, Zoom};
-pub use walk::{shown, walk, Shown};
+pub use walk::{is_shown, shown, walk, Shown};
 
 /// The README's example, run as a documentation test.
 #[cfg(doctest)]

@@ -1,6 +1,6 @@
 //! Views of a scheduled sheet, and their maps.
 
-use crate::{ffi, mark_count, shown, Refusal, Shown};
+use crate::{ffi, is_shown, mark_count, shown, Refusal, Shown};
 
 /// A rectangle, edges included, and a zoom.
 #[derive(Clone, Copy, Debug, PartialEq)]
@@ -95,6 +95,11 @@ impl Map {
     /// The map's bytes, mark m being bit m mod 8 of byte m / 8.
     pub fn as_bytes(&self) -> &[u8] {
         &self.bytes
+    }
+
+    /// Whether that mark is shown; no where the sheet has no such mark.
+    pub fn contains(&self, mark: u32) -> bool {
+        is_shown(&self.bytes, self.marks, mark).expect("the map is as long as its sheet asks for")
     }
 
     /// The numbers of the shown marks, rising.

@@ -1,4 +1,4 @@
-//! Walking a view's map.
+//! Reading a view's map: one mark, or a walk over the shown ones.
 
 use std::iter::FusedIterator;
 
@@ -17,6 +17,16 @@ const NO_MARK: u32 = 65_535;
 pub fn walk(map: &[u8], n: u32, start: u32) -> Result<Option<u32>, Refusal> {
     let mark = ffi::walk(map, n, start).settle(NO_MARK)?;
     Ok((mark != NO_MARK).then_some(mark))
+}
+
+/// Whether a map of `n` marks shows that mark; no where the mark is not below `n`.
+///
+/// # Errors
+///
+/// Asks 13, as [`walk`] does.
+pub fn is_shown(map: &[u8], n: u32, mark: u32) -> Result<bool, Refusal> {
+    let bit = ffi::is_shown(map, n, mark).settle(0)?;
+    Ok(bit == 1)
 }
 
 /// The numbers of the shown marks in a map of `n` marks, rising.

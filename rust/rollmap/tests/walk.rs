@@ -1,4 +1,4 @@
-//! Walking a map, compared with the oracle.
+//! Reading a map, one mark and as a walk, compared with the oracle.
 
 mod common;
 
@@ -16,6 +16,15 @@ fn walk(map: &[u8], n: u32, start: u32) -> Option<u32> {
     let expected = oracle::view::walk(map, n, start);
     assert_eq!((number(&answer), value), expected, "{map:02x?} {n} {start}");
     answer.ok().flatten()
+}
+
+/// Whether a mark is shown, once it is seen to be the oracle's answer.
+fn is_shown(map: &[u8], n: u32, mark: u32) -> bool {
+    let answer = rollmap::is_shown(map, n, mark);
+    let value = u32::from(answer == Ok(true));
+    let expected = oracle::view::is_shown(map, n, mark);
+    assert_eq!((number(&answer), value), expected, "{map:02x?} {n} {mark}");
+    value == 1
 }
 
 /// All that a walk hands out, once it is seen to be the set bits.
@@ -44,6 +53,7 @@ fn every_map_of_one_byte() {
             for n in 0..=9 {
                 for start in (0..=10).chain([63, 64, 65_535, 65_536, u32::MAX - 1, u32::MAX]) {
                     walk(map, n, start);
+                    is_shown(map, n, start);
                 }
             }
         }
@@ -73,6 +83,10 @@ fn every_length_of_a_map() {
             .chain([needed.saturating_sub(1), needed])
         {
             for start in [0, n / 2, n.saturating_sub(1), n, n + 1] {
+                assert_eq!(
+                    is_shown(&map[..length], n, start),
+                    length >= needed && start < n
+                );
                 let expected = (length >= needed && start < n).then_some(start);
                 assert_eq!(walk(&map[..length], n, start), expected);
             }
@@ -100,6 +114,8 @@ fn no_more_than_4_096_marks_are_walked() {
             assert_eq!(walk(&map, n, start), None);
             assert_eq!(number(&rollmap::walk(&map, n, start)), 13);
             assert_eq!(number(&rollmap::walk(&[], n, start)), 13);
+            assert!(!is_shown(&map, n, start));
+            assert_eq!(number(&rollmap::is_shown(&map, n, start)), 13);
         }
     }
     assert_eq!(walk(&map, 4_096, 4_095), Some(4_095));
@@ -116,6 +132,7 @@ fn many_maps() {
         for _ in 0..8 {
             let start = generator.below(n + 3);
             walk(&map, n, start);
+            is_shown(&map, n, start);
         }
     }
 }

@@ -1,32 +1,19 @@
--- `bodies::mark_answer` meets its contract: `house_radius` refuses exactly the kinds that do not exist, so its answer tells question 5. Assumes nothing.
+-- `bodies::mark_answer` meets its contract: question 5 goes by the number of what `house_radius` answers. Assumes nothing.
 use Prim.Native.Nat.{ℕ}
-use mathlib.Core.Path.{_≡_, refl, sym, ap, _∙_}
-use mathlib.Core.Bool.{Bool, true, false, cond}
+use mathlib.Core.Path.{_≡_, sym, ap, _∙_}
 use borrow.Author.Needs.{needs}
 use borrow.Author.Tests.{le-leb, lt-leb}
+use lib.Dec.{eqb}
 use Rattle.marks.specs.declared.House.{House}
-use Rattle.marks.specs.declared.House.the-variants.{Radius, Refused}
-use Rattle.marks.specs.Marks.{isKind, isRadius, houseRadius, houseOf}
+use Rattle.marks.specs.Marks.{isKind, isRadius, houseOf, houseNumber}
 use Rattle.contents.specs.Lemmas.Asked.{none-asked, asked-yes, asked-no}
 use Rattle.bodies.proofs.mark_answer.Statement.{statement}
 use Rattle.bodies.proofs.mark_answer.Tie as tie
 
--- `house_radius` refuses exactly the kinds that do not exist
-abbrev taken : House → Bool
-taken (Radius r) = true
-taken Refused = false
-
-taken-kind : (kind : ℕ) → isKind kind ≡ taken (houseOf kind)
-unfolding houseOf
-taken-kind kind = go (isKind kind)
-  where
-    go : (t : Bool) → t ≡ taken (cond t (Radius (houseRadius kind)) Refused)
-    go true = refl
-    go false = refl
-
--- what it answered for the kind that was read
-told : (kind read : ℕ) {h k : House} → read ≡ kind → h ≡ houseOf read → h ≡ k → isKind kind ≡ taken k
-told kind read e f g = taken-kind kind ∙ ap taken (ap houseOf (sym e) ∙ sym f ∙ g)
+-- what `house_radius` answered for the kind that was read
+told : (kind read : ℕ) {h k : House} → read ≡ kind → h ≡ houseOf read → h ≡ k → isKind kind ≡ eqb (houseNumber k) 0
+unfolding isKind
+told kind read e f g = ap (λ (r : House). eqb (houseNumber r) 0) (ap houseOf (sym e) ∙ sym f ∙ g)
 
 kind-at-requires : tie.Need-kind-at-requires
 kind-at-requires c κs = search needs

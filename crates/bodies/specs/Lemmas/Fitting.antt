@@ -11,7 +11,7 @@ use native.Mathlib.Numerals.{add-one}
 use lib.ListN.{length}
 use borrow.Author.Tests.{ltb-true, leb-true, leb-false, eqb-true, lt-ltb, le-leb, eq-eqb, ne-eqb}
 use Rattle.marks.specs.Marks.{kindAt, radiusAt, isKind, isRadius}
-use Rattle.marks.specs.Laws.{used-bound}
+use Rattle.marks.specs.Laws.{kind-iff, used-bound}
 use Rattle.index.specs.Index.{isIndex}
 use Rattle.contents.specs.Contents.{marksPart, schedulePart, indexPart, given}
 use Rattle.contents.specs.Asking.{_asks_, answer, ifThere}
@@ -33,10 +33,6 @@ size-iff s = (
       (omega (arith, eqb-true (length s % 11) 0 (p .0), leb-true (length s) 45056 (p .1)), omega (arith, eqb-true (length s % 11) 0 (p .0)))),
   (λ p. both-iff (eqb (length s % 11) 0) _ .1 (eq-eqb (length s % 11) 0 (omega arith), le-leb (length s) 45056 (omega arith))),
 )
-
-kind-iff : (k : ℕ) → (isKind k ≡ true) ↔ (k < 200)
-unfolding isKind
-kind-iff k = (ltb-true k 200, lt-ltb k 200)
 
 radius-iff : (r : ℕ) → (isRadius r ≡ true) ↔ (r ≤ 16383)
 unfolding isRadius

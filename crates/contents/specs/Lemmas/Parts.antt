@@ -55,6 +55,13 @@ chain-at (b ∷ bodies) (suc i) l =
 
 -- ---- three bodies
 
+pub given-length : (k : ℕ) (a b c : List ℕ) → k ≤ 3 → length (given k a b c) ≡ k
+given-length zero a b c l = refl
+given-length (suc zero) a b c l = refl
+given-length (suc (suc zero)) a b c l = refl
+given-length (suc (suc (suc zero))) a b c l = refl
+given-length (suc (suc (suc (suc k)))) a b c l = absurd (omega arith)
+
 -- The parts of a list of at most three bodies, put together again.
 pub given-parts : (bodies : List (List ℕ)) → length bodies ≤ 3
     → given (length bodies) (getD bodies 0 []) (getD bodies 1 []) (getD bodies 2 []) ≡ bodies

@@ -241,7 +241,7 @@ module _ (M : Marks) where
             let a = next-living M s p e in
             inr (omega (arith, living-put s (p .low) (p .high) (worth M p) n (a .low-in) (a .low-lives)))
 
-    ended : next M (run M n) ≡ none
+    pub ended : next M (run M n) ≡ none
     ended = elim (fewer n) [ inl e ↦ e | inr b ↦ cases b (next M (run M n)) refl ]
       where
         cases : living (run M n) n + n ≤ n → (o : Option Pair) → next M (run M n) ≡ o → next M (run M n) ≡ none

@@ -5,25 +5,26 @@ use mathlib.Core.Bool.{Bool, true, false, cond}
 use native.Mathlib.Decide.{decLt}
 use native.Mathlib.Omega.{arith}
 use borrow.Author.Needs.{needs}
-use borrow.Author.Tests.{lt-ltb, le-ltb, eq-eqb, ne-eqb}
+use lib.Dec.{ltb}
+use borrow.Author.Tests.{le-ltb, eq-eqb, ne-eqb}
 use Rattle.marks.specs.declared.House.the-variants.{Radius, Refused}
-use Rattle.marks.specs.Marks.{houseRadius, isKind, houseOf, usedRadius}
+use Rattle.marks.specs.Marks.{houseRadius, houseOf, usedRadius}
+use Rattle.marks.specs.Laws.{house-there}
 use Rattle.marks.proofs.used_radius.Statement.{statement}
 use Rattle.marks.proofs.used_radius.Tie as tie
 
 of-radius : (kind r : ℕ) → houseOf kind ≡ Radius r → r ≡ houseRadius kind
 unfolding houseOf
-of-radius kind r e = go (isKind kind) e
+of-radius kind r e = go (ltb kind 200) e
   where
     go : (t : Bool) → cond t (Radius (houseRadius kind)) Refused ≡ Radius r → r ≡ houseRadius kind
     go true e = cc
     go false e = cc
 
 refused-from : (kind : ℕ) → houseOf kind ≡ Refused → 200 ≤ kind
-unfolding houseOf isKind
 refused-from kind e =
     elim (decLt kind 200) [
-      | yes l ↦ (let f = rw (lt-ltb kind 200 l) at e in let z : _≡_ {A = ℕ} 0 1 = cc in omega arith)
+      | yes l ↦ (let f = house-there kind l in let z : _≡_ {A = ℕ} 0 1 = cc in omega arith)
       | no l ↦ omega arith
     ]
 

@@ -81,7 +81,7 @@ returns-2 c =
     let s = c .before .before .before .before .before .before .before .before .before in
     let k = s .before .before .before in
     let p = k .before .before .before .before .before .before .before .pre in
-    prints-listing _ (input-bytes (k .before)) (yes (k .before)) (k .body .ensures) _ (s .schedule .ensures) _ _ (p .out-room) (c .before .before .put-listing .ensures)
+    prints-listing _ (input-bytes (k .before)) (yes (k .before)) (k .body .ensures) _ (s .schedule .ensures) _ _ (search needs) (p .out-room) (c .before .before .put-listing .ensures)
 
 pub print-spec : {M : Type 1} → statement M
 print-spec =

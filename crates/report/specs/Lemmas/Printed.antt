@@ -91,7 +91,7 @@ module _ (s : List ℕ) where
     unfolding refusal over
     prints-refusal work schedule room o =
         let w = stands (refusal number) refusal-printed (omega (arith, refusal-room number)) o in
-        record { size = w .size; inside = w .inside; text = w .text; records = rw none-worked-out; refused = λ h. refl }
+        record { size = w .size; inside = w .inside; text = w .text; records = rw none-worked-out; long = refl; refused = λ h. refl }
 
   -- no question said 'no'
   module _ (yes : answer (printQuestions s) ≡ 0) where
@@ -132,8 +132,8 @@ module _ (s : List ℕ) where
       unfolding workedOut over
       worked-out = rw (yes, ← is, schedule-length part (markCount part)) schedule
 
-      pub prints-listing : (work work-after : List ℕ) {out out-after : List ℕ} {r : ℕ} → textRoom 2000 ≤ length out
+      pub prints-listing : (work work-after : List ℕ) {out out-after : List ℕ} {r : ℕ} → length work-after ≡ length work → textRoom 2000 ≤ length out
           → Wrote out out-after 0 (listing (removalAt p) (markCount part)) r → Prints s work before out r work-after p out-after
-      prints-listing work work-after room o =
+      prints-listing work work-after long room o =
           let w = stands (listing (removalAt p) (markCount part)) (sym same) (omega (arith, listing-room (removalAt p) (markCount part), taken .few)) o in
-          record { size = w .size; inside = w .inside; text = w .text; records = worked-out; refused = λ h. absurd (omega (arith, h, yes)) }
+          record { size = w .size; inside = w .inside; text = w .text; records = worked-out; long = long; refused = λ h. absurd (omega (arith, h, yes)) }

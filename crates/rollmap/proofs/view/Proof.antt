@@ -1,6 +1,6 @@
 -- `rollmap::view`: each way out by the question that ended it. Assumes nothing.
 use Prim.Native.Nat.{_≤_}
-use mathlib.Core.Path.{_≡_, sym, ap, _∙_}
+use mathlib.Core.Path.{_≡_, sym, _∙_}
 use mathlib.Core.Bool.{true}
 use native.Mathlib.Omega.{arith}
 use borrow.Author.Needs.{needs}
@@ -9,7 +9,6 @@ use Rattle.contents.specs.Contents.{countAt}
 use Rattle.contents.specs.Lemmas.Tests.{said-no, said-yes}
 use Rattle.sheet.specs.Questions.{check}
 use Rattle.sheet.specs.Laws.{accepted-iff}
-use Rattle.view.specs.Zoom.{scaleIs}
 use Rattle.view.specs.View.{rectangle}
 use Rattle.view.specs.Questions.{question11}
 use Rattle.rollmap.specs.Lemmas.Viewing.{view-refused, view-no-parts, view-no-rectangle, view-no-zoom, view-taken}
@@ -85,7 +84,7 @@ returns-4 : tie.Need-returns-4
 returns-4 c =
     let q = c .before .before .before .before in
     let p = q .before .before in
-    view-no-zoom _ _ _ _ (accepted (p .before .before)) (three p) (right q) (sym (c .before .before .before .scale-of .ensures) ∙ ap scaleIs (c .before .enum-told .given .1)) (c .refused4 .ensures)
+    view-no-zoom _ _ _ _ (accepted (p .before .before)) (three p) (right q) (sym (c .before .before .before .scale-of .ensures) ∙ c .before .enum-told .given .1) (c .refused4 .ensures)
 
 same-length : tie.Need-same-length
 same-length c = search needs
@@ -96,7 +95,7 @@ returns-5 c =
     let q = v .before .before .before .before .before .before in
     let p = q .before .before in
     let k = v .before .before .before .k .given in
-    rw (view-taken _ _ _ _ (accepted (p .before .before)) (three p) (right q) (k .0 .0) (sym (v .before .before .before .before .before .scale-of .ensures) ∙ ap scaleIs (k .1))) (v .view-at .ensures)
+    rw (view-taken _ _ _ _ (accepted (p .before .before)) (three p) (right q) (k .0 .0) (sym (v .before .before .before .before .before .scale-of .ensures) ∙ k .1)) (v .view-at .ensures)
 
 pub view-spec : {M : Type 1} → statement M
 view-spec =

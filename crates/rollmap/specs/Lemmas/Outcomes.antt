@@ -6,7 +6,8 @@ use mathlib.Core.List.{List, [], _++_}
 use native.Mathlib.Omega.{arith}
 use borrow.Author.Tests.{eq-eqb, ne-eqb, eqb-true}
 use lib.Dec.{eqb}
-use lib.ListN.{length, drop}
+use lib.ListN.{length, take, drop}
+use lib.Seq.{take-append-seam}
 use Rattle.sheet.specs.declared.Assembled.{Assembled}
 use Rattle.contents.specs.Contents.{join, given}
 use Rattle.contents.specs.Asking.{Question, answer}
@@ -53,6 +54,13 @@ module _ (questions : List Question) (value : ℕ) (written before : List ℕ) {
   pub bytes-are : left ≡ written ++ drop (length written) before
   unfolding after
   bytes-are = rw (outcome-yes questions value written all-yes) at (gives .bytes)
+
+-- a call that writes and answers how much, of which a caller keeps so many bytes
+pub kept : (questions : List Question) (written before : List ℕ) {r : Answer} {left : List ℕ}
+    → Gives (outcome questions (length written) written) before r left → r .number ≡ 0 → take (r .value) left ≡ written
+kept questions written before gives zero =
+    rw (value-is questions (length written) written before gives zero, bytes-are questions (length written) written before gives zero)
+    (take-append-seam written (drop (length written) before))
 
 module _ (questions : List Question) (value : ℕ) (written buffer : List ℕ) {r : Answer} where
   -- a call that stops at the question of this number

@@ -138,7 +138,7 @@ module _ (s : List ℕ) (work : ℕ) (buffer : List ℕ) where
       refused-gives (scheduleQuestions s work (length buffer)) (length (scheduled s)) (scheduled s) buffer (check s) (append-no (checkQuestions s) _ (check-numbered s) some) some is
 
   module _ (ok : check s ≡ 0) where
-    room-asked : answer (scheduleQuestions s work (length buffer)) ≡ cond (hasRoom (sheetCount s) work (length buffer)) 0 13
+    pub room-asked : answer (scheduleQuestions s work (length buffer)) ≡ cond (hasRoom (sheetCount s) work (length buffer)) 0 13
     unfolding scheduleQuestions check answer
     room-asked = append-yes (checkQuestions s) _ (check-numbered s) ok
 

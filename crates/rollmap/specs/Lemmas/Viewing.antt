@@ -3,7 +3,6 @@ use Prim.Native.Nat.{ℕ, _/_, _+_, _<_, _≤_}
 use mathlib.Core.Path.{_≡_, refl, sym, ap, _∙_}
 use mathlib.Core.Bool.{Bool, true, false, and-false}
 use mathlib.Core.List.{List, [], _∷_, _++_}
-use mathlib.Core.Option.{Option, none, some}
 use native.Mathlib.Omega.{arith}
 use borrow.Author.Tests.{le-leb, lt-leb}
 use lib.Dec.{leb}
@@ -17,12 +16,13 @@ use Rattle.sheet.specs.Laws.{check-numbered, accepted-iff}
 use Rattle.bitmap.specs.Map.{mapSize, mapBytes, countShown}
 use Rattle.bitmap.specs.Laws.{map-length}
 use Rattle.view.specs.declared.Zoom.{Zoom}
+use Rattle.view.specs.declared.Scale.the-variants.{Taken, Refused}
 use Rattle.view.specs.Zoom.{scaleOf}
 use Rattle.view.specs.Shown.{Rectangle, shown}
 use Rattle.view.specs.View.{Viewable, Viewed}
 use Rattle.view.specs.Questions.{question10, question11, isTaken, viewQuestions}
 use Rattle.rollmap.specs.declared.Answer.{Answer}
-use Rattle.rollmap.specs.Jobs.{outcome, scale, shownIn, viewJob}
+use Rattle.rollmap.specs.Jobs.{outcome, shownIn, viewJob}
 use Rattle.rollmap.specs.Answers.{refusal, Gives}
 use Rattle.rollmap.specs.Steps.{viewAt}
 use Rattle.rollmap.specs.Lemmas.Outcomes.{refused-gives, written-gives}
@@ -86,12 +86,12 @@ module _ (s : List ℕ) (e : Rectangle) (zoom : Zoom) (buffer : List ℕ) where
       view-no-rectangle wrong is = refused-at 11 (asked ∙ rw (there, wrong)) (omega arith) is
 
       module _ (right : question11 e ≡ true) where
-        pub view-no-zoom : {r : Answer} → scaleOf zoom ≡ none → r ≡ refusal 12 → Gives (viewJob s e zoom (length buffer)) buffer r buffer
+        pub view-no-zoom : {r : Answer} → scaleOf zoom ≡ Refused → r ≡ refusal 12 → Gives (viewJob s e zoom (length buffer)) buffer r buffer
         unfolding answer
         view-no-zoom refused is = refused-at 12 (asked ∙ rw (there, right, refused)) (omega arith) is
 
         -- the zoom is taken: 13 is all that is left to ask
-        pub view-taken : (k : ℕ) → scaleOf zoom ≡ some k → viewJob s e zoom (length buffer) ≡ viewAt s e k (length buffer)
+        pub view-taken : (k : ℕ) → scaleOf zoom ≡ Taken k → viewJob s e zoom (length buffer) ≡ viewAt s e k (length buffer)
         unfolding viewJob viewAt shownIn outcome answer
         view-taken k taken = rw (asked, there, right, taken)
 
