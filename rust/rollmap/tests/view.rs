@@ -451,6 +451,8 @@ fn a_map_of_its_own() {
             assert_eq!(map.marks() as usize, n);
             assert_eq!(map.iter().count(), map.count() as usize);
             assert!((&map).into_iter().is_sorted());
+            let contained = (0..n as u32 + 9).filter(|&mark| map.contains(mark));
+            assert!(contained.eq(&map));
         }
     }
     let refused = rollmap::view_to_map(&one_part(&P1), WHOLE);
