@@ -309,3 +309,10 @@ pub view-whole : {s : List ℕ} {e : Rectangle} {zoom : Zoom} {before map : List
     → Gives (viewJob s e zoom (length before)) before r map
     → Gives (viewJob s e zoom (length before)) before r map × MeetsView s e zoom r map
 view-whole {s} {e} {zoom} {before} gives = (gives, view-meets s e zoom before gives)
+
+-- Schedule, then view: what the first call promises of its output is all that the second asks of its input.
+pub schedule-then-view : {g out : List ℕ} {r : Answer} {e : Rectangle} {zoom : Zoom} {v : Answer} {map : List ℕ}
+    → Meets g r out → r .number ≡ 0 → MeetsView (take (r .value) out) e zoom v map → v .number ≡ 0
+    → (list : ℕ → Value) → IsList (take (r .value) out) list → KeepsRules (take (r .value) out) list
+    → ShowsLiving (take (r .value) out) e zoom list map (v .value)
+schedule-then-view meets scheduled-it view viewed-it = view .living (meets .here scheduled-it) viewed-it
