@@ -11,7 +11,7 @@ use std::hint::black_box;
 use oracle::mark::write_marks;
 use oracle::sample::{marks, Shape};
 use oracle::sheet::join;
-use rollmap::{map_bytes, scheduled_bytes, work_bytes, View, Zoom};
+use rollmap::{map_bytes, scheduled_bytes, work_bytes, View, Work, Zoom};
 
 use plain::schedule::Desk;
 use race::{race, Micros};
@@ -102,7 +102,7 @@ fn time_scheduling(sheet: &[u8], n: usize, calls: u32) -> [Micros; 3] {
         ROUNDS,
         calls,
         [
-            &mut || _ = black_box(rollmap::schedule(sheet, &mut work, &mut ours)),
+            &mut || _ = black_box(rollmap::schedule(sheet, Work(&mut work), &mut ours)),
             &mut || _ = black_box(desk.schedule(sheet, &mut theirs)),
             &mut || core.settle(),
         ],
@@ -315,8 +315,11 @@ fn viewing() {
 
 /// The number of steps of a walk over a whole map with the proved library.
 fn walk_proved(map: &[u8]) -> usize {
-    let shown = rollmap::shown(black_box(map), MOST as u32);
-    shown.map_or(0, Iterator::count)
+    let next = |start| {
+        let step = rollmap::walk(black_box(map), MOST as u32, start);
+        step.expect("the map is long enough")
+    };
+    std::iter::successors(next(0), |&mark| next(mark + 1)).count()
 }
 
 /// The number of steps of a walk over a whole map in plain Rust.

@@ -9,16 +9,14 @@
 //! [`Refusal`], and then no buffer is written.
 //!
 //! ```
-//! use rollmap::{assemble, schedule_to_vec, view_to_map, View, Zoom};
+//! use rollmap::{assemble, contents_bytes, marks_to_vec, records, schedule_to_vec, view_to_map};
+//! use rollmap::{Mark, Record, View, Zoom};
 //!
-//! // Two marks of radius 10 and kind 0 at (0, 0) and (100, 0); the first has the
-//! // higher priority. They touch at zoom 5.
-//! let marks = [
-//!     [0, 0, 0, 0, 10, 0, 9, 0, 0, 0, 0],
-//!     [100, 0, 0, 0, 10, 0, 5, 0, 0, 0, 0],
-//! ]
-//! .concat();
-//! let mut sheet = vec![0; 12 + marks.len()];
+//! // Two marks at (0, 0) and (100, 0); the first has the higher priority. They touch at
+//! // zoom 5.
+//! let mark = |x, priority| Mark { x, y: 0, radius: 10, priority, kind: 0, tag: 0 };
+//! let marks = marks_to_vec(&[mark(0, 9), mark(100, 5)]);
+//! let mut sheet = vec![0; contents_bytes(1) + marks.len()];
 //! assemble(1, [&marks, &[], &[]], &mut sheet)?;
 //! let scheduled = schedule_to_vec(&sheet)?;
 //!
@@ -27,21 +25,28 @@
 //! assert!(near.iter().eq([0, 1]));
 //! let far = view_to_map(&scheduled, at(5.0))?;
 //! assert!(far.iter().eq([0]));
+//!
+//! let gone = Record::Removed { eliminator: 0, numerator: 10_000, denominator: 400 };
+//! assert!(records(&scheduled).unwrap().eq([Record::Never, gone]));
 //! # Ok::<(), rollmap::Refusal>(())
 //! ```
 
 #![deny(unsafe_code, missing_docs)]
 
 mod ffi;
+mod mark;
+mod record;
 mod refusal;
 mod sheet;
 mod view;
 mod walk;
 
+pub use mark::{marks, marks_to_vec, Mark, MARK_BYTES};
+pub use record::{records, Record, RECORD_BYTES};
 pub use refusal::Refusal;
 pub use sheet::{
-    assemble, check, mark_count, part, schedule, schedule_to_vec, scheduled_bytes, work_bytes,
-    MARK_BYTES, MOST_MARKS,
+    assemble, check, contents_bytes, mark_count, part, schedule, schedule_to_vec, scheduled_bytes,
+    work_bytes, Work, MOST_MARKS,
 };
 pub use view::{map_bytes, view, view_to_map, Map, View, Zoom};
 pub use walk::{is_shown, shown, walk, Shown};

@@ -5,9 +5,11 @@ use std::fmt;
 
 use crate::ffi::Answer;
 
-/// The first question that was answered with no. Its number is the document's.
+/// The first question that was answered with no. Its number is the document's. More may
+/// come.
 #[derive(Clone, Copy, Debug, PartialEq, Eq, Hash)]
 #[repr(u32)]
+#[non_exhaustive]
 pub enum Refusal {
     /// 1: the number of parts, or the contents, of a sheet.
     Contents = 1,
@@ -41,7 +43,7 @@ pub enum Refusal {
 
 impl Refusal {
     /// Every refusal, by rising number.
-    pub const ALL: [Self; 14] = [
+    pub const ALL: &'static [Self] = &[
         Self::Contents,
         Self::Codes,
         Self::Bodies,
@@ -58,16 +60,15 @@ impl Refusal {
         Self::Program,
     ];
 
-    /// The question's number, 1 to 14.
+    /// The question's number.
     pub const fn number(self) -> u32 {
         self as u32
     }
 
     /// The refusal of that number.
     pub fn from_number(number: u32) -> Option<Self> {
-        Self::ALL
-            .into_iter()
-            .find(|refusal| refusal.number() == number)
+        let mut all = Self::ALL.iter().copied();
+        all.find(|refusal| refusal.number() == number)
     }
 
     /// The question in words.
@@ -135,9 +136,9 @@ mod tests {
 
     #[test]
     fn numbers_are_1_to_14_in_order() {
-        let numbers = Refusal::ALL.map(Refusal::number);
-        assert!(numbers.into_iter().eq(1..=14));
-        for refusal in Refusal::ALL {
+        let numbers = Refusal::ALL.iter().map(|refusal| refusal.number());
+        assert!(numbers.eq(1..=14));
+        for &refusal in Refusal::ALL {
             assert_eq!(Refusal::from_number(refusal.number()), Some(refusal));
         }
         assert_eq!(Refusal::from_number(0), None);

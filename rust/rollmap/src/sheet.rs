@@ -1,12 +1,14 @@
 //! Checking, scheduling and putting together a sheet, and reading its parts.
 
-use crate::{ffi, Refusal};
-
-/// Bytes a mark takes in part 1.
-pub const MARK_BYTES: usize = 11;
+use crate::{ffi, Refusal, MARK_BYTES};
 
 /// The most marks a sheet has.
 pub const MOST_MARKS: usize = 4_096;
+
+/// Bytes of the contents of a sheet of so many parts, which its first body follows.
+pub const fn contents_bytes(parts: usize) -> usize {
+    2 + 10 * parts
+}
 
 /// Bytes of the work buffer that scheduling n marks borrows.
 pub const fn work_bytes(n: usize) -> usize {
@@ -18,11 +20,17 @@ pub const fn scheduled_bytes(n: usize) -> usize {
     32 + 27 * n
 }
 
+/// A work buffer that is lent to scheduling: at least [`work_bytes`] of the marks, which
+/// hold anything before, and anything after a success. It has a type of its own so that
+/// it cannot be taken for the buffer that is written.
+#[derive(Debug)]
+pub struct Work<'a>(pub &'a mut [u8]);
+
 /// Checks a sheet.
 ///
 /// # Errors
 ///
-/// Asks 1 to 9.
+/// Asks [1 to 9](Refusal).
 pub fn check(sheet: &[u8]) -> Result<(), Refusal> {
     let value = ffi::check(sheet).settle(0)?;
     debug_assert_eq!(value, 0, "an accepted sheet has no value");
@@ -31,14 +39,14 @@ pub fn check(sheet: &[u8]) -> Result<(), Refusal> {
 
 /// Schedules a sheet afresh into `out`, with its index, whatever schedule it has,
 /// and answers the number of bytes written, [`scheduled_bytes`] of its marks.
-/// Bytes past these stay as they are. `work` has at least [`work_bytes`] of the
-/// marks, holds anything before, and anything after a success.
+/// Bytes past these stay as they are.
 ///
 /// # Errors
 ///
-/// Asks 1 to 9, and 13 of both buffers. A refused call writes to neither.
-pub fn schedule(sheet: &[u8], work: &mut [u8], out: &mut [u8]) -> Result<usize, Refusal> {
-    let written = ffi::schedule(sheet, work, out).settle(0)?;
+/// Asks [1 to 9](Refusal), and [13](Refusal::Buffer) of both buffers. A refused call
+/// writes to neither.
+pub fn schedule(sheet: &[u8], work: Work<'_>, out: &mut [u8]) -> Result<usize, Refusal> {
+    let written = ffi::schedule(sheet, work.0, out).settle(0)?;
     Ok(written as usize)
 }
 
@@ -46,24 +54,24 @@ pub fn schedule(sheet: &[u8], work: &mut [u8], out: &mut [u8]) -> Result<usize, 
 ///
 /// # Errors
 ///
-/// Asks 1 to 9.
+/// Asks [1 to 9](Refusal).
 pub fn schedule_to_vec(sheet: &[u8]) -> Result<Vec<u8>, Refusal> {
     let n = mark_count(sheet).unwrap_or(0);
     let mut work = vec![0; work_bytes(n)];
     let mut out = vec![0; scheduled_bytes(n)];
-    let written = schedule(sheet, &mut work, &mut out)?;
+    let written = schedule(sheet, Work(&mut work), &mut out)?;
     out.truncate(written);
     Ok(out)
 }
 
 /// Puts the first `parts` bodies together into a sheet in `out`, and answers the
-/// number of bytes written: 2, 10 for each part, and the bodies. Further bodies are
-/// ignored, and bytes past the sheet stay as they are.
+/// number of bytes written: [`contents_bytes`] of the parts, and the bodies. Further
+/// bodies are ignored, and bytes past the sheet stay as they are.
 ///
 /// # Errors
 ///
-/// Asks 1 of `parts`, 4 to 9 of the bodies, and 13 of `out`. A refused call writes
-/// nothing.
+/// Asks [1](Refusal::Contents) of `parts`, [4 to 9](Refusal) of the bodies, and
+/// [13](Refusal::Buffer) of `out`. A refused call writes nothing.
 pub fn assemble(parts: u32, bodies: [&[u8]; 3], out: &mut [u8]) -> Result<usize, Refusal> {
     let written = ffi::assemble(parts, bodies, out).settle(0)?;
     Ok(written as usize)

@@ -50,7 +50,7 @@ pub const fn map_bytes(n: usize) -> usize {
 ///
 /// # Errors
 ///
-/// Asks 1 to 13. A refused call writes nothing.
+/// Asks [1 to 13](Refusal). A refused call writes nothing.
 pub fn view(sheet: &[u8], view: View, map: &mut [u8]) -> Result<u32, Refusal> {
     ffi::view(sheet, view, map).settle(0)
 }
@@ -60,7 +60,7 @@ pub fn view(sheet: &[u8], view: View, map: &mut [u8]) -> Result<u32, Refusal> {
 ///
 /// # Errors
 ///
-/// Asks 1 to 12.
+/// Asks [1 to 12](Refusal).
 pub fn view_to_map(sheet: &[u8], view: View) -> Result<Map, Refusal> {
     let marks = mark_count(sheet).unwrap_or(0);
     let mut bytes = vec![0; map_bytes(marks)];

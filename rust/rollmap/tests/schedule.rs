@@ -13,7 +13,7 @@ use oracle::process::{schedule_by_process, schedule_by_sorted_pairs};
 use oracle::record::{read_records, Record};
 use oracle::sample::{marks, small_choice, Generator, Shape};
 use oracle::tree::read_tree;
-use rollmap::{schedule_to_vec, scheduled_bytes, work_bytes};
+use rollmap::{schedule_to_vec, scheduled_bytes, work_bytes, Work};
 
 /// Schedules a sheet in buffers of these lengths, and sees that nothing but the
 /// scheduled sheet is written, or nothing at all. Answers the number.
@@ -21,7 +21,7 @@ fn schedule_in(sheet: &[u8], work: usize, out: usize, expected: Result<&[u8], u3
     let seed = (sheet.len() + work + out) as u64;
     let (mut work, mut out) = (Lent::new(work, seed), Lent::new(out, seed >> 1));
     let mut lent_sheet = Lent::holding(sheet, seed >> 2);
-    let answer = rollmap::schedule(lent_sheet.slice(), work.slice(), out.slice());
+    let answer = rollmap::schedule(lent_sheet.slice(), Work(work.slice()), out.slice());
     lent_sheet.assert_untouched();
     match expected {
         Ok(scheduled) => {
@@ -195,7 +195,7 @@ fn what_the_work_buffer_held_makes_no_difference() {
                     _ => {} // what the turn before left
                 }
                 out.fill(turn);
-                let written = rollmap::schedule(&sheet, &mut work, &mut out);
+                let written = rollmap::schedule(&sheet, Work(&mut work), &mut out);
                 assert_eq!(written, Ok(expected.len()));
                 assert!(out == expected, "{shape:?} {n} {turn}");
             }

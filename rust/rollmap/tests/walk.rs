@@ -29,7 +29,14 @@ fn is_shown(map: &[u8], n: u32, mark: u32) -> bool {
 
 /// All that a walk hands out, once it is seen to be the set bits.
 fn walked(map: &[u8], n: u32) -> Vec<u32> {
-    let found: Vec<u32> = rollmap::shown(map, n).unwrap().collect();
+    let mut shown = rollmap::shown(map, n).unwrap();
+    let mut found = Vec::new();
+    let all = shown.len();
+    while let Some(mark) = shown.next() {
+        found.push(mark);
+        assert_eq!(shown.len(), all - found.len(), "exactly so many are left");
+    }
+    assert_eq!(found.len(), all);
     let set = (0..n).filter(|&mark| is_set(map, mark as usize));
     assert!(found.iter().copied().eq(set), "{map:02x?} {n}");
     found

@@ -1,0 +1,74 @@
+//! Marks and records by their fields, compared with the oracle's.
+
+mod common;
+
+use common::{one_part, scheduled, three_parts, P1};
+use oracle::fraction::Removal;
+use oracle::process::schedule_in_rank_order;
+use oracle::sample::{marks, Shape};
+use rollmap::{marks_to_vec, Mark, Record};
+
+/// A mark of the oracle as the bindings have it.
+fn bound(mark: &oracle::mark::Mark) -> Mark {
+    Mark {
+        x: mark.x,
+        y: mark.y,
+        radius: mark.radius,
+        priority: mark.priority,
+        kind: mark.kind,
+        tag: mark.tag,
+    }
+}
+
+/// A record of the oracle as the bindings have it.
+fn bound_record(record: &oracle::record::Record) -> Record {
+    match record.removal() {
+        Removal::Never => Record::Never,
+        Removal::At(value) => Record::Removed {
+            eliminator: record.eliminator,
+            numerator: value.numerator,
+            denominator: value.denominator,
+        },
+    }
+}
+
+#[test]
+fn marks_and_records_are_the_oracles() {
+    for shape in Shape::ALL {
+        for n in [0, 1, 2, 100] {
+            let marks = marks(shape, n, 8);
+            let records = schedule_in_rank_order(&marks);
+            let sheet = three_parts(&marks, &records);
+
+            let own = rollmap::marks(&sheet).unwrap();
+            assert_eq!(own.len(), n);
+            assert!(own.eq(marks.iter().map(bound)));
+
+            let own = rollmap::records(&sheet).unwrap();
+            assert_eq!(own.len(), n);
+            assert!(own.eq(records.iter().map(bound_record)));
+        }
+    }
+}
+
+#[test]
+fn written_marks_are_part_1() {
+    for shape in Shape::ALL {
+        let sheet = one_part(&marks(shape, 50, 9));
+        let own: Vec<Mark> = rollmap::marks(&sheet).unwrap().collect();
+        assert_eq!(
+            rollmap::part(&sheet, 1),
+            Some(marks_to_vec(&own).as_slice())
+        );
+    }
+}
+
+#[test]
+fn a_refused_sheet_has_neither() {
+    let sheet = scheduled(&P1);
+    let cut = &sheet[..sheet.len() - 1];
+    assert!(rollmap::marks(cut).is_none());
+    assert!(rollmap::records(cut).is_none());
+    assert!(rollmap::marks(&one_part(&P1)).is_some());
+    assert!(rollmap::records(&one_part(&P1)).is_none());
+}
