@@ -1,15 +1,25 @@
 /*
  * The roll map library: which labels of a reel of paper are shown at which zoom.
  *
- * Link with librollmap.a. All calls answer by value; nothing is allocated or kept,
- * there is no state, and any thread may call at any time.
+ * Link with librollmap.a, which is for x86-64 Linux and needs of other libraries only
+ * memset. All calls answer by value; nothing is allocated or kept, there is no state, and
+ * any thread may call at any time. A call takes less than 8 KiB of stack.
  *
- * A buffer is a pointer and its length in bytes. The pointer is never null, not even
- * where the length is 0. A buffer that is written (work, out, map) overlaps no other
- * buffer of the same call.
+ * A sheet is bytes: contents, then up to three parts, as docs/FORMAT.md has them. Part 1
+ * has 11 bytes a mark, so that the number n of a sheet's marks is the length of part 1
+ * over 11 (rollmap_part tells it).
+ *
+ * A buffer is a pointer and its length in bytes. It needs no alignment. What the caller
+ * answers for, since no call can see it:
+ *   - There are that many bytes at the pointer, and those of a buffer that is only read
+ *     are initialised. The pointer is not null, not even where the length is 0; only a
+ *     body that rollmap_assemble ignores may be a null pointer with length 0.
+ *   - A buffer that is written (work, out, map) overlaps no other buffer of the call.
+ *   - While a call runs, no other thread writes any of its buffers, and none reads those
+ *     that are written. Any number of calls may read the same bytes at a time.
  *
  * Every call puts its questions in turn. The first that is answered with no gives its
- * number, and then the call has written nothing:
+ * number, and then the call has written nothing: look at the number before the value.
  *
  *    1  there are 2 bytes, 1 to 3 parts, and the whole contents
  *    2  the codes are 1, 2, .. in order
@@ -25,7 +35,8 @@
  *   10  parts 2 and 3 are there
  *   11  x0 is at most x1, and y0 at most y1
  *   12  the zoom is taken
- *   13  each written or work buffer, and a walked map, is long enough
+ *   13  each written or work buffer, and a walked map, is long enough; at most 4,096
+ *       marks are walked
  */
 #ifndef ROLLMAP_H
 #define ROLLMAP_H
@@ -37,10 +48,39 @@
 extern "C" {
 #endif
 
+/* The version of this header and of the library. */
+#define ROLLMAP_VERSION "0.1.0"
+
+/* The numbers of an answer: success, or the question that was answered with no. More may
+   come. */
+#define ROLLMAP_SUCCESS 0u
+#define ROLLMAP_REFUSED_CONTENTS 1u
+#define ROLLMAP_REFUSED_CODES 2u
+#define ROLLMAP_REFUSED_BODIES 3u
+#define ROLLMAP_REFUSED_MARKS 4u
+#define ROLLMAP_REFUSED_KIND 5u
+#define ROLLMAP_REFUSED_RADIUS 6u
+#define ROLLMAP_REFUSED_LENGTHS 7u
+#define ROLLMAP_REFUSED_SCHEDULE 8u
+#define ROLLMAP_REFUSED_INDEX 9u
+#define ROLLMAP_REFUSED_UNSCHEDULED 10u
+#define ROLLMAP_REFUSED_EDGES 11u
+#define ROLLMAP_REFUSED_ZOOM 12u
+#define ROLLMAP_REFUSED_BUFFER 13u
+
 /* The most marks of a sheet. */
 #define ROLLMAP_MOST_MARKS 4096u
 
-/* What a walk answers where it finds no mark. */
+/* Bytes of a mark in part 1, of a record in part 2, of a number in part 3. */
+#define ROLLMAP_MARK_BYTES 11u
+#define ROLLMAP_RECORD_BYTES 14u
+#define ROLLMAP_INDEX_BYTES 2u
+
+/* Bytes of the contents of a sheet of so many parts, which the first body follows. */
+#define ROLLMAP_CONTENTS_BYTES(parts) ((size_t)10 * (parts) + 2)
+
+/* What a walk answers where it finds no mark, and what a record has for an eliminator
+   where its mark is never removed. */
 #define ROLLMAP_NO_MARK 65535u
 
 /* Bytes that scheduling n marks needs: of work, and of out. */
@@ -75,9 +115,9 @@ struct rollmap_answer rollmap_schedule(const uint8_t *sheet, size_t sheet_length
                                        uint8_t *out, size_t out_length);
 
 /* Puts the first `parts` bodies (1 the marks, 2 the schedule, 3 the index) together into
-   a sheet in out, and leaves what follows there as it is. Further bodies are ignored. The
-   value is the number of bytes written: 2, 10 for each part, and the bodies. Asks 1 (of
-   the number of parts only), 4 to 9, and 13 of out. */
+   a sheet in out, and leaves what follows there as it is. Further bodies are ignored, and
+   may be null with length 0. The value is the number of bytes written: 2, 10 for each
+   part, and the bodies. Asks 1 (of the number of parts only), 4 to 9, and 13 of out. */
 struct rollmap_answer rollmap_assemble(uint32_t parts,
                                        const uint8_t *body1, size_t body1_length,
                                        const uint8_t *body2, size_t body2_length,

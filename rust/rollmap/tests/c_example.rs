@@ -1,8 +1,11 @@
 //! The C header: a program in C is compiled against it, linked with the archive and
-//! run, once as C and once as C++.
+//! run, once as C and once as C++; and what the header says of numbers and of the stack
+//! is seen to be so.
 
 use std::path::{Path, PathBuf};
 use std::process::Command;
+
+use rollmap::Refusal;
 
 /// The archive that this crate was built with.
 const ARCHIVE: &str = env!("ROLLMAP_ARCHIVE");
@@ -28,7 +31,12 @@ cut short: 3 0
 its part 1 at 0, 0 bytes
 crossed edges: 11 0, map ee
 short map: 13 65535
+no bodies 2 and 3: 0 56
+no body 3: 0 122
+no parts: 1 0
 ";
+
+const HEADER: &str = include_str!("../../../include/rollmap.h");
 
 /// A path in this crate's folder.
 fn in_crate(path: &str) -> PathBuf {
@@ -43,15 +51,16 @@ fn run(command: &mut Command) -> String {
     String::from_utf8(output.stdout).expect("it prints text")
 }
 
-/// Compiles the program with these words, runs it, and answers what it prints.
-fn compile_and_run(name: &str, compiler: &str, words: &[&str]) -> String {
+/// Compiles a program of this folder with these words, runs it, and answers what it
+/// prints.
+fn compile_and_run(source: &str, name: &str, compiler: &str, words: &[&str]) -> String {
     let program = Path::new(env!("CARGO_TARGET_TMPDIR")).join(name);
     let mut compile = Command::new(compiler);
     compile
         .args(words)
         .args(["-O1", "-Wall", "-Wextra", "-Wpedantic", "-Werror", "-I"])
         .arg(in_crate("../../include"))
-        .arg(in_crate("tests/example.c"))
+        .arg(in_crate("tests").join(source))
         .args(["-x", "none", ARCHIVE, "-o"])
         .arg(&program);
     run(&mut compile);
@@ -60,11 +69,73 @@ fn compile_and_run(name: &str, compiler: &str, words: &[&str]) -> String {
 
 #[test]
 fn a_c_program_uses_the_library() {
-    assert_eq!(compile_and_run("example_c", "cc", &["-std=c99"]), EXPECTED);
+    let printed = compile_and_run("example.c", "example_c", "cc", &["-std=c99"]);
+    assert_eq!(printed, EXPECTED);
 }
 
 #[test]
 fn a_cpp_program_uses_the_library() {
     let words = ["-std=c++11", "-x", "c++"];
-    assert_eq!(compile_and_run("example_cpp", "c++", &words), EXPECTED);
+    let printed = compile_and_run("example.c", "example_cpp", "c++", &words);
+    assert_eq!(printed, EXPECTED);
+}
+
+/// The numbers that the header defines with this beginning of a name, by the rest of it.
+fn defined(beginning: &str) -> Vec<(&'static str, u32)> {
+    let number = |line: &'static str| {
+        let (name, number) = line.strip_prefix(beginning)?.split_once(' ')?;
+        Some((name, number.strip_suffix('u')?.parse().ok()?))
+    };
+    HEADER.lines().filter_map(number).collect()
+}
+
+#[test]
+fn the_header_names_every_refusal_of_a_call() {
+    let own = |refusal: &Refusal| (format!("{refusal:?}").to_uppercase(), refusal.number());
+    let asked = Refusal::ALL
+        .iter()
+        .filter(|&&refusal| refusal != Refusal::Program);
+    let named = defined("#define ROLLMAP_REFUSED_").into_iter();
+    assert!(named
+        .map(|(name, number)| (name.to_owned(), number))
+        .eq(asked.map(own)));
+}
+
+#[test]
+fn the_header_has_the_sizes_and_the_version_of_this_crate() {
+    let sizes = [
+        ("MOST_MARKS", rollmap::MOST_MARKS),
+        ("MARK_BYTES", rollmap::MARK_BYTES),
+        ("RECORD_BYTES", rollmap::RECORD_BYTES),
+    ];
+    for (name, size) in sizes {
+        assert!(
+            defined("#define ROLLMAP_").contains(&(name, size as u32)),
+            "{name}"
+        );
+    }
+    let version = concat!(
+        "#define ROLLMAP_VERSION \"",
+        env!("CARGO_PKG_VERSION"),
+        "\"\n"
+    );
+    assert!(HEADER.contains(version));
+}
+
+/// The most bytes of stack that the header says a call takes.
+const STACK: usize = 8 * 1024;
+
+#[test]
+fn every_call_takes_less_stack_than_the_header_says() {
+    let words = ["-std=c99", "-pthread"];
+    let printed = compile_and_run("stack.c", "stack", "cc", &words);
+    let calls = printed.lines().map(|line| {
+        let (name, bytes) = line.split_once(": ").expect("a name and a number");
+        (name, bytes.parse::<usize>().expect("a number"))
+    });
+    let calls: Vec<(&str, usize)> = calls.collect();
+    assert_eq!(calls.len(), 7);
+    for (name, bytes) in calls {
+        assert!(bytes < STACK, "{name} takes {bytes}");
+    }
 }

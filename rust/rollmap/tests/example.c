@@ -7,7 +7,7 @@
 #define N 4
 
 /* x, y, radius, priority; kind 0, tag 0. */
-static const uint8_t marks[11 * N] = {
+static const uint8_t marks[ROLLMAP_MARK_BYTES * N] = {
     0,   0, 0, 0, 10, 0, 9, 0, 0, 0, 0, /* (0, 0), 10, 9 */
     100, 0, 0, 0, 10, 0, 5, 0, 0, 0, 0, /* (100, 0), 10, 5 */
     200, 0, 0, 0, 10, 0, 5, 0, 0, 0, 0, /* (200, 0), 10, 5 */
@@ -31,14 +31,14 @@ static void print_schedule(const uint8_t *sheet, size_t length)
 
     printf("part 2 at %u, %u bytes\n", schedule.offset, schedule.length);
     for (m = 0; m < N; m++) {
-        const uint8_t *record = sheet + schedule.offset + 14 * m;
+        const uint8_t *record = sheet + schedule.offset + ROLLMAP_RECORD_BYTES * m;
         printf("%u: %u %lu %lu\n", m, (unsigned)number_at(record, 2),
                (unsigned long)number_at(record + 2, 8),
                (unsigned long)number_at(record + 10, 4));
     }
     printf("part 3 at %u, %u bytes:", index.offset, index.length);
     for (m = 0; m < N; m++)
-        printf(" %u", (unsigned)number_at(sheet + index.offset + 2 * m, 2));
+        printf(" %u", (unsigned)number_at(sheet + index.offset + ROLLMAP_INDEX_BYTES * m, ROLLMAP_INDEX_BYTES));
     printf("\npart 4 at %u, %u bytes\n", none.offset, none.length);
 }
 
@@ -66,6 +66,22 @@ static void print_views(const uint8_t *sheet, size_t length)
     print_view("stop 17", rollmap_view_stop(sheet, length, -32768, 32767, -32768, 32767, 17, map, 2), map);
 }
 
+/* The bodies that are left out may be null. */
+static void print_ignored(const uint8_t *sheet)
+{
+    uint8_t out[ROLLMAP_SCHEDULED_BYTES(N)];
+    struct rollmap_answer answer;
+    const uint8_t *body1 = sheet + ROLLMAP_CONTENTS_BYTES(3);
+    const size_t length1 = ROLLMAP_MARK_BYTES * N, length2 = ROLLMAP_RECORD_BYTES * N;
+
+    answer = rollmap_assemble(1, body1, length1, NULL, 0, NULL, 0, out, sizeof out);
+    printf("no bodies 2 and 3: %u %u\n", answer.number, answer.value);
+    answer = rollmap_assemble(2, body1, length1, body1 + length1, length2, NULL, 0, out, sizeof out);
+    printf("no body 3: %u %u\n", answer.number, answer.value);
+    answer = rollmap_assemble(0, NULL, 0, NULL, 0, NULL, 0, out, sizeof out);
+    printf("no parts: %u %u\n", answer.number, answer.value);
+}
+
 static void print_refusals(const uint8_t *sheet, size_t length)
 {
     struct rollmap_answer answer;
@@ -84,7 +100,7 @@ static void print_refusals(const uint8_t *sheet, size_t length)
 
 int main(void)
 {
-    uint8_t sheet[12 + 11 * N];
+    uint8_t sheet[ROLLMAP_CONTENTS_BYTES(1) + sizeof marks];
     uint8_t work[ROLLMAP_WORK_BYTES(N)];
     uint8_t out[ROLLMAP_SCHEDULED_BYTES(N) + 1];
     struct rollmap_answer answer;
@@ -101,5 +117,6 @@ int main(void)
     print_schedule(out, sizeof out - 1);
     print_views(out, sizeof out - 1);
     print_refusals(out, sizeof out - 1);
+    print_ignored(out);
     return 0;
 }

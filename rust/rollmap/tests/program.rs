@@ -2,9 +2,13 @@
 
 mod common;
 
+use std::fs::{self, File};
 use std::io::{ErrorKind, Write};
-use std::process::{Command, Stdio};
-use std::{fs, thread};
+use std::os::fd::OwnedFd;
+use std::os::unix::net::UnixStream;
+use std::path::Path;
+use std::process::{Command, Output, Stdio};
+use std::thread;
 
 use common::{foreign_records, one_part, scheduled, some_sheet, three_parts, P1};
 use oracle::mark::Mark;
@@ -17,12 +21,21 @@ const PROGRAM: &str = concat!(env!("CARGO_MANIFEST_DIR"), "/../../target/bin/sch
 /// The sheet that `rt` runs the program on, and the text that it must write.
 const KEPT_RUN: &str = concat!(env!("CARGO_MANIFEST_DIR"), "/../../crates/schedule");
 
+/// The script that tells by its status how the program went.
+const SCRIPT: &str = concat!(env!("CARGO_MANIFEST_DIR"), "/../../print-schedule");
+
+/// What the program says of a read that failed, and of a write.
+const UNREAD: &str = "schedule: standard input cannot be read; nothing is printed\n";
+const UNWRITTEN: &str =
+    "schedule: standard output cannot be written; what is printed is not whole\n";
+
 /// What the program writes on an input that comes in pieces of at most so many
 /// bytes.
 fn run_in_pieces(input: &[u8], piece: usize) -> String {
     let mut program = Command::new(PROGRAM)
         .stdin(Stdio::piped())
         .stdout(Stdio::piped())
+        .stderr(Stdio::piped())
         .spawn()
         .expect("the program is built: run `rt check schedule`");
     let mut stdin = program.stdin.take().unwrap();
@@ -39,6 +52,7 @@ fn run_in_pieces(input: &[u8], piece: usize) -> String {
         program.wait_with_output().unwrap()
     });
     assert!(output.status.success());
+    assert!(output.stderr.is_empty());
     String::from_utf8(output.stdout).unwrap()
 }
 
@@ -150,4 +164,108 @@ fn an_input_that_comes_in_pieces() {
     for piece in [1, 11, 4_095, 4_096, 4_097] {
         assert_eq!(run_in_pieces(&sheet, piece), text);
     }
+}
+
+// ---- what fails
+
+/// Runs a command of the shell in which `$0` is the program, and `$1` the sheet of the
+/// kept run.
+fn run_by_shell(command: &str) -> Output {
+    let kept = format!("{KEPT_RUN}/stdin");
+    let output = Command::new("sh")
+        .args(["-c", command, PROGRAM, &kept])
+        .output();
+    output.expect("there is a shell")
+}
+
+/// Asserts that a run printed this, said that on standard error, and ended with 0.
+fn assert_ended(output: &Output, printed: &str, said: &str) {
+    assert_eq!(String::from_utf8_lossy(&output.stdout), printed);
+    assert_eq!(String::from_utf8_lossy(&output.stderr), said);
+    assert!(output.status.success());
+}
+
+#[test]
+fn a_read_that_fails_is_told_and_nothing_is_printed() {
+    assert_ended(&run_by_shell("exec \"$0\" <&-"), "", UNREAD);
+    assert_ended(&run_by_shell("exec \"$0\" </"), "", UNREAD);
+}
+
+#[test]
+fn an_input_that_would_block_is_not_taken_for_a_short_one() {
+    let (mut writer, reader) = UnixStream::pair().unwrap();
+    reader.set_nonblocking(true).unwrap();
+    // The sheet is there whole, but its end is not.
+    writer.write_all(&one_part(&P1)).unwrap();
+    let output = Command::new(PROGRAM)
+        .stdin(OwnedFd::from(reader))
+        .output()
+        .unwrap();
+    assert_ended(&output, "", UNREAD);
+}
+
+#[test]
+fn a_write_that_fails_is_told() {
+    let full = "exec \"$0\" <\"$1\" >/dev/full";
+    assert_ended(&run_by_shell(full), "", UNWRITTEN);
+    let closed = "exec \"$0\" <\"$1\" >&-";
+    assert_ended(&run_by_shell(closed), "", UNWRITTEN);
+    // A refusal is written like any text.
+    let refusal = "exec \"$0\" </dev/null >/dev/full";
+    assert_ended(&run_by_shell(refusal), "", UNWRITTEN);
+}
+
+#[test]
+fn a_write_that_is_cut_short_is_told() {
+    let folder = Path::new(env!("CARGO_TARGET_TMPDIR"));
+    let (sheet, out) = (folder.join("cut_short_sheet"), folder.join("cut_short"));
+    let input = one_part(&marks(Shape::Uniform, 500, 6));
+    fs::write(&sheet, &input).unwrap();
+    // The file takes one block, and the signal that goes with it is ignored.
+    let output = Command::new("sh")
+        .args(["-c", "trap '' XFSZ; ulimit -f 1; exec \"$0\""])
+        .arg(PROGRAM)
+        .stdin(File::open(sheet).unwrap())
+        .stdout(File::create(&out).unwrap())
+        .output()
+        .unwrap();
+    assert_ended(&output, "", UNWRITTEN);
+    let (written, text) = (fs::read_to_string(out).unwrap(), run(&input));
+    assert!(!written.is_empty() && written.len() < text.len());
+    assert!(text.starts_with(&written));
+}
+
+#[test]
+fn the_script_tells_by_its_status() {
+    let status = |command: &str| {
+        let output = Command::new("sh")
+            .args(["-c", command, SCRIPT, &format!("{KEPT_RUN}/stdin")])
+            .output();
+        let output = output.expect("there is a shell");
+        (
+            output.status.code(),
+            String::from_utf8(output.stdout).unwrap(),
+        )
+    };
+    let printed = fs::read_to_string(format!("{KEPT_RUN}/stdout")).unwrap();
+    assert_eq!(status("exec \"$0\" <\"$1\""), (Some(0), printed));
+    let refused = String::from("refused 1\n");
+    assert_eq!(status("exec \"$0\" </dev/null"), (Some(1), refused));
+    let nothing = String::new();
+    assert_eq!(status("exec \"$0\" </"), (Some(2), nothing.clone()));
+    assert_eq!(status("exec \"$0\" <\"$1\" >/dev/full"), (Some(2), nothing));
+}
+
+#[test]
+fn the_stack_that_the_readme_names_is_enough() {
+    let sheet = Path::new(env!("CARGO_TARGET_TMPDIR")).join("stack_sheet");
+    let input = one_part(&marks(Shape::Extreme, MOST_PRINTED, 7));
+    fs::write(&sheet, &input).unwrap();
+    let output = Command::new("sh")
+        .args(["-c", "ulimit -s 512; exec \"$0\""])
+        .arg(PROGRAM)
+        .stdin(File::open(sheet).unwrap())
+        .output()
+        .unwrap();
+    assert_ended(&output, &run(&input), "");
 }

@@ -1,0 +1,120 @@
+/* Prints how many bytes of stack each call takes on 4,096 marks: it runs on a stack of which
+   every byte has a known value beforehand. */
+#define _POSIX_C_SOURCE 200809L
+#include <pthread.h>
+#include <stdio.h>
+#include <stdlib.h>
+
+#include "rollmap.h"
+
+#define N ROLLMAP_MOST_MARKS
+#define PAINT 0xa5
+#define STACK_BYTES ((size_t)256 * 1024)
+#define OWN_BYTES 256 /* what the painting function itself has below its last local */
+
+static uint8_t marks[N * ROLLMAP_MARK_BYTES];
+static uint8_t sheet[ROLLMAP_CONTENTS_BYTES(1) + sizeof marks];
+static uint8_t work[ROLLMAP_WORK_BYTES(N)];
+static uint8_t out[ROLLMAP_SCHEDULED_BYTES(N)];
+static uint8_t map[ROLLMAP_MAP_BYTES(N)];
+
+static uint32_t assemble(void)
+{
+    return rollmap_assemble(1, marks, sizeof marks, NULL, 0, NULL, 0, sheet, sizeof sheet).number;
+}
+
+static uint32_t schedule(void)
+{
+    return rollmap_schedule(sheet, sizeof sheet, work, sizeof work, out, sizeof out).number;
+}
+
+static uint32_t check(void)
+{
+    return rollmap_check(out, sizeof out).number;
+}
+
+static uint32_t view_stop(void)
+{
+    return rollmap_view_stop(out, sizeof out, -32768, 32767, -32768, 32767, 0, map, sizeof map).number;
+}
+
+static uint32_t view_wheel(void)
+{
+    return rollmap_view_wheel(out, sizeof out, -32768, 32767, -32768, 32767, 1, map, sizeof map).number;
+}
+
+static uint32_t walk(void)
+{
+    return rollmap_walk(map, sizeof map, N, 0).number;
+}
+
+static uint32_t part(void)
+{
+    return rollmap_part(out, sizeof out, 1).length != sizeof marks;
+}
+
+/* In an order in which each finds what it works on. */
+static const struct call {
+    const char *name;
+    uint32_t (*make)(void);
+} calls[] = {
+    {"assemble", assemble},   {"schedule", schedule},     {"check", check}, {"view_stop", view_stop},
+    {"view_wheel", view_wheel}, {"walk", walk},           {"part", part},
+};
+
+static uint8_t *stack;
+
+/* Paints the stack from its far end up to this function, makes the call, and looks how far
+   the paint is gone. */
+static void *measure(void *argument)
+{
+    const struct call *call = (const struct call *)argument;
+    volatile uint8_t here = 0;
+    uint8_t *near = (uint8_t *)&here - OWN_BYTES;
+    uint8_t *at;
+
+    for (at = stack; at < near; at++)
+        *(volatile uint8_t *)at = PAINT;
+    if (call->make() != ROLLMAP_SUCCESS)
+        return NULL;
+    for (at = stack; at < near && *(volatile uint8_t *)at == PAINT; at++)
+        ;
+    printf("%s: %lu\n", call->name, (unsigned long)((uint8_t *)&here - at));
+    return argument;
+}
+
+/* Marks all over the place, with radii below 256. */
+static void fill_marks(void)
+{
+    uint64_t state = 1;
+    size_t at;
+
+    for (at = 0; at < sizeof marks; at++) {
+        state ^= state << 13;
+        state ^= state >> 7;
+        state ^= state << 17;
+        marks[at] = (uint8_t)(state >> 40) % 200;
+        if (at % ROLLMAP_MARK_BYTES == 5)
+            marks[at] = 0;
+    }
+}
+
+int main(void)
+{
+    pthread_attr_t attributes;
+    pthread_t thread;
+    void *space, *done;
+    size_t i;
+
+    fill_marks();
+    if (posix_memalign(&space, 4096, STACK_BYTES) != 0 || pthread_attr_init(&attributes) != 0
+        || pthread_attr_setstack(&attributes, space, STACK_BYTES) != 0)
+        return 1;
+    stack = (uint8_t *)space;
+    for (i = 0; i < sizeof calls / sizeof calls[0]; i++) {
+        if (pthread_create(&thread, &attributes, measure, (void *)&calls[i]) != 0
+            || pthread_join(thread, &done) != 0 || done == NULL)
+            return 1;
+    }
+    return 0;
+}
