@@ -1,0 +1,92 @@
+//! What `docs/FORMAT.md` says of the bytes of a sheet, compared with the library.
+
+mod common;
+
+use common::{one_part, P1};
+use oracle::mark::{house_radius, Mark};
+use rollmap::schedule_to_vec;
+
+const FORMAT: &str = include_str!("../../../docs/FORMAT.md");
+
+/// The bytes of a line of the dump, and the offset that it names. A line is an offset,
+/// two spaces, bytes, and words, which begin at one column.
+fn dumped(line: &str) -> (usize, Vec<u8>) {
+    let (offset, rest) = line.split_at(6);
+    let bytes = &rest[..rest.len().min(44)];
+    let byte = |word| u8::from_str_radix(word, 16).expect("a byte");
+    (
+        usize::from_str_radix(offset.trim(), 16).expect("an offset"),
+        bytes.split_whitespace().map(byte).collect(),
+    )
+}
+
+/// A run of bytes in hexadecimal, as the text has it.
+fn hexadecimal(bytes: &[u8]) -> String {
+    let words: Vec<String> = bytes.iter().map(|byte| format!("{byte:02x}")).collect();
+    words.join(" ")
+}
+
+#[test]
+fn the_dump_is_the_scheduled_sheet() {
+    let (_, rest) = FORMAT.split_once("```text\n").expect("a dump");
+    let (dump, _) = rest.split_once("```").expect("its end");
+    let mut sheet = Vec::new();
+    for line in dump.lines() {
+        let (offset, bytes) = dumped(line);
+        assert_eq!(offset, sheet.len(), "{line}");
+        sheet.extend(bytes);
+    }
+    assert_eq!(Ok(sheet), schedule_to_vec(&one_part(&P1)));
+}
+
+#[test]
+fn the_sheets_in_the_text_are_accepted() {
+    let given = one_part(&P1);
+    assert_eq!(given.len(), 56);
+    assert!(FORMAT.contains(&format!(
+        "`{}`, `{}`",
+        hexadecimal(&given[..2]),
+        hexadecimal(&given[2..12])
+    )));
+    let empty = one_part(&[]);
+    assert_eq!(rollmap::check(&empty), Ok(()));
+    assert!(FORMAT.contains(&format!("`{}`", hexadecimal(&empty))));
+}
+
+#[test]
+fn the_house_radii_are_those_of_the_table() {
+    let cells = |line: &'static str| -> Option<(u8, u8, u16)> {
+        let [kinds, _, radius] = line
+            .trim_matches(['|', ' '])
+            .split(" | ")
+            .collect::<Vec<_>>()[..]
+        else {
+            return None;
+        };
+        let (first, last) = kinds.split_once(" to ")?;
+        Some((
+            first.parse().ok()?,
+            last.parse().ok()?,
+            radius.parse().ok()?,
+        ))
+    };
+    let rows: Vec<(u8, u8, u16)> = FORMAT.lines().filter_map(cells).collect();
+    assert_eq!(rows.len(), 5);
+    for kind in 0..200 {
+        let row = rows.iter().find(|row| (row.0..=row.1).contains(&kind));
+        let radius = row.expect("each kind has a row").2;
+        assert_eq!(house_radius(kind), Some(radius));
+        // Two marks of the kind with radius 0, a map unit apart, as the library has them.
+        let mark = |x| Mark {
+            kind,
+            ..Mark::plain(x, 0, 0, 0)
+        };
+        let sheet = schedule_to_vec(&one_part(&[mark(0), mark(1)])).unwrap();
+        let gone = rollmap::Record::Removed {
+            eliminator: 0,
+            numerator: 1,
+            denominator: (2 * u32::from(radius)).pow(2),
+        };
+        assert_eq!(rollmap::records(&sheet).unwrap().last(), Some(gone));
+    }
+}

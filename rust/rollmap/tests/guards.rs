@@ -1,0 +1,391 @@
+//! What `docs/GUARDS.md` says to those who delete a guard, run row by row.
+
+mod common;
+
+use std::io::Write;
+use std::process::{Command, Stdio};
+
+use common::{one_part, three_parts, P1};
+use oracle::fraction::{Fraction, Removal};
+use oracle::mark::{touching_value, Mark};
+use oracle::record::Record;
+use oracle::sample::{marks, Shape};
+use rollmap::{map_bytes, schedule_to_vec, view_to_map, Refusal, View, Zoom};
+
+const GUARDS: &str = include_str!("../../../docs/GUARDS.md");
+
+const PROGRAM: &str = concat!(env!("CARGO_MANIFEST_DIR"), "/../../target/bin/schedule");
+
+/// The sheet of these marks as scheduling writes it.
+fn scheduled(marks: &[Mark]) -> Vec<u8> {
+    schedule_to_vec(&one_part(marks)).unwrap()
+}
+
+/// The numbers of the marks that a view of all places shows.
+fn shown(sheet: &[u8], zoom: Zoom) -> Vec<u32> {
+    let map = view_to_map(sheet, View::whole(zoom)).unwrap();
+    map.iter().collect()
+}
+
+/// The zoom of which 64 times is k.
+fn wheel(k: u32) -> Zoom {
+    Zoom::Wheel(k as f32 / 64.0)
+}
+
+/// Whether two marks touch at k / 64.
+fn touch(a: &Mark, b: &Mark, k: u64) -> bool {
+    let value = touching_value(a, b);
+    4_096 * value.numerator <= k * k * u64::from(value.denominator)
+}
+
+/// What the program prints for a sheet.
+fn printed(sheet: &[u8]) -> String {
+    let mut program = Command::new(PROGRAM)
+        .stdin(Stdio::piped())
+        .stdout(Stdio::piped())
+        .spawn()
+        .expect("the program is built: run `rt check schedule`");
+    program.stdin.take().unwrap().write_all(sheet).unwrap();
+    let output = program.wait_with_output().unwrap();
+    String::from_utf8(output.stdout).unwrap()
+}
+
+#[test]
+fn every_test_that_the_page_names_is_here() {
+    let own = include_str!("guards.rs");
+    let rows = GUARDS.lines().filter(|line| line.starts_with("| "));
+    let last = rows.filter_map(|row| row.trim_end_matches(" |").rsplit_once(" | "));
+    let cells = last
+        .map(|(_, cell)| cell)
+        .filter(|cell| cell.starts_with('`'));
+    let sentences = GUARDS.lines().filter_map(|line| line.split_once("Test: "));
+    let named = cells.chain(sentences.map(|(_, name)| name.trim_end_matches('.')));
+    let names: Vec<&str> = named.flat_map(|names| names.split(", ")).collect();
+    assert_eq!(names.len(), 17);
+    for name in names {
+        let test = format!("#[test]\nfn {}()", name.trim_matches('`'));
+        assert!(own.contains(&test), "{name}");
+    }
+}
+
+#[test]
+fn a_foreign_schedule_is_accepted_and_scheduling_mends_it() {
+    let pair = [Mark::plain(0, 0, 10, 9), Mark::plain(100, 0, 10, 5)];
+    let foreign = three_parts(&pair, &[Record::NEVER; 2]);
+    assert_eq!(rollmap::check(&foreign), Ok(()));
+    assert!(touch(&pair[0], &pair[1], 320));
+    assert_eq!(shown(&foreign, wheel(320)), [0, 1]);
+
+    let mended = schedule_to_vec(&foreign).unwrap();
+    assert_eq!(shown(&mended, wheel(320)), [0]);
+    assert_eq!(schedule_to_vec(&mended), Ok(mended));
+}
+
+// ---- the cut list
+
+/// Two breaks of the house radius, so far apart, and how many a view at stop 0 shows.
+fn two_breaks(apart: i16, radius: u16) -> (Vec<u8>, usize) {
+    let mark = |x, priority| Mark {
+        kind: 150,
+        ..Mark::plain(x, 0, radius, priority)
+    };
+    let sheet = scheduled(&[mark(0, 2), mark(apart, 1)]);
+    let count = shown(&sheet, Zoom::Stop(0)).len();
+    (sheet, count)
+}
+
+#[test]
+fn the_cut_list_reads_part_1() {
+    // (200 + 200) / 64 is 6.25, and (16,383 + 16,383) / 64 a little under 512.
+    for (radius, last_gone) in [(0, 6), (200, 6), (16_383, 511)] {
+        for apart in [0, 1, last_gone - 1, last_gone, last_gone + 1] {
+            let (sheet, count) = two_breaks(apart, radius);
+            assert_eq!(count, if apart <= last_gone { 1 } else { 2 });
+            let part_1 = rollmap::marks(&sheet).unwrap();
+            assert!(part_1.map(|mark| mark.x).eq([0, apart]));
+        }
+    }
+    // No mark is missing in part 1, whatever the sheet.
+    for shape in Shape::ALL {
+        let marks = marks(shape, 200, 3);
+        let (given, sheet) = (one_part(&marks), scheduled(&marks));
+        assert_eq!(rollmap::part(&sheet, 1), rollmap::part(&given, 1));
+    }
+    // A refused sheet is not a reel without marks.
+    let (empty, refused) = (scheduled(&[]), &scheduled(&P1)[1..]);
+    assert_eq!(rollmap::part(&empty, 1), Some([].as_slice()));
+    assert_eq!(rollmap::part(refused, 1), None);
+}
+
+#[test]
+fn shown_marks_do_not_touch() {
+    for shape in Shape::ALL {
+        let marks = marks(shape, 150, 5);
+        let sheet = scheduled(&marks);
+        for stop in 0..=16 {
+            let shown = shown(&sheet, Zoom::Stop(stop));
+            for (at, &a) in shown.iter().enumerate() {
+                let others = shown[at + 1..].iter();
+                let apart = |&b: &u32| !touch(&marks[a as usize], &marks[b as usize], 1 << stop);
+                assert!(others.clone().all(apart));
+            }
+        }
+    }
+    // Marks of part 1, and of views at two zooms, do touch.
+    assert!(touch(&P1[0], &P1[3], 16));
+    let sheet = scheduled(&P1);
+    assert!(shown(&sheet, wheel(1)).contains(&3) && shown(&sheet, wheel(16)).contains(&0));
+}
+
+#[test]
+fn a_walk_is_by_number_and_not_by_rank() {
+    let marks = [
+        Mark::plain(0, 0, 1, 1),
+        Mark::plain(9_000, 0, 1, 9),
+        Mark::plain(-9_000, 0, 1, 5),
+    ];
+    assert_eq!(shown(&scheduled(&marks), Zoom::Stop(0)), [0, 1, 2]);
+}
+
+// ---- the panel
+
+#[test]
+fn the_panel_draws_at_the_zoom_that_it_asks_for() {
+    let pair = [Mark::plain(0, 0, 10, 9), Mark::plain(100, 0, 10, 5)];
+    let sheet = scheduled(&pair);
+    let between = View::whole(Zoom::Wheel(319.5 / 64.0));
+    assert_eq!(view_to_map(&sheet, between), Err(Refusal::Zoom));
+    assert_eq!(shown(&sheet, wheel(319)), [0, 1]);
+    assert!(!touch(&pair[0], &pair[1], 319));
+    assert!(touch(&pair[0], &pair[1], 320));
+}
+
+#[test]
+fn an_eliminator_may_be_gone_and_nobody_need_touch() {
+    // 2 goes by 1 at zoom 1/2, and 1 by 0 at zoom 5.
+    let marks = [
+        Mark::plain(0, 0, 10, 9),
+        Mark::plain(100, 0, 10, 5),
+        Mark::plain(110, 0, 10, 1),
+    ];
+    let sheet = scheduled(&marks);
+    let eliminators: Vec<Option<u16>> = rollmap::records(&sheet)
+        .unwrap()
+        .map(|record| match record {
+            rollmap::Record::Never => None,
+            rollmap::Record::Removed { eliminator, .. } => Some(eliminator),
+        })
+        .collect();
+    assert_eq!(eliminators, [None, Some(0), Some(1)]);
+    assert_eq!(shown(&sheet, wheel(320)), [0]);
+    assert!(!touch(&marks[0], &marks[2], 320), "nobody touches 2 there");
+}
+
+#[test]
+fn following_eliminators_ends_at_a_mark_that_lives() {
+    for shape in Shape::ALL {
+        let sheet = scheduled(&marks(shape, 120, 4));
+        let records: Vec<rollmap::Record> = rollmap::records(&sheet).unwrap().collect();
+        for stop in 0..=16 {
+            let shown = shown(&sheet, Zoom::Stop(stop));
+            for first in 0..records.len() as u32 {
+                let mut at = first;
+                while !shown.contains(&at) {
+                    let rollmap::Record::Removed { eliminator, .. } = records[at as usize] else {
+                        panic!("a mark that is never removed is shown");
+                    };
+                    at = eliminator.into();
+                }
+            }
+        }
+    }
+}
+
+#[test]
+fn of_equal_values_the_highest_ranked_is_named() {
+    let marks = [
+        Mark::plain(0, 0, 10, 0),
+        Mark::plain(-50, 0, 10, 5),
+        Mark::plain(50, 0, 10, 7),
+    ];
+    let expected = rollmap::Record::Removed {
+        eliminator: 2,
+        numerator: 2_500,
+        denominator: 400,
+    };
+    let sheet = scheduled(&marks);
+    assert_eq!(rollmap::records(&sheet).unwrap().next(), Some(expected));
+}
+
+#[test]
+fn a_mark_is_gone_at_its_own_removal_zoom() {
+    let sheet = scheduled(&[Mark::plain(0, 0, 10, 9), Mark::plain(100, 0, 10, 5)]);
+    assert_eq!(shown(&sheet, wheel(319)), [0, 1]);
+    assert_eq!(shown(&sheet, wheel(320)), [0]);
+}
+
+// ---- the shift report
+
+/// The line that the report prints for a mark by its record.
+fn line(m: usize, record: rollmap::Record) -> String {
+    match record {
+        rollmap::Record::Never => format!("{m} -\n"),
+        rollmap::Record::Removed {
+            eliminator,
+            numerator,
+            denominator,
+        } => {
+            let k = (4_096 * numerator / u64::from(denominator)).isqrt();
+            format!("{m} {eliminator} {numerator} {denominator} {k}\n")
+        }
+    }
+}
+
+/// The text of a scheduled sheet by its records.
+fn text_of(sheet: &[u8]) -> String {
+    let records = rollmap::records(sheet).unwrap();
+    let first = format!("marks {}\n", records.len());
+    let lines = records.enumerate().map(|(m, record)| line(m, record));
+    first + &lines.collect::<String>()
+}
+
+#[test]
+fn the_program_prints_2000_marks_and_part_2_has_the_rest() {
+    for shape in Shape::ALL {
+        let given = marks(shape, 2_000, 6);
+        assert_eq!(printed(&one_part(&given)), text_of(&scheduled(&given)));
+    }
+    for n in [2_001, 4_096] {
+        let given = marks(Shape::Clustered, n, 6);
+        assert_eq!(printed(&one_part(&given)), "refused 14\n");
+        let text = text_of(&scheduled(&given));
+        assert_eq!(text.lines().count(), n + 1);
+    }
+    let foreign = three_parts(&P1, &[Record::NEVER; 4]);
+    assert_eq!(printed(&foreign), text_of(&scheduled(&P1)));
+}
+
+#[test]
+fn an_empty_reel_is_told_from_a_refused_and_an_unread_one() {
+    assert_eq!(printed(&one_part(&[])), "marks 0\n");
+    assert_eq!(printed(&[]), "refused 1\n");
+    let unread = Command::new("sh")
+        .args(["-c", "exec \"$0\" <&-", PROGRAM])
+        .output()
+        .unwrap();
+    assert!(unread.stdout.is_empty() && !unread.stderr.is_empty());
+    let text = printed(&one_part(&P1));
+    assert_eq!(text.lines().next(), Some("marks 4"));
+    assert_eq!(text.lines().count(), 1 + 4);
+}
+
+#[test]
+fn the_printed_zoom_is_rounded_down() {
+    let sheet = scheduled(&P1);
+    assert!(printed(&one_part(&P1)).ends_with("3 0 9 225 12\n"));
+    // 64 times its removal zoom is 12.8.
+    assert!(shown(&sheet, wheel(12)).contains(&3));
+    assert!(!shown(&sheet, wheel(13)).contains(&3));
+    // 320 is exact.
+    assert!(shown(&sheet, wheel(319)).contains(&1));
+    assert!(!shown(&sheet, wheel(320)).contains(&1));
+}
+
+// ---- the overview
+
+/// The marks that live at k / 64 and lie in the rectangle, by looking at each.
+fn scan(marks: &[Mark], removals: &[Removal], view: View, k: u32) -> Vec<u32> {
+    let zoom = Fraction::new(u64::from(k) * u64::from(k), 4_096);
+    let inside = |mark: &Mark| {
+        (view.x0..=view.x1).contains(&mark.x) && (view.y0..=view.y1).contains(&mark.y)
+    };
+    let numbers = 0..marks.len();
+    let shown = numbers.filter(|&m| inside(&marks[m]) && removals[m].later_than(zoom));
+    shown.map(|m| m as u32).collect()
+}
+
+#[test]
+fn a_view_is_the_full_scan() {
+    for shape in Shape::ALL {
+        let marks = marks(shape, 300, 7);
+        let sheet = scheduled(&marks);
+        let records = oracle::record::read_records(rollmap::part(&sheet, 2).unwrap());
+        let removals = oracle::record::removals(&records);
+        for k in [1, 17, 64, 1_000, 65_536] {
+            for (low, high) in [(i16::MIN, i16::MAX), (-5_000, 5_000), (0, 0)] {
+                let view = View {
+                    x0: low,
+                    x1: high,
+                    y0: low,
+                    y1: high,
+                    zoom: wheel(k),
+                };
+                let map = view_to_map(&sheet, view).unwrap();
+                assert!(map.iter().eq(scan(&marks, &removals, view, k)));
+            }
+        }
+        let mut wrong = sheet.clone();
+        let at = wrong.len() - 2 * marks.len();
+        wrong.copy_within(at + 2..at + 4, at);
+        let view = View::whole(Zoom::Stop(0));
+        assert_eq!(view_to_map(&wrong, view), Err(Refusal::Index));
+    }
+    // A label that reaches in from outside is not shown.
+    let outside = scheduled(&[Mark::plain(10, 0, 16_383, 1)]);
+    let left = View {
+        x1: 9,
+        ..View::whole(Zoom::Stop(16))
+    };
+    assert_eq!(view_to_map(&outside, left).unwrap().count(), 0);
+}
+
+#[test]
+fn the_value_is_the_number_of_set_bits() {
+    for n in [1, 7, 8, 9, 100] {
+        let sheet = scheduled(&marks(Shape::Clustered, n, 8));
+        for stop in 0..=16 {
+            let mut map = vec![0xff; map_bytes(n) + 3];
+            let view = View::whole(Zoom::Stop(stop));
+            let count = rollmap::view(&sheet, view, &mut map).unwrap();
+            let (own, behind) = map.split_at(map_bytes(n));
+            let ones: u32 = own.iter().map(|byte| byte.count_ones()).sum();
+            assert_eq!(count, ones);
+            assert_eq!(behind, [0xff; 3]);
+        }
+    }
+}
+
+#[test]
+fn a_stop_and_its_wheel_value_show_the_same() {
+    for shape in Shape::ALL {
+        let sheet = scheduled(&marks(shape, 100, 9));
+        for stop in 0..=16 {
+            let by_stop = view_to_map(&sheet, View::whole(Zoom::Stop(stop)));
+            let by_wheel = view_to_map(&sheet, View::whole(wheel(1 << stop)));
+            assert_eq!(by_stop, by_wheel);
+        }
+    }
+}
+
+#[test]
+fn an_old_map_is_lent_as_it_is() {
+    let sheet = scheduled(&P1);
+    let mut map = [0xff];
+    let view = View::whole(wheel(320));
+    assert_eq!(rollmap::view(&sheet, view, &mut map), Ok(2));
+    assert_eq!(map, [0b0101]);
+    let refused = View::whole(Zoom::Stop(17));
+    assert_eq!(rollmap::view(&sheet, refused, &mut map), Err(Refusal::Zoom));
+    assert_eq!(map, [0b0101]);
+}
+
+// ---- what every consumer checks once
+
+#[test]
+fn a_walk_with_too_few_marks_is_no_refusal() {
+    let sheet = scheduled(&P1);
+    let map = view_to_map(&sheet, View::whole(Zoom::Stop(0))).unwrap();
+    assert!(map.iter().eq([0, 1, 2, 3]));
+    assert!(rollmap::shown(map.as_bytes(), 2).unwrap().eq([0, 1]));
+    assert_eq!(rollmap::mark_count(&sheet), Some(map.marks() as usize));
+}
