@@ -85,29 +85,22 @@ fn scheduled(shape: Shape, n: usize) -> Vec<u8> {
     rollmap::schedule_to_vec(&sheet_of(shape, n)).expect("the sample is taken")
 }
 
-/// The least times of scheduling a sheet: proved, plain in rank order, and the core of
-/// the latter alone, which makes no check, no rows and no index. The first two are seen
-/// to write the same bytes.
+/// The least times of scheduling a sheet: proved, plain with the same cells, and plain
+/// with a scan of all rows. All are seen to write the same bytes.
 fn time_scheduling(sheet: &[u8], n: usize, calls: u32) -> [Micros; 3] {
-    let (mut work, mut desk) = (vec![0; work_bytes(n)], Desk::default());
-    let mut ours = vec![0; scheduled_bytes(n)];
-    let mut theirs = ours.clone();
-    let mut core = Desk::default();
-    core.lay_out(
-        plain::sheet::open(sheet)
-            .expect("the sample is taken")
-            .marks,
-    );
+    let (mut work, mut ours) = (vec![0; work_bytes(n)], vec![0; scheduled_bytes(n)]);
+    let (mut by_cells, mut by_scan) = (Desk::default(), Desk::default());
+    let (mut cells, mut scan) = (ours.clone(), ours.clone());
     let times = race(
         ROUNDS,
         calls,
         [
             &mut || _ = black_box(rollmap::schedule(sheet, Work(&mut work), &mut ours)),
-            &mut || _ = black_box(desk.schedule(sheet, &mut theirs)),
-            &mut || core.settle(),
+            &mut || _ = black_box(by_cells.schedule_by_cells(sheet, &mut cells)),
+            &mut || _ = black_box(by_scan.schedule(sheet, &mut scan)),
         ],
     );
-    assert!(ours == theirs, "both write the same bytes");
+    assert!(ours == cells && ours == scan, "all write the same bytes");
     times
 }
 
@@ -131,23 +124,25 @@ fn scheduling() {
         &[
             "data",
             "proved, ms",
-            "plain Rust in rank order, ms",
+            "plain Rust with the same cells, ms",
             "ratio",
-            "its core alone, ms",
+            "plain Rust by a scan, ms",
+            "times faster than the scan",
             "plain Rust by all pairs, ms",
             "times faster than all pairs",
         ],
     );
     for (name, shape) in DATA {
         let sheet = sheet_of(shape, MOST);
-        let [proved, plain, core] = time_scheduling(&sheet, MOST, 1);
+        let [proved, cells, scan] = time_scheduling(&sheet, MOST, 1);
         let pairs = time_pairs(&sheet, &scheduled(shape, MOST));
         println!(
-            "| {name} | {:.2} | {:.2} | {:.2} | {:.2} | {:.0} | {:.0} |",
+            "| {name} | {:.2} | {:.2} | {:.2} | {:.2} | {:.1} | {:.0} | {:.0} |",
             proved.millis(),
-            plain.millis(),
-            proved.over(plain),
-            core.millis(),
+            cells.millis(),
+            proved.over(cells),
+            scan.millis(),
+            scan.over(proved),
             pairs.millis(),
             pairs.over(proved),
         );
@@ -168,27 +163,29 @@ fn growth() {
         &[
             "data",
             "marks",
-            "proved, ms",
+            "proved, µs",
             "times the row above",
-            "plain Rust, ms",
+            "plain Rust with the same cells, µs",
             "times the row above",
             "ratio",
+            "plain Rust by a scan, µs",
         ],
     );
     for (name, shape) in [("uniform", Shape::Uniform), ("clustered", Shape::Clustered)] {
         let (mut proved, mut plain) = (Vec::new(), Vec::new());
         for n in SMALL.into_iter().chain(SIZES) {
             let calls = (MOST / n) as u32;
-            let [ours, theirs, _] = time_scheduling(&sheet_of(shape, n), n, calls);
+            let [ours, theirs, scan] = time_scheduling(&sheet_of(shape, n), n, calls);
             proved.push(ours);
             plain.push(theirs);
             println!(
-                "| {name} | {n} | {:.3} | {} | {:.3} | {} | {:.2} |",
-                ours.millis(),
+                "| {name} | {n} | {:.2} | {} | {:.2} | {} | {:.2} | {:.2} |",
+                ours.0,
                 growth_of(&proved),
-                theirs.millis(),
+                theirs.0,
                 growth_of(&plain),
                 ours.over(theirs),
+                scan.0,
             );
         }
     }

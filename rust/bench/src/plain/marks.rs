@@ -50,9 +50,12 @@ pub fn axis_key(coordinate: i16, m: usize) -> u32 {
     shifted << 16 | m as u32
 }
 
+/// A place and a used radius.
+pub type Disk = (i32, i32, u32);
+
 /// The touching value of two places with their used radii.
 #[inline]
-pub fn touching(a: (i32, i32, u32), b: (i32, i32, u32)) -> Value {
+pub fn touching(a: Disk, b: Disk) -> Value {
     let (dx, dy) = (i64::from(a.0 - b.0), i64::from(a.1 - b.1));
     let reach = u64::from(a.2 + b.2);
     Value {
@@ -62,7 +65,7 @@ pub fn touching(a: (i32, i32, u32), b: (i32, i32, u32)) -> Value {
 }
 
 /// A mark's place and used radius, as [`touching`] takes them.
-pub fn disk(mark: &Mark) -> (i32, i32, u32) {
+pub fn disk(mark: &Mark) -> Disk {
     let (x, y) = place(mark);
     (x.into(), y.into(), used_radius(mark).into())
 }

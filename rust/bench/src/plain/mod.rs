@@ -2,6 +2,7 @@
 //! against. They read and write the same bytes, ask the same questions and borrow
 //! their arrays, so that one job is compared with the same job.
 
+pub mod grid;
 pub mod index;
 pub mod marks;
 pub mod schedule;

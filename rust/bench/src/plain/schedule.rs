@@ -1,14 +1,16 @@
-//! Scheduling by the rank-order algorithm, and by sorting all pairs.
+//! Scheduling by the rank-order algorithm, with and without cells, and by sorting all
+//! pairs.
 
+use super::grid::Grid;
 use super::index::{build, Ordered};
-use super::marks::{axis_key, disk, place, rank, touching, Mark, NEVER};
+use super::marks::{axis_key, disk, place, rank, touching, Disk, Mark, NEVER};
 use super::sheet::open;
 use super::{ask, Refusal, Value};
 
 /// A mark in rank order: place and used radius, removal value, and who removes it.
 #[derive(Clone, Copy)]
 struct Row {
-    disk: (i32, i32, u32),
+    disk: Disk,
     eliminator: u32,
     value: Value,
 }
@@ -22,11 +24,44 @@ struct Pair {
     lower: u16,
 }
 
+/// The best row found so far for another, and its touching value.
+#[derive(Clone, Copy)]
+struct Candidate {
+    value: Value,
+    row: usize,
+}
+
+impl Candidate {
+    const NONE: Self = Self {
+        value: Value::NEVER,
+        row: 0,
+    };
+
+    /// This one, or a row that touches sooner, or at the same value and ranks higher, if
+    /// it is removed later than that.
+    #[inline]
+    fn or(self, rows: &[Row], q: usize, disk: Disk) -> Self {
+        let value = touching(disk, rows[q].disk);
+        let sooner = self.value.later_than(value);
+        let level = !sooner && !value.later_than(self.value);
+        if (sooner || level && q < self.row) && rows[q].value.later_than(value) {
+            return Self { value, row: q };
+        }
+        self
+    }
+}
+
+/// From this many rows on a grid is used, and below this many a search looks at all, as
+/// in the proved library.
+const MANY: usize = 256;
+const FEW: usize = 192;
+
 /// The arrays that scheduling borrows, kept from run to run.
 #[derive(Default)]
 pub struct Desk {
     order: Vec<u32>,
     rows: Vec<Row>,
+    grid: Grid,
     pairs: Vec<Pair>,
     ordered: Vec<Ordered>,
     numbers: Vec<u16>,
@@ -38,12 +73,17 @@ impl Desk {
         self.schedule_by(sheet, out, Self::settle)
     }
 
+    /// Schedules a sheet by the rank-order algorithm with the proved library's cells.
+    pub fn schedule_by_cells(&mut self, sheet: &[u8], out: &mut [u8]) -> Result<usize, Refusal> {
+        self.schedule_by(sheet, out, Self::settle_by_cells)
+    }
+
     /// Schedules a sheet by sorting all pairs.
     pub fn schedule_by_pairs(&mut self, sheet: &[u8], out: &mut [u8]) -> Result<usize, Refusal> {
         self.schedule_by(sheet, out, Self::take_pairs)
     }
 
-    /// Schedules a sheet with one of the two cores. Asks 1 to 9, and 13 of `out`.
+    /// Schedules a sheet with one of the cores. Asks 1 to 9, and 13 of `out`.
     fn schedule_by(
         &mut self,
         sheet: &[u8],
@@ -63,7 +103,7 @@ impl Desk {
     }
 
     /// Sorts the marks by rank and lays out their rows.
-    pub fn lay_out(&mut self, marks: &[Mark]) {
+    fn lay_out(&mut self, marks: &[Mark]) {
         self.order.clear();
         self.order.extend((0..marks.len()).map(|m| rank(marks, m)));
         self.order.sort_unstable();
@@ -78,7 +118,7 @@ impl Desk {
 
     /// The rank-order core: each row goes at the least touching value with an earlier
     /// one that is removed later; of equal values the earliest is taken.
-    pub fn settle(&mut self) {
+    fn settle(&mut self) {
         for p in 0..self.rows.len() {
             let (earlier, rest) = self.rows.split_at_mut(p);
             let row = &mut rest[0];
@@ -92,6 +132,43 @@ impl Desk {
             }
             row.value = best;
         }
+    }
+
+    /// The rank-order core with cells, where the rows are many.
+    fn settle_by_cells(&mut self) {
+        if self.rows.len() < MANY {
+            return self.settle();
+        }
+        self.grid.lay_over(self.rows.iter().map(|row| row.disk));
+        for p in 0..self.rows.len() {
+            let disk = self.rows[p].disk;
+            let cell = self.grid.cell_of(disk);
+            let best = self.search(p, disk, cell);
+            self.grid.add(cell, disk);
+            self.rows[p].value = best.value;
+            self.rows[p].eliminator = best.row as u32;
+        }
+    }
+
+    /// The best of all rows above p, whose own cell is searched first, so that the others
+    /// are soon too far.
+    fn search(&self, p: usize, disk: Disk, own: usize) -> Candidate {
+        let (grid, rows) = (&self.grid, self.rows.as_slice());
+        if p < FEW || p < 2 * grid.count(own) {
+            return (0..p).fold(Candidate::NONE, |best, q| best.or(rows, q, disk));
+        }
+        let scan = |best, cell| {
+            grid.rows(cell)
+                .fold(best, |best: Candidate, q| best.or(rows, q, disk))
+        };
+        let others = Grid::cells().filter(|&cell| cell != own);
+        others.fold(scan(Candidate::NONE, own), |best, cell| {
+            if grid.may_hold(cell, disk, best.value) {
+                scan(best, cell)
+            } else {
+                best
+            }
+        })
     }
 
     /// The core by sorting: all pairs by value and then by rank, each taken when its
