@@ -61,7 +61,7 @@ fn every_test_that_the_page_names_is_here() {
     let sentences = GUARDS.lines().filter_map(|line| line.split_once("Test: "));
     let named = cells.chain(sentences.map(|(_, name)| name.trim_end_matches('.')));
     let names: Vec<&str> = named.flat_map(|names| names.split(", ")).collect();
-    assert_eq!(names.len(), 17);
+    assert_eq!(names.len(), 18);
     for name in names {
         let test = format!("#[test]\nfn {}()", name.trim_matches('`'));
         assert!(own.contains(&test), "{name}");
@@ -377,6 +377,15 @@ fn an_old_map_is_lent_as_it_is() {
     let refused = View::whole(Zoom::Stop(17));
     assert_eq!(rollmap::view(&sheet, refused, &mut map), Err(Refusal::Zoom));
     assert_eq!(map, [0b0101]);
+}
+
+#[test]
+fn one_mark_is_asked_for_by_its_number() {
+    let sheet = scheduled(&P1);
+    let map = view_to_map(&sheet, View::whole(wheel(320))).unwrap();
+    assert!((0..9).filter(|&mark| map.contains(mark)).eq([0, 2]));
+    assert_eq!(rollmap::is_shown(map.as_bytes(), 4, 2), Ok(true));
+    assert_eq!(rollmap::is_shown(map.as_bytes(), 2, 2), Ok(false));
 }
 
 // ---- what every consumer checks once

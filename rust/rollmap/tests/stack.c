@@ -48,6 +48,11 @@ static uint32_t walk(void)
     return rollmap_walk(map, sizeof map, N, 0).number;
 }
 
+static uint32_t is_shown(void)
+{
+    return rollmap_is_shown(map, sizeof map, N, 0).number;
+}
+
 static uint32_t part(void)
 {
     return rollmap_part(out, sizeof out, 1).length != sizeof marks;
@@ -58,8 +63,8 @@ static const struct call {
     const char *name;
     uint32_t (*make)(void);
 } calls[] = {
-    {"assemble", assemble},   {"schedule", schedule},     {"check", check}, {"view_stop", view_stop},
-    {"view_wheel", view_wheel}, {"walk", walk},           {"part", part},
+    {"assemble", assemble},     {"schedule", schedule}, {"check", check},       {"view_stop", view_stop},
+    {"view_wheel", view_wheel}, {"walk", walk},         {"is_shown", is_shown}, {"part", part},
 };
 
 static uint8_t *stack;
