@@ -62,7 +62,7 @@ decimal-longer v s h = ap length (decimal-more v s h) ∙ length-append (decimal
 denoted-append : (v : ℕ) (a b : List ℕ) → denoted v (a ++ b) ≡ denoted (denoted v a) b
 unfolding denoted
 denoted-append v [] b = refl
-denoted-append v (d ∷ a) b = denoted-append (10 * v + (d - 48)) a b
+denoted-append v (d ∷ a) b = denoted-append _ a b
 
 none-denote : (v : ℕ) → denoted 0 (digits 0 v) ≡ 0
 unfolding denoted digits
