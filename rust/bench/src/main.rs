@@ -26,6 +26,14 @@ const DATA: [(&str, Shape); 6] = [
     ("1 % huge radius", Shape::FewHuge),
 ];
 
+/// The data that viewing is timed on.
+const VIEWED: [(&str, Shape); 4] = [
+    ("uniform", Shape::Uniform),
+    ("clustered", Shape::Clustered),
+    ("reel", Shape::Reel),
+    ("1 % huge radius", Shape::FewHuge),
+];
+
 /// The numbers of marks that growth is seen over.
 const SIZES: [usize; 3] = [256, 1_024, 4_096];
 
@@ -291,7 +299,7 @@ fn viewing() {
             "times the check alone",
         ],
     );
-    for (name, shape) in [("uniform", Shape::Uniform), ("clustered", Shape::Clustered)] {
+    for (name, shape) in VIEWED {
         let sheet = scheduled(shape, MOST);
         let first = marks(shape, MOST, 1)[0];
         let small = square_about(first.x, first.y, 500);

@@ -52,6 +52,8 @@ pub enum Shape {
     Uniform,
     /// Around a few places.
     Clustered,
+    /// Anywhere on a reel: the whole range of x, and 6,000 places of y.
+    Reel,
     /// On one horizontal line.
     Line,
     /// All at one place.
@@ -68,9 +70,10 @@ pub enum Shape {
 
 impl Shape {
     /// Every shape.
-    pub const ALL: [Self; 8] = [
+    pub const ALL: [Self; 9] = [
         Self::Uniform,
         Self::Clustered,
+        Self::Reel,
         Self::Line,
         Self::OnePlace,
         Self::Grid,
@@ -125,7 +128,7 @@ fn mark(generator: &mut Generator, shape: Shape, sites: &[(i16, i16)], n: usize)
             generator.choose(&[0, 65_535]),
         ),
         Shape::OnePlace | Shape::Line => (small, generator.below(4) as u16),
-        Shape::Uniform | Shape::Clustered => (
+        Shape::Uniform | Shape::Clustered | Shape::Reel => (
             generator.choose(&[0, small, small]),
             generator.below(65_536) as u16,
         ),
@@ -155,6 +158,7 @@ fn place(generator: &mut Generator, shape: Shape, sites: &[(i16, i16)], n: usize
                 y + generator.between(-500, 500),
             )
         }
+        Shape::Reel => (anywhere(generator), generator.between(-3_000, 2_999)),
         Shape::Line => (anywhere(generator), site_y),
         Shape::OnePlace => (site_x, site_y),
         Shape::Grid => (
@@ -206,6 +210,9 @@ mod tests {
         assert!(point
             .iter()
             .all(|mark| (mark.x, mark.y) == (point[0].x, point[0].y)));
+        let reel = marks(Shape::Reel, 99, 5);
+        assert!(reel.iter().all(|mark| (-3_000..3_000).contains(&mark.y)));
+        assert!(reel.iter().any(|mark| mark.x.abs() > 30_000));
         let huge = marks(Shape::HugeRadius, 99, 5);
         assert!(huge.iter().all(|mark| mark.radius >= 16_000));
         let extreme = marks(Shape::Extreme, 99, 5);
