@@ -124,8 +124,11 @@ struct rollmap_answer rollmap_assemble(uint32_t parts,
                                        const uint8_t *body3, size_t body3_length,
                                        uint8_t *out, size_t out_length);
 
-/* Answers a view of a sheet of n marks: those that live at the zoom and lie in the
-   rectangle, edges included. Mark m is bit m mod 8 of byte m / 8 of the map. The first
+/* Answers a view of a sheet of n marks: those that live at the zoom and whose disk there
+   reaches the rectangle, touching included. With k = 64 times the zoom, a disk reaches it
+   where the squared distance from point to rectangle, times 4,096, is at most k squared
+   times the squared radius; a point inside has distance 0, and a mark of radius 0 has the
+   radius of its kind. Mark m is bit m mod 8 of byte m / 8 of the map. The first
    (n + 7) / 8 bytes are wholly written, and what follows stays as it is. The value is the
    count of shown marks. Asks 1 to 12, and 13 of the map.
 

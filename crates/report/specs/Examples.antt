@@ -20,7 +20,7 @@ use Rattle.sheet.specs.Questions.{checkQuestions, check}
 use Rattle.view.specs.declared.Zoom.{Zoom}
 use Rattle.view.specs.declared.Zoom.the-variants.{Stop, Wheel}
 use Rattle.view.specs.Zoom.{stopScale, wheelScale, scaleOf}
-use Rattle.view.specs.Shown.{Rectangle, livesAt, inside, shown}
+use Rattle.view.specs.Shown.{Rectangle, livesAt, gapSquared, distanceSquared, reaches, shown}
 use Rattle.bitmap.specs.Map.{bit, mapByte, mapPart, mapBytes, countShown, nextSet, walk}
 use Rattle.view.specs.Questions as Viewing
 use Rattle.rollmap.specs.Jobs.{Outcome, outcome, checkJob, scheduled, scheduleQuestions, scheduleJob, shownIn, viewJob}
@@ -135,7 +135,7 @@ table =
     -- P3: wheel 1
     ∷ (views p1 p3 (wheel 0x3f80_0000) gives (0 ∷ 2 ∷ 0x06 ∷ []))
     -- P4: wheel 5
-    ∷ (views p1 p3 (wheel 0x40a0_0000) gives (0 ∷ 1 ∷ 0x04 ∷ []))
+    ∷ (views p1 p3 (wheel 0x40a0_0000) gives (0 ∷ 2 ∷ 0x05 ∷ []))
     -- P5
     ∷ (removes p5 1 gives (0 ∷ 0 ∷ 4 ∷ []))
     -- P6
@@ -149,7 +149,7 @@ table =
     ∷ (checks (sheet (of 0 200)) gives (5 ∷ []))
     -- P9: wheels 1/64, 1024, 1/128, 1024 + 1/64
     ∷ (views p1 p3 (wheel 0x3c80_0000) gives (0 ∷ 2 ∷ 0x06 ∷ []))
-    ∷ (views p1 p3 (wheel 0x4480_0000) gives (0 ∷ 0 ∷ 0 ∷ []))
+    ∷ (views p1 p3 (wheel 0x4480_0000) gives (0 ∷ 1 ∷ 0x01 ∷ []))
     ∷ (views p1 p3 (wheel 0x3c00_0000) gives (12 ∷ 0 ∷ []))
     ∷ (views p1 p3 (wheel 0x4480_0080) gives (12 ∷ 0 ∷ []))
     -- P10
@@ -157,7 +157,7 @@ table =
     -- P11
     ∷ (removes p11 2 gives (1 ∷ 10000 ∷ 400 ∷ []))
     -- P12
-    ∷ (views p1 p3 (Stop 16) gives (0 ∷ 0 ∷ 0 ∷ []))
+    ∷ (views p1 p3 (Stop 16) gives (0 ∷ 1 ∷ 0x01 ∷ []))
     ∷ (views p1 p3 (Stop 17) gives (12 ∷ 0 ∷ []))
     -- "The largest numerator is 8,589,672,450; the largest denominator 1,073,610,756."
     ∷ (removes largest 1 gives (0 ∷ 8589672450 ∷ 1073610756 ∷ []))
@@ -177,7 +177,7 @@ unfolding table answers pairs sheet marks ofBits
     least put before pair next run process isNever valueAt records scheduleOf treeOf beats coordinate axisKey indexOf indexBytes sameBytes isIndex
     startAt split entries chain join answer every question1 question2 question3 question4
     markQuestions question7 namesRight recordRight question8
-    question9 bodyQuestions checkQuestions check stopScale wheelScale scaleOf livesAt inside
+    question9 bodyQuestions checkQuestions check stopScale wheelScale scaleOf livesAt gapSquared distanceSquared reaches
     shown mapByte mapPart mapBytes countShown Viewing.question10 Viewing.question11 Viewing.viewQuestions outcome checkJob scheduled
     shownIn viewJob digits line rootStep root zoomDown markLine markLines listing refusal printQuestions printed
 examples = refl

@@ -18,7 +18,7 @@ use Rattle.bitmap.specs.Map.{countShown}
 use Rattle.bitmap.specs.Facts.{Shows}
 use Rattle.view.specs.declared.Zoom.{Zoom}
 use Rattle.view.specs.Zoom.{scaleOf, scale}
-use Rattle.view.specs.Shown.{Rectangle, livesAt, inside}
+use Rattle.view.specs.Shown.{Rectangle, livesAt, reaches}
 use Rattle.view.specs.Questions.{viewQuestions}
 use Rattle.rollmap.specs.declared.Answer.{Answer}
 use Rattle.rollmap.specs.Jobs.{after, ScheduledHere, viewJob}
@@ -43,9 +43,12 @@ KeepsRules s list = FirstRule (sheetMarks s) list × SecondRule (sheetMarks s) l
 
 -- who is shown, "its living taken from any list that keeps both rules"
 abbrev pub shownBy : List ℕ → Rectangle → Zoom → (ℕ → Value) → ℕ → Bool
-shownBy s e zoom list m = livesAt (scale (scaleOf zoom)) (list m) && inside (marksPart (split s)) e m
+shownBy s e zoom list m =
+    let k = scale (scaleOf zoom) in
+    livesAt k (list m) && reaches (marksPart (split s)) k e m
 
--- The map shows exactly the marks in the rectangle that the list has living, its unused bits are 0, and the count is their number.
+-- The map shows exactly the marks that the list has living and whose disk reaches the rectangle, its unused bits are 0, and the count is
+-- their number.
 pub record ShowsLiving (s : List ℕ) (e : Rectangle) (zoom : Zoom) (list : ℕ → Value) (map : List ℕ) (count : ℕ) : Type 0 where
   pub bits : Shows (shownBy s e zoom list) (sheetCount s) map
   pub counted : count ≡ countShown (shownBy s e zoom list) (sheetCount s)

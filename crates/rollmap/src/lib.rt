@@ -153,7 +153,7 @@ fn is_rectangle(e: Edges) -> bool
 
 // The view of an accepted sheet of three parts at z = k/64: question 13, and then the map and the count.
 fn view_at(sheet: &[u8], edges: Edges, k: u32, map: &mut [u8]) -> Answer
-    requires { ⌜ (check (now sheet) ≡ 0) × (countAt (now sheet) ≡ 3) ⌝ }
+    requires { ⌜ (check (now sheet) ≡ 0) × (countAt (now sheet) ≡ 3) × (k ≤ 65536) ⌝ }
     ensures { λ r. ⌜ Gives (viewAt (now (sheet .entry)) (rectangle edges) k (length (now (map .entry)))) (now (map .entry)) r (now (map .exit)) ⌝ }
 {
     let marks = contents::body(sheet, 0);

@@ -1,44 +1,61 @@
 -- What the contracts of the search down the index cite. `s` is part 1 of a sheet, `p` part 2 and `t` part 3; an axis is true for x.
-use Prim.Native.Nat.{ℕ, _+_, _/_, _≤_}
+use Prim.Native.Nat.{ℕ, zero, suc, _+_, _-_, _*_, _/_, _<_, _≤_}
 use mathlib.Core.Path.{_≡_}
-use mathlib.Core.Bool.{Bool, true, false, cond, _&&_}
+use mathlib.Core.Bool.{Bool, true, false, cond}
 use mathlib.Core.List.{List}
 use mathlib.Core.Logic.{_≢_}
 use lib.ListN.{length, getD}
-use lib.Dec.{eqb}
+use lib.Dec.{ltb, leb, eqb}
 use lib.IntN.{ℤ}
-use lib.Signed.{ltZ, leZ}
-use Rattle.marks.specs.Marks.{xAt, yAt}
+use Rattle.marks.specs.Marks.{shifted, usedAt}
+use Rattle.elimination.specs.Records.{valueAt}
 use Rattle.index.specs.Count.{count, both}
-use Rattle.index.specs.Index.{beats, axisKey}
+use Rattle.index.specs.Index.{beats, coordinate, axisKey}
 use Rattle.index.specs.Valid.{isTree}
 use Rattle.index.specs.Blocks.{entryAt, block}
 use Rattle.index.specs.Check.{Whole, AllBelow}
 use Rattle.bitmap.specs.Map.{mapSize, bitAt}
-use Rattle.view.specs.Shown.{Rectangle}
+use Rattle.view.specs.Shown.{Rectangle, livesAt}
+use Rattle.view.specs.declared.Bounds.{Bounds}
 
--- ---- places and edges on an axis
+-- ---- the bounds
 
--- a mark's x or y
-abbrev pub placeAt : List ℕ → Bool → ℕ → ℤ
-placeAt s axis m = cond axis (xAt s m) (yAt s m)
+-- the greater of `widest` and, where it lives, mark m's used radius
+unfoldable pub wider : List ℕ → List ℕ → ℕ → ℕ → ℕ → ℕ
+wider s p k widest m = cond (leb (usedAt s m) widest) widest (cond (livesAt k (valueAt p m)) (usedAt s m) widest)
 
--- the low or the high edge
-abbrev pub edgeOn : Rectangle → Bool → Bool → ℤ
-edgeOn e axis low = cond axis (cond low (e .x0) (e .x1)) (cond low (e .y0) (e .y1))
+-- the greatest used radius of the marks below n that live at z
+unfoldable pub widestLiving : List ℕ → List ℕ → ℕ → ℕ → ℕ
+widestLiving s p k zero = 0
+widestLiving s p k (suc n) = wider s p k (widestLiving s p k n) n
 
--- mark m lies between the edges
-abbrev pub isBetween : List ℕ → Rectangle → Bool → ℕ → Bool
-isBetween s e axis m = leZ (edgeOn e axis true) (placeAt s axis m) && leZ (placeAt s axis m) (edgeOn e axis false)
+-- an edge's coordinate moved down, at most to 0, or up
+unfoldable pub moved : ℤ → Bool → ℕ → ℕ
+moved edge low by = cond low (shifted edge - by) (shifted edge + by)
 
--- The place z lies before the rectangle, which rules out the left half; or after it, which rules out the right half.
-unfoldable pub isBeyond : Rectangle → Bool → Bool → ℤ → Bool
-isBeyond e axis left z = cond left (ltZ z (edgeOn e axis true)) (ltZ (edgeOn e axis false) z)
+-- the rectangle widened by what a disk of the radius r takes up at z
+unfoldable pub boundsOf : Rectangle → ℕ → ℕ → Bounds
+boundsOf e k r =
+    let by = k * r / 64 in
+    record { x0 = moved (e .x0) true by; x1 = moved (e .x1) false by; y0 = moved (e .y0) true by; y1 = moved (e .y1) false by }
+
+-- the low or the high bound
+abbrev pub boundOn : Bounds → Bool → Bool → ℕ
+boundOn b axis low = cond axis (cond low (b .x0) (b .x1)) (cond low (b .y0) (b .y1))
+
+-- mark m lies in the bounds, on the axis
+pub record Within (s : List ℕ) (b : Bounds) (m : ℕ) (axis : Bool) : Type 0 where
+  pub low : boundOn b axis true ≤ coordinate s axis m
+  pub high : coordinate s axis m ≤ boundOn b axis false
+
+-- The coordinate c lies before the bounds, which rules out the left half; or after them, which rules out the right half.
+unfoldable pub isBeyond : Bounds → Bool → Bool → ℕ → Bool
+isBeyond b axis left c = cond left (ltb c (boundOn b axis true)) (ltb (boundOn b axis false) c)
 
 -- how many of the `size` numbers of a half are searched; `head` is where the `other` numbers of the other half start
-unfoldable pub sizeToSearch : List ℕ → List ℕ → Rectangle → Bool → Bool → ℕ → ℕ → ℕ → ℕ
-sizeToSearch s t e axis left head other size =
-    cond (eqb other 0) size (cond (isBeyond e axis left (placeAt s axis (entryAt t head))) 0 size)
+unfoldable pub sizeToSearch : List ℕ → List ℕ → Bounds → Bool → Bool → ℕ → ℕ → ℕ → ℕ
+sizeToSearch s t b axis left head other size =
+    cond (eqb other 0) size (cond (isBeyond b axis left (coordinate s axis (entryAt t head))) 0 size)
 
 -- ---- what the search sets
 
@@ -57,11 +74,15 @@ pub record BitsSet (shown : ℕ → Bool) (l before after : List ℕ) : Type 0 w
   pub rest : (i : ℕ) → count (inByte i) l ≡ 0 → getD after i 0 ≡ getD before i 0
   pub long : length after ≡ length before
 
--- What the search of a block needs: it is a tree in the index of a sheet of n marks, whose bits the map holds.
-pub record Searchable (s p t map : List ℕ) (lo size : ℕ) (axis : Bool) : Type 0 where
+-- What the search of a block needs: it is a tree in the index of a sheet of n marks, whose bits the map holds; and who is shown lives at
+-- z = k/64, and lies in the bounds.
+pub record Searchable (shown : ℕ → Bool) (s p t map : List ℕ) (b : Bounds) (k lo size : ℕ) (axis : Bool) : Type 0 where
   pub n : ℕ
   pub whole : Whole s p t n
   pub below : AllBelow t n
   pub fits : lo + size ≤ n
   pub room : mapSize n ≤ length map
   pub tree : isTree (beats p) (axisKey s) axis (block (entryAt t) lo size) ≡ true
+  pub taken : k ≤ 65536
+  pub lives : (m : ℕ) → shown m ≡ true → livesAt k (valueAt p m) ≡ true
+  pub held : (m : ℕ) → m < n → shown m ≡ true → (axis : Bool) → Within s b m axis

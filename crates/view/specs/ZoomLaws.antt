@@ -15,6 +15,7 @@ use lib.Ieee.Fits.{down-pos}
 use Rattle.contents.specs.Asking.{_asks_, answer}
 use Rattle.view.specs.Zoom.{stopScale, wheelScale, scaleOf, scaleNumber, Is64}
 use Rattle.view.specs.Questions.{isTaken}
+use Rattle.view.specs.declared.Zoom.{Zoom}
 use Rattle.view.specs.declared.Zoom.the-variants.{Stop, Wheel}
 use Rattle.view.specs.declared.Scale.{Scale}
 use Rattle.view.specs.declared.Scale.the-variants.{Taken, Refused}
@@ -79,6 +80,18 @@ stop-shifted s h =
 pub stop-refused : (s : ℕ) → 16 < s → stopScale s ≡ Refused
 unfolding stopScale
 stop-refused s h = simp (lt-leb s 16 h)
+
+-- k of a zoom that is taken
+pub scale-most : (zoom : Zoom) (k : ℕ) → scaleOf zoom ≡ Taken k → k ≤ 65536
+unfolding scaleOf stopScale
+scale-most (Wheel w) k h = wheel-from w k h .1
+scale-most (Stop s) k h = cases (leb s 16) refl h
+  where
+    cases : (t : Bool) → leb s 16 ≡ t → cond t (Taken (2 ^ s)) Refused ≡ Taken k → k ≤ 65536
+    cases true e g =
+        let is : 2 ^ s ≡ k = cc in
+        subst (λ (i : ℕ). i ≤ 65536) is (pow-mono {i = s} {j = 16} (leb-true s 16 e))
+    cases false e g = absurd (let z : _≡_ {A = ℕ} 0 1 = cc in omega arith)
 
 -- Asking question 12 of a zoom answers its number.
 pub zoom-answer : (r : Scale) → answer ((12 asks isTaken r) ∷ []) ≡ scaleNumber r

@@ -6,13 +6,14 @@ ghost use mathlib.Core.Path.{_≡_};
 ghost use mathlib.Core.List.{[], _∷_};
 ghost use Prim.Native.Nat.{_+_, _*_, _/_, _<_, _≤_};
 ghost use lib.ListN.{length};
+ghost use lib.IntN.{_-ℤ_};
 ghost use Rattle.elimination.specs.Records.{valueAt};
 ghost use Rattle.index.specs.Blocks.{entryAt, block};
 ghost use Rattle.index.specs.Check.{AllMarked};
 ghost use Rattle.view.specs.Zoom.{scaleOf, wheelScale};
-ghost use Rattle.view.specs.Shown.{livesAt, inside, shown};
+ghost use Rattle.view.specs.Shown.{livesAt, above, gapSquared, reaches, shown};
 ghost use Rattle.view.specs.View.{rectangle, Viewable, Viewed};
-ghost use Rattle.view.specs.Search.{placeAt, edgeOn, isBetween, isBeyond, sizeToSearch, BitsSet, Searchable};
+ghost use Rattle.view.specs.Search.{wider, widestLiving, moved, boundsOf, boundOn, isBeyond, sizeToSearch, BitsSet, Searchable};
 
 // ---- the zoom
 
@@ -78,71 +79,149 @@ pub fn lives(schedule: &[u8], k: u32, m: usize) -> bool
     fractions::later(elimination::value_at(schedule, m), zoom)
 }
 
-// A mark's x or y.
-fn place_on(marks: &[u8], axis: bool, m: usize) -> i16
-    requires { ⌜ 11 * m + 11 ≤ length (now marks) ⌝ }
-    ensures { λ r. ⌜ r ≡ placeAt (now (marks .entry)) axis m ⌝ }
+// How far place a lies above place b: 0 where it does not.
+fn above(a: i16, b: i16) -> u64
+    ensures { λ r. ⌜ (r ≡ above (a -ℤ b)) × (r ≤ 65535) ⌝ }
 {
-    if axis {
-        return marks::place_x(marks, m);
+    let p = marks::shifted(a);
+    let q = marks::shifted(b);
+    if q < p {
+        return (p - q) as u64;
     }
-    marks::place_y(marks, m)
+    0
 }
 
-// The low or the high edge on the axis.
-fn edge_on(view: Edges, axis: bool, low: bool) -> i16
-    ensures { λ r. ⌜ r ≡ edgeOn (rectangle view) axis low ⌝ }
+// The squared distance on an axis from a place to the interval from `low` to `high`: 0 in it. One of the two differences is 0 where
+// low ≤ high.
+fn gap_squared(low: i16, high: i16, place: i16) -> u64
+    ensures { λ r. ⌜ (r ≡ gapSquared low high place) × (r ≤ 131070 * 131070) ⌝ }
 {
-    if axis {
-        return if low { view.x0 } else { view.x1 };
-    }
-    if low { view.y0 } else { view.y1 }
+    let gap = above(low, place) + above(place, high);
+    gap * gap
 }
 
-// Does mark m lie between the edges on the axis, edges included?
-fn is_between(marks: &[u8], view: Edges, axis: bool, m: usize) -> bool
-    requires { ⌜ 11 * m + 11 ≤ length (now marks) ⌝ }
-    ensures { λ r. ⌜ r ≡ isBetween (now (marks .entry)) (rectangle view) axis m ⌝ }
+// Does mark m's disk at z = k/64 reach the rectangle, touching included? Both products fit 64 bits.
+pub fn reaches(marks: &[u8], view: Edges, k: u32, m: usize) -> bool
+    requires { ⌜ (11 * m + 11 ≤ length (now marks)) × (k ≤ 65536) ⌝ }
+    ensures { λ r. ⌜ r ≡ reaches (now (marks .entry)) k (rectangle view) m ⌝ }
 {
-    let place = place_on(marks, axis, m);
-    (edge_on(view, axis, true) <= place) & (place <= edge_on(view, axis, false))
+    let x = gap_squared(view.x0, view.x1, marks::place_x(marks, m));
+    let y = gap_squared(view.y0, view.y1, marks::place_y(marks, m));
+    let radius = marks::radius_at(marks, m) as u64;
+    let scale = k as u64;
+    4096 * (x + y) <= scale * scale * (radius * radius)
 }
 
-// Does mark m's point lie in the rectangle?
-pub fn is_inside(marks: &[u8], view: Edges, m: usize) -> bool
-    requires { ⌜ 11 * m + 11 ≤ length (now marks) ⌝ }
-    ensures { λ r. ⌜ r ≡ inside (now (marks .entry)) (rectangle view) m ⌝ }
+// Sets mark m's bit if its disk at z reaches the rectangle.
+fn visit(marks: &[u8], view: Edges, k: u32, m: usize, map: &mut [u8])
+    requires { ⌜ (11 * m + 11 ≤ length (now marks)) × (k ≤ 65536) × (m / 8 < length (now map)) ⌝ }
+    ensures { λ _. ⌜ BitsSet (reaches (now (marks .entry)) k (rectangle view)) (m ∷ []) (now (map .entry)) (now (map .exit)) ⌝ }
 {
-    is_between(marks, view, true, m) & is_between(marks, view, false, m)
-}
-
-// Sets mark m's bit if its point lies in the rectangle.
-fn visit(marks: &[u8], view: Edges, m: usize, map: &mut [u8])
-    requires { ⌜ (11 * m + 11 ≤ length (now marks)) × (m / 8 < length (now map)) ⌝ }
-    ensures { λ _. ⌜ BitsSet (inside (now (marks .entry)) (rectangle view)) (m ∷ []) (now (map .entry)) (now (map .exit)) ⌝ }
-{
-    if is_inside(marks, view, m) {
+    if reaches(marks, view, k, m) {
         bitmap::set_bit(map, m);
     }
 }
 
 // ---- the search
 
-// Does a place on the axis lie before the rectangle, which rules out the left half, or after it, which rules out the right half?
-fn is_beyond(view: Edges, axis: bool, left: bool, place: i16) -> bool
-    ensures { λ r. ⌜ r ≡ isBeyond (rectangle view) axis left place ⌝ }
+// The rectangle widened on each side, so that the point of every shown mark lies in it. The rectangle decides who is shown, the bounds
+// which halves are searched. They are coordinates as the index orders them, shifted to be at least 0.
+pub struct Bounds {
+    pub x0: u64,
+    pub x1: u64,
+    pub y0: u64,
+    pub y1: u64,
+}
+
+// The greater of `widest` and mark m's used radius, where m lives. Living is asked last: it takes a product, and most marks are not wider.
+fn wider(marks: &[u8], schedule: &[u8], k: u32, widest: u16, m: usize) -> u16
+    requires { ⌜ (11 * m + 11 ≤ length (now marks)) × (14 * m + 14 ≤ length (now schedule)) ⌝ }
+    ensures { λ r. ⌜ r ≡ wider (now (marks .entry)) (now (schedule .entry)) k widest m ⌝ }
 {
-    let edge = edge_on(view, axis, left);
-    if left { place < edge } else { edge < place }
+    let radius = marks::radius_at(marks, m);
+    if radius <= widest {
+        return widest;
+    }
+    if lives(schedule, k, m) {
+        radius
+    } else {
+        widest
+    }
+}
+
+// The greatest used radius of the n marks that live at z = k/64: 0 where none does. Only they can be shown, so that a wide mark that is
+// gone at z widens nothing.
+fn widest_living(marks: &[u8], schedule: &[u8], k: u32, n: usize) -> u16
+    requires { ⌜ (11 * n ≤ length (now marks)) × (14 * n ≤ length (now schedule)) ⌝ }
+    ensures { λ r. ⌜ r ≡ widestLiving (now (marks .entry)) (now (schedule .entry)) k n ⌝ }
+{
+    let mut widest: u16 = 0;
+    let mut m = 0;
+    while m < n {
+        widest = wider(marks, schedule, k, widest, m);
+        m += 1;
+    }
+    widest
+}
+
+// An edge moved down by `by`, at most to 0, or up.
+fn moved(edge: i16, low: bool, by: u64) -> u64
+    requires { ⌜ by ≤ 65536 * 65535 ⌝ }
+    ensures { λ r. ⌜ r ≡ moved edge low by ⌝ }
+{
+    let at = marks::shifted(edge) as u64;
+    if !low {
+        return at + by;
+    }
+    if at < by {
+        return 0;
+    }
+    at - by
+}
+
+// The rectangle widened by what a disk of the radius `widest` takes up at z = k/64, rounded down: distances on an axis are whole.
+fn bounds_of(view: Edges, k: u32, widest: u16) -> Bounds
+    requires { ⌜ k ≤ 65536 ⌝ }
+    ensures { λ r. ⌜ r ≡ boundsOf (rectangle view) k widest ⌝ }
+{
+    let by = k as u64 * widest as u64 / 64;
+    Bounds {
+        x0: moved(view.x0, true, by),
+        x1: moved(view.x1, false, by),
+        y0: moved(view.y0, true, by),
+        y1: moved(view.y1, false, by),
+    }
+}
+
+// The low or the high bound on the axis.
+fn bound_on(bounds: Bounds, axis: bool, low: bool) -> u64
+    ensures { λ r. ⌜ r ≡ boundOn bounds axis low ⌝ }
+{
+    if axis {
+        return if low { bounds.x0 } else { bounds.x1 };
+    }
+    if low { bounds.y0 } else { bounds.y1 }
+}
+
+// Does a coordinate on the axis lie before the bounds, which rules out the left half, or after them, which rules out the right half?
+fn is_beyond(bounds: Bounds, axis: bool, left: bool, coordinate: u64) -> bool
+    ensures { λ r. ⌜ r ≡ isBeyond bounds axis left coordinate ⌝ }
+{
+    let bound = bound_on(bounds, axis, left);
+    if left {
+        coordinate < bound
+    } else {
+        bound < coordinate
+    }
 }
 
 // How many of the `size` numbers of a half are searched: all, or none where the head of the other half shows that they lie beyond the
-// rectangle. No place of the left half is above that of the right half's head, and none of the right half is below that of the left
+// bounds. No coordinate of the left half is above that of the right half's head, and none of the right half is below that of the left
 // half's head. The other half has `other` numbers, from number `head` of the index on.
 fn size_to_search(
     marks: &[u8],
     index: &[u8],
-    view: Edges,
+    bounds: Bounds,
     axis: bool,
     left: bool,
     head: usize,
@@ -150,13 +229,13 @@ fn size_to_search(
     size: usize,
 ) -> usize
     requires { ⌜ AllMarked (now marks) (now index) × (2 * (head + other) ≤ length (now index)) ⌝ }
-    ensures { λ r. ⌜ r ≡ sizeToSearch (now (marks .entry)) (now (index .entry)) (rectangle view) axis left head other size ⌝ }
+    ensures { λ r. ⌜ r ≡ sizeToSearch (now (marks .entry)) (now (index .entry)) bounds axis left head other size ⌝ }
 {
     if other == 0 {
         return size;
     }
-    let place = place_on(marks, axis, index::entry(index, head));
-    if is_beyond(view, axis, left, place) {
+    let coordinate = index::coordinate(marks, axis, index::entry(index, head));
+    if is_beyond(bounds, axis, left, coordinate) {
         0
     } else {
         size
@@ -164,19 +243,20 @@ fn size_to_search(
 }
 
 // Sets the bits of the shown marks of a block: the `size` numbers of the index from number `lo` on. A block's root is removed last, so
-// where it does not live no mark of the block lives. A root outside the rectangle ends nothing: others of its block may lie inside.
+// where it does not live no mark of the block lives. A root that does not reach the rectangle ends nothing: others of its block may.
 fn search(
     marks: &[u8],
     schedule: &[u8],
     index: &[u8],
     view: Edges,
+    bounds: Bounds,
     k: u32,
     map: &mut [u8],
     lo: usize,
     size: usize,
     axis: bool,
 )
-    requires { ⌜ Searchable (now marks) (now schedule) (now index) (now map) lo size axis ⌝ }
+    requires { ⌜ Searchable (shown (now marks) (now schedule) k (rectangle view)) (now marks) (now schedule) (now index) (now map) bounds k lo size axis ⌝ }
     ensures { λ _. ⌜ BitsSet (shown (now (marks .entry)) (now (schedule .entry)) k (rectangle view)) (block (entryAt (now (index .entry))) lo size) (now (map .entry)) (now (map .exit)) ⌝ }
 {
     if size == 0 {
@@ -186,16 +266,27 @@ fn search(
     if !lives(schedule, k, root) {
         return;
     }
-    visit(marks, view, root, map);
+    visit(marks, view, k, root, map);
     // Of the others the first half is the larger: half of `size`, rounded down, since `size` counts the root too.
     let first = size / 2;
     let second = size - 1 - first;
     let p = lo + 1;
     let q = p + first;
-    let left = size_to_search(marks, index, view, axis, true, q, second, first);
-    search(marks, schedule, index, view, k, map, p, left, !axis);
-    let right = size_to_search(marks, index, view, axis, false, p, first, second);
-    search(marks, schedule, index, view, k, map, q, right, !axis);
+    let left = size_to_search(marks, index, bounds, axis, true, q, second, first);
+    search(marks, schedule, index, view, bounds, k, map, p, left, !axis);
+    let right = size_to_search(marks, index, bounds, axis, false, p, first, second);
+    search(
+        marks,
+        schedule,
+        index,
+        view,
+        bounds,
+        k,
+        map,
+        q,
+        right,
+        !axis,
+    );
 }
 
 // Writes the map of the n marks at the start of `map`, and answers how many are shown. The parts are those of an accepted sheet.
@@ -208,11 +299,12 @@ pub fn show(
     k: u32,
     map: &mut [u8],
 ) -> u32
-    requires { ⌜ Viewable (now marks) (now schedule) (now index) (now map) n ⌝ }
+    requires { ⌜ Viewable (now marks) (now schedule) (now index) (now map) n × (k ≤ 65536) ⌝ }
     ensures { λ r. ⌜ Viewed (shown (now (marks .entry)) (now (schedule .entry)) k (rectangle view)) n (now (map .entry)) (now (map .exit)) r ⌝ }
 {
     let size = (n + 7) / 8;
     bitmap::clear(map, size);
-    search(marks, schedule, index, view, k, map, 0, n, true);
+    let bounds = bounds_of(view, k, widest_living(marks, schedule, k, n));
+    search(marks, schedule, index, view, bounds, k, map, 0, n, true);
     bitmap::count(map, size) as u32
 }

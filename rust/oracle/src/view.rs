@@ -1,4 +1,4 @@
-//! The view, its map, and the walk (01, 'The view and its map').
+//! The view, its map, and the walk (01, 'The view and its map'; 02, request 1).
 
 use crate::fraction::{Fraction, Removal};
 use crate::mark::{Mark, MOST_MARKS};
@@ -81,11 +81,38 @@ pub fn lives(removal: Removal, k: u32) -> bool {
     removal.later_than(Fraction::new(k * k, 4_096))
 }
 
-/// Whether a mark is shown: it lives, and its point lies in the rectangle.
+/// The squared distance from a mark's point to the rectangle, whose nearest place is
+/// the point itself where it lies inside.
+///
+/// # Panics
+///
+/// On edges that question 11 refuses.
+fn squared_distance(mark: &Mark, edges: Edges) -> u64 {
+    let dx = mark.x.abs_diff(mark.x.clamp(edges.x0, edges.x1));
+    let dy = mark.y.abs_diff(mark.y.clamp(edges.y0, edges.y1));
+    let square = |difference: u16| u64::from(difference) * u64::from(difference);
+    square(dx) + square(dy)
+}
+
+/// Whether a mark's disk at zoom k/64 reaches the rectangle, touching included: the
+/// squared distance, times 4096, is at most k² times the squared radius.
+///
+/// # Panics
+///
+/// On marks that question 5 refuses, and edges that question 11 refuses.
+pub fn reaches(mark: &Mark, edges: Edges, k: u32) -> bool {
+    let radius = u64::from(mark.used_radius().expect("the kind exists"));
+    let k = u64::from(k);
+    4_096 * squared_distance(mark, edges) <= k * k * (radius * radius)
+}
+
+/// Whether a mark is shown: it lives, and its disk reaches the rectangle.
+///
+/// # Panics
+///
+/// As [`reaches`] does.
 pub fn shown(mark: &Mark, removal: Removal, edges: Edges, k: u32) -> bool {
-    lives(removal, k)
-        && (edges.x0..=edges.x1).contains(&mark.x)
-        && (edges.y0..=edges.y1).contains(&mark.y)
+    lives(removal, k) && reaches(mark, edges, k)
 }
 
 /// Answers a view by looking at every mark: the bytes written to the map, and the
@@ -234,6 +261,78 @@ mod tests {
         assert!(lives(Removal::Never, 65_536));
         assert!(lives(Removal::At(Fraction::new(million + 1, 1)), 65_536));
         assert!(!lives(Removal::At(Fraction::new(million, 1)), 65_536));
+    }
+
+    fn edges(x0: i16, x1: i16, y0: i16, y1: i16) -> Edges {
+        Edges { x0, x1, y0, y1 }
+    }
+
+    /// At zoom 5, k = 320, its disk has radius 50.
+    const TEN_WIDE: Mark = Mark::plain(0, 0, 10, 0);
+
+    #[test]
+    fn a_disk_that_touches_the_rectangle_reaches_it() {
+        let beside = |d: i16| {
+            [
+                edges(d, 200, -9, 9),
+                edges(-200, -d, -9, 9),
+                edges(-9, 9, d, 200),
+                edges(-9, 9, -200, -d),
+            ]
+        };
+        assert!(beside(50).iter().all(|&e| reaches(&TEN_WIDE, e, 320)));
+        assert!(beside(51).iter().all(|&e| !reaches(&TEN_WIDE, e, 320)));
+        assert!(beside(50).iter().all(|&e| !reaches(&TEN_WIDE, e, 319)));
+    }
+
+    #[test]
+    fn towards_a_corner_both_axes_count() {
+        // 30, 40 and 50 are the sides of a right triangle.
+        let corner = edges(30, 99, 40, 99);
+        assert!(reaches(&TEN_WIDE, corner, 320));
+        assert!(!reaches(&TEN_WIDE, corner, 319));
+        assert!(!reaches(&TEN_WIDE, edges(31, 99, 40, 99), 320));
+        assert!(!reaches(&TEN_WIDE, edges(30, 99, 41, 99), 320));
+    }
+
+    #[test]
+    fn a_disk_reaches_the_rectangles_that_have_a_place_in_it() {
+        let mark = Mark::plain(0, 0, 3, 0);
+        let side = |low: i16| (low..=6).map(move |high| (low, high));
+        for k in [1, 40, 64, 100] {
+            let in_disk = |x: i16, y: i16| {
+                let squared = i64::from(x).pow(2) + i64::from(y).pow(2);
+                4_096 * squared <= i64::from(k).pow(2) * 9
+            };
+            for (x0, x1) in (-6..=6).flat_map(side) {
+                for (y0, y1) in (-6..=6).flat_map(side) {
+                    let any = (x0..=x1).any(|x| (y0..=y1).any(|y| in_disk(x, y)));
+                    assert_eq!(reaches(&mark, edges(x0, x1, y0, y1), k), any);
+                }
+            }
+        }
+    }
+
+    #[test]
+    fn a_mark_of_radius_0_reaches_as_far_as_its_house_radius() {
+        let patch = Mark {
+            radius: 0,
+            kind: 10,
+            ..TEN_WIDE
+        };
+        assert!(reaches(&patch, edges(60, 99, 0, 0), 64));
+        assert!(!reaches(&patch, edges(61, 99, 0, 0), 64));
+    }
+
+    #[test]
+    fn the_widest_disks_are_compared_without_wrapping() {
+        let (low, high) = (i16::MIN, i16::MAX);
+        let far = edges(high, high, high, high);
+        let widest = Mark::plain(low, low, 16_383, 0);
+        assert!(!reaches(&widest, far, 362));
+        assert!(reaches(&widest, far, 363));
+        assert!(reaches(&widest, far, 65_536));
+        assert!(!reaches(&Mark::plain(low, low, 1, 0), far, 65_536));
     }
 
     #[test]

@@ -1,4 +1,5 @@
-//! The proved examples P1 to P12 of 01, and its 'Plausible and false'.
+//! The proved examples P1 to P12 of 01, with 02's answer to P4, and its 'Plausible and
+//! false'.
 
 use oracle::fraction::Fraction;
 use oracle::mark::{outranks, rank_order, touching_value, write_marks, Mark};
@@ -8,7 +9,7 @@ use oracle::report::print;
 use oracle::rules::{keep_both, Breach};
 use oracle::sheet::{check, join, open, schedule, split};
 use oracle::tree;
-use oracle::view::{is_set, view, Edges, Zoom};
+use oracle::view::{is_set, reaches, view, Edges, Zoom};
 
 /// The marks of P1.
 const P1: [Mark; 4] = [
@@ -82,7 +83,8 @@ fn p3() {
 
 #[test]
 fn p4() {
-    assert_eq!(view_p1(Zoom::Wheel(5.0)), Ok((vec![0x04], 1)));
+    // Request 1 of 02: mark 0's disk of radius 50 touches the rectangle's edge.
+    assert_eq!(view_p1(Zoom::Wheel(5.0)), Ok((vec![0x05], 2)));
 }
 
 #[test]
@@ -147,8 +149,8 @@ fn p11() {
 
 #[test]
 fn p12() {
-    // At stop 16, zoom 1,024, mark 2 of P1 is long gone.
-    assert_eq!(view_p1(Zoom::Stop(16)), Ok((vec![0x00], 0)));
+    // At stop 16, zoom 1,024, only mark 0 of P1 still lives.
+    assert_eq!(view_p1(Zoom::Stop(16)), Ok((vec![0x01], 1)));
     assert_eq!(view_p1(Zoom::Stop(17)), Err(12));
 }
 
@@ -279,22 +281,21 @@ fn false_that_a_removed_mark_still_blocks_others() {
     assert_eq!(check_with(&marks, &blocked), 8);
 }
 
-/// The marks in the rectangle that a search down the tree comes to, the living
-/// left aside; a cut search ends where a root is outside the rectangle.
-fn search(marks: &[Mark], tree: &[u16], edges: Edges, cut: bool) -> Vec<usize> {
+/// The marks that reach the rectangle and that a search down the tree comes to, the
+/// living left aside; a cut search ends where a root does not reach it.
+fn search(marks: &[Mark], tree: &[u16], edges: Edges, k: u32, cut: bool) -> Vec<usize> {
     let Some((&root, others)) = tree.split_first() else {
         return Vec::new();
     };
     let root = usize::from(root);
-    let (x, y) = (marks[root].x, marks[root].y);
-    let inside = (edges.x0..=edges.x1).contains(&x) && (edges.y0..=edges.y1).contains(&y);
-    if cut && !inside {
+    let reached = reaches(&marks[root], edges, k);
+    if cut && !reached {
         return Vec::new();
     }
     let (left, right) = others.split_at(others.len().div_ceil(2));
-    let mut found = search(marks, left, edges, cut);
-    found.extend(search(marks, right, edges, cut));
-    found.extend(inside.then_some(root));
+    let mut found = search(marks, left, edges, k, cut);
+    found.extend(search(marks, right, edges, k, cut));
+    found.extend(reached.then_some(root));
     found
 }
 
@@ -303,6 +304,56 @@ fn false_that_a_search_ends_at_a_root_outside_the_rectangle() {
     let (map, _) = view_p1(Zoom::Wheel(1.0)).unwrap();
     let shown: Vec<usize> = (0..4).filter(|&mark| is_set(&map, mark)).collect();
     let tree = tree::build(&P1, &records(&P1));
-    assert_eq!(search(&P1, &tree, P3, false), shown);
-    assert!(search(&P1, &tree, P3, true).is_empty());
+    assert_eq!(search(&P1, &tree, P3, 64, false), shown);
+    assert!(search(&P1, &tree, P3, 64, true).is_empty());
+}
+
+/// The marks that reach the rectangle at zoom 1 and that a search comes to which passes
+/// over a half where the other half's head lies beyond the rectangle, widened by so many
+/// map units at the half's root; the halves are those of one level.
+fn search_halves(
+    marks: &[Mark],
+    tree: &[u16],
+    edges: Edges,
+    widened: fn(&Mark) -> i16,
+) -> Vec<usize> {
+    let mark = |at: &[u16]| marks[usize::from(at[0])];
+    let (left, right) = tree[1..].split_at(tree.len() / 2);
+    let by = widened(&mark(tree));
+    let mut numbers = vec![tree[0]];
+    if mark(right).x >= edges.x0 - by {
+        numbers.extend(left);
+    }
+    if mark(left).x <= edges.x1 + by {
+        numbers.extend(right);
+    }
+    let reached = |&number: &usize| reaches(&marks[number], edges, 64);
+    numbers
+        .into_iter()
+        .map(usize::from)
+        .filter(reached)
+        .collect()
+}
+
+#[test]
+fn false_that_halves_may_be_cut_by_the_rectangle_or_by_a_roots_own_radius() {
+    // At zoom 1 the disk of mark 1 reaches from -1,500 to -500, over mark 2's place.
+    let marks = [
+        Mark::plain(0, 0, 1, 9),
+        Mark::plain(-1_000, 0, 500, 5),
+        Mark::plain(-700, 0, 1, 4),
+    ];
+    let edges = Edges {
+        x0: -600,
+        x1: -550,
+        y0: 0,
+        y1: 0,
+    };
+    let seen = view(&scheduled(&marks), edges, Zoom::Wheel(1.0), 1);
+    assert_eq!(seen, Ok((vec![0x02], 1)));
+    let tree = tree::build(&marks, &records(&marks));
+    assert_eq!(tree, [0, 1, 2]);
+    assert_eq!(search_halves(&marks, &tree, edges, |_| 500), [1]);
+    assert!(search_halves(&marks, &tree, edges, |_| 0).is_empty());
+    assert!(search_halves(&marks, &tree, edges, |root| root.radius as i16).is_empty());
 }

@@ -10,7 +10,7 @@ use oracle::rules::keep_both;
 use oracle::sample::{marks, Generator, Shape};
 use oracle::sheet::{assemble, check, join, open, part_extent, schedule, split};
 use oracle::tree;
-use oracle::view::{is_set, lives, view, walk, zoom_in_64ths, Edges, Zoom, NO_MARK};
+use oracle::view::{is_set, lives, reaches, view, walk, zoom_in_64ths, Edges, Zoom, NO_MARK};
 
 const EVERYWHERE: Edges = Edges {
     x0: i16::MIN,
@@ -97,10 +97,9 @@ fn search(marks: &[Mark], records: &[Record], tree: &[u16], edges: Edges, k: u32
     if !lives(records[root].removal(), k) {
         return Vec::new();
     }
-    let Mark { x, y, .. } = marks[root];
-    let inside = edges.x0 <= x && x <= edges.x1 && edges.y0 <= y && y <= edges.y1;
     let (left, right) = others.split_at(others.len().div_ceil(2));
-    let mut found: Vec<usize> = inside.then_some(root).into_iter().collect();
+    let reached = reaches(&marks[root], edges, k);
+    let mut found: Vec<usize> = reached.then_some(root).into_iter().collect();
     found.extend(search(marks, records, left, edges, k));
     found.extend(search(marks, records, right, edges, k));
     found.sort_unstable();

@@ -45,8 +45,9 @@ pub const fn map_bytes(n: usize) -> usize {
 }
 
 /// Answers a view: writes which marks are shown to `map`, mark m as bit m mod 8 of
-/// byte m / 8, and answers their count. Unused bits of the last byte become 0, and
-/// bytes past the first [`map_bytes`] of the marks stay as they are.
+/// byte m / 8, and answers their count. A mark is shown if it lives at the zoom and its
+/// disk there reaches the rectangle, touching included. Unused bits of the last byte
+/// become 0, and bytes past the first [`map_bytes`] of the marks stay as they are.
 ///
 /// # Errors
 ///

@@ -24,7 +24,7 @@ part 2 at 76, 56 bytes
 part 3 at 132, 8 bytes: 0 1 3 2
 part 4 at 0, 0 bytes
 wheel 1: 0, count 2, map 06 ee, marks 1 2
-wheel 5: 0, count 1, map 04 ee, marks 2
+wheel 5: 0, count 2, map 05 ee, marks 0 2
 stop 0: 0, count 4, map 0f ee, marks 0 1 2 3
 stop 17: 12, count 0, map 0f ee, marks 0 1 2 3
 cut short: 3 0

@@ -14,7 +14,7 @@ use oracle::process::schedule_in_rank_order;
 use oracle::record::{removals, Record};
 use oracle::report::removal_zoom_in_64ths;
 use oracle::sample::{marks, Generator, Shape};
-use oracle::view::{map_bytes, shown, zoom_in_64ths, Edges};
+use oracle::view::{is_set, map_bytes, shown, zoom_in_64ths, Edges};
 use rollmap::{View, Zoom};
 
 /// The whole range of places, at stop 0.
@@ -32,6 +32,15 @@ fn zoom(view: View) -> oracle::view::Zoom {
         Zoom::Stop(stop) => oracle::view::Zoom::Stop(stop),
         Zoom::Wheel(wheel) => oracle::view::Zoom::Wheel(wheel),
     }
+}
+
+/// A zoom that is taken, in 64ths.
+fn in_64ths(taken: Zoom) -> u32 {
+    let zoom = zoom(View {
+        zoom: taken,
+        ..WHOLE
+    });
+    zoom_in_64ths(zoom).unwrap()
 }
 
 /// The zoom that is k 64ths, on the wheel.
@@ -87,7 +96,7 @@ impl Scheduled {
 
     /// The map and the count of a view that is taken.
     fn expected(&self, view: View) -> (Vec<u8>, u32) {
-        let k = zoom_in_64ths(zoom(view)).unwrap();
+        let k = in_64ths(view.zoom);
         let mut map = vec![0; map_bytes(self.marks.len())];
         let mut count = 0;
         for (number, (mark, &removal)) in self.marks.iter().zip(&self.removals).enumerate() {
@@ -99,6 +108,16 @@ impl Scheduled {
         (map, count)
     }
 
+    /// Some view of it that is taken.
+    fn some_view(&self, generator: &mut Generator) -> View {
+        let zoom = some_zoom(generator, &self.removals);
+        let k = in_64ths(zoom);
+        View {
+            zoom,
+            ..some_rectangle(generator, &self.marks, k)
+        }
+    }
+
     /// Answers a view that is taken, as looking at every mark does. Answers the count.
     fn view(&self, view: View) -> u32 {
         let expected = self.expected(view);
@@ -108,22 +127,78 @@ impl Scheduled {
     }
 }
 
-/// A rectangle between the places of two marks, moved by a unit or not.
-fn some_rectangle(generator: &mut Generator, marks: &[Mark]) -> View {
+/// A rectangle: all places, one between the places of two marks, one that a disk just
+/// reaches or just misses at k/64, or a small one anywhere.
+fn some_rectangle(generator: &mut Generator, marks: &[Mark], k: u32) -> View {
     if marks.is_empty() || generator.below(12) == 0 {
         return WHOLE;
     }
-    let (a, b) = (generator.choose(marks), generator.choose(marks));
-    let mut nudged = |edge: i16| edge.saturating_add(generator.choose(&[0, 0, 0, 1, -1]));
-    let [x0, x1, y0, y1] =
-        [a.x.min(b.x), a.x.max(b.x), a.y.min(b.y), a.y.max(b.y)].map(&mut nudged);
+    match generator.below(3) {
+        0 => between_marks(generator, marks),
+        1 => beside_a_disk(generator, marks, k).0,
+        _ => anywhere(generator),
+    }
+}
+
+/// The rectangle with these edges, put in order.
+fn rectangle(x: [i16; 2], y: [i16; 2]) -> View {
     View {
-        x0: x0.min(x1),
-        x1: x0.max(x1),
-        y0: y0.min(y1),
-        y1: y0.max(y1),
+        x0: x[0].min(x[1]),
+        x1: x[0].max(x[1]),
+        y0: y[0].min(y[1]),
+        y1: y[0].max(y[1]),
         zoom: Zoom::Stop(0),
     }
+}
+
+/// A rectangle between the places of two marks, moved by a unit or not.
+fn between_marks(generator: &mut Generator, marks: &[Mark]) -> View {
+    let (a, b) = (generator.choose(marks), generator.choose(marks));
+    let nudged = |edge: i16| edge.saturating_add(generator.choose(&[0, 0, 0, 1, -1]));
+    let [x0, x1, y0, y1] = [a.x, b.x, a.y, b.y].map(nudged);
+    rectangle([x0, x1], [y0, y1])
+}
+
+/// A rectangle of up to 9 places a side, which most disks are wider than.
+fn anywhere(generator: &mut Generator) -> View {
+    let mut side = || {
+        let low = generator.between(i16::MIN, i16::MAX);
+        [low, low.saturating_add(generator.between(0, 8))]
+    };
+    rectangle(side(), side())
+}
+
+/// A rectangle whose nearest place is as far from a mark as its disk at k/64 reaches, as
+/// near as whole numbers allow, or one unit further; with the mark's number.
+fn beside_a_disk(generator: &mut Generator, marks: &[Mark], k: u32) -> (View, usize) {
+    let number = generator.below(marks.len() as u32) as usize;
+    let mark = marks[number];
+    let radius = u64::from(mark.used_radius().unwrap());
+    let reach = u64::from(k) * radius / 64;
+    let along = match generator.below(3) {
+        0 => 0, // beside an edge, not a corner
+        1 => reach * 3 / 5,
+        _ => u64::from(generator.below(reach.min(65_535) as u32 + 1)),
+    };
+    let squared = u64::from(k).pow(2) * radius.pow(2) / 4_096;
+    let across = (squared - along * along).isqrt() + u64::from(generator.below(2));
+    let mut side = |place: i16, distance: u64| {
+        let distance = distance.min(65_535) as i32 * generator.choose(&[1, -1]);
+        let near = i32::from(place) + distance;
+        let far = near + distance.signum() * generator.choose(&[0, 3, 1_000, 40_000]);
+        let fitting = |edge: i32| edge.clamp(i16::MIN.into(), i16::MAX.into()) as i16;
+        [fitting(near), fitting(far)]
+    };
+    let (one, other) = (side(mark.x, along), side(mark.y, across));
+    (rectangle(one, other), number)
+}
+
+/// Whether a mark's disk at k/64 touches the rectangle from outside.
+fn touches(mark: &Mark, view: View, k: u32) -> bool {
+    let dx = i64::from(mark.x) - i64::from(mark.x.clamp(view.x0, view.x1));
+    let dy = i64::from(mark.y) - i64::from(mark.y.clamp(view.y0, view.y1));
+    let reach = i64::from(k) * i64::from(mark.used_radius().unwrap());
+    (64 * dx).pow(2) + (64 * dy).pow(2) == reach.pow(2)
 }
 
 /// A zoom: a stop, any wheel value that is taken, or one about which a mark goes.
@@ -153,7 +228,7 @@ fn proved_examples() {
     };
     let p3 = Ok((vec![0x06], 2));
     assert_view(&sheet, at(Zoom::Wheel(1.0)), 1, &p3);
-    let p4 = Ok((vec![0x04], 1));
+    let p4 = Ok((vec![0x05], 2));
     assert_view(&sheet, at(Zoom::Wheel(5.0)), 1, &p4);
     for taken in [1.0 / 64.0, 1_024.0] {
         assert_eq!(view(&sheet, at(Zoom::Wheel(taken)), 1), 0);
@@ -369,9 +444,8 @@ fn many_small_sheets() {
         let records = some_records(&mut generator, &sample);
         let scheduled = Scheduled::new(sample, &records);
         for _ in 0..4 {
-            let zoom = some_zoom(&mut generator, &scheduled.removals);
-            let rectangle = some_rectangle(&mut generator, &scheduled.marks);
-            let count = scheduled.view(View { zoom, ..rectangle });
+            let view = scheduled.some_view(&mut generator);
+            let count = scheduled.view(view);
             partly += usize::from(count > 0 && (count as usize) < scheduled.marks.len());
         }
     }
@@ -395,13 +469,44 @@ fn larger_sheets_ours_and_foreign() {
             for records in lists {
                 let scheduled = Scheduled::new(sample.clone(), &records);
                 for _ in 0..60 {
-                    let zoom = some_zoom(&mut generator, &scheduled.removals);
-                    let rectangle = some_rectangle(&mut generator, &scheduled.marks);
-                    scheduled.view(View { zoom, ..rectangle });
+                    let view = scheduled.some_view(&mut generator);
+                    scheduled.view(view);
                 }
             }
         }
     }
+}
+
+#[test]
+fn disks_that_just_reach_the_rectangle_and_that_just_miss_it() {
+    let mut generator = Generator::new(47);
+    let (mut touched, mut reached, mut missed) = (0, 0, 0);
+    for shape in Shape::ALL {
+        for n in [1, 2, 9, 120] {
+            let sample = marks(shape, n, 10);
+            let records = vec![Record::NEVER; n];
+            let scheduled = Scheduled::new(sample, &records);
+            for _ in 0..300 {
+                // At a whole zoom a disk reaches a whole number of map units.
+                let zoom = match generator.below(2) {
+                    0 => wheel(64 * (1 + generator.below(9))),
+                    _ => some_zoom(&mut generator, &[]),
+                };
+                let k = in_64ths(zoom);
+                let (beside, number) = beside_a_disk(&mut generator, &scheduled.marks, k);
+                let asked = View { zoom, ..beside };
+                let expected = scheduled.expected(asked);
+                let shown = is_set(&expected.0, number);
+                reached += usize::from(shown);
+                missed += usize::from(!shown);
+                touched += usize::from(touches(&scheduled.marks[number], asked, k));
+                assert_view(&scheduled.sheet, asked, expected.0.len() - 1, &Err(13));
+                scheduled.view(asked);
+            }
+        }
+    }
+    let numbers = [touched, reached, missed];
+    assert!(numbers.iter().all(|&n| n > 1_000), "{numbers:?}");
 }
 
 #[test]
@@ -412,9 +517,8 @@ fn the_largest_sheets() {
         let records = foreign_records(&mut generator, &sample);
         let scheduled = Scheduled::new(sample, &records);
         for _ in 0..60 {
-            let zoom = some_zoom(&mut generator, &scheduled.removals);
-            let rectangle = some_rectangle(&mut generator, &scheduled.marks);
-            scheduled.view(View { zoom, ..rectangle });
+            let view = scheduled.some_view(&mut generator);
+            scheduled.view(view);
         }
         assert_view(&scheduled.sheet, WHOLE, 511, &Err(13));
     }
@@ -426,7 +530,12 @@ fn refused_sheets_write_nothing() {
     let mut numbers = BTreeMap::new();
     for _ in 0..30_000 {
         let sheet = some_sheet(&mut generator);
-        let number = view(&sheet, WHOLE, generator.choose(&[0, 1, 6, 6, 6]));
+        let small = anywhere(&mut generator);
+        let asked = View {
+            zoom: some_zoom(&mut generator, &[]),
+            ..generator.choose(&[WHOLE, small])
+        };
+        let number = view(&sheet, asked, generator.choose(&[0, 1, 6, 6, 6]));
         *numbers.entry(number).or_insert(0) += 1;
     }
     let reached = (0..=10).chain([13]);

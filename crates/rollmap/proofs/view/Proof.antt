@@ -9,6 +9,7 @@ use Rattle.contents.specs.Contents.{countAt}
 use Rattle.contents.specs.Lemmas.Tests.{said-no, said-yes}
 use Rattle.sheet.specs.Questions.{check}
 use Rattle.sheet.specs.Laws.{accepted-iff}
+use Rattle.view.specs.ZoomLaws.{scale-most}
 use Rattle.view.specs.View.{rectangle}
 use Rattle.view.specs.Questions.{question11}
 use Rattle.rollmap.specs.Lemmas.Viewing.{view-refused, view-no-parts, view-no-rectangle, view-no-zoom, view-taken}
@@ -78,7 +79,9 @@ view-at-requires : tie.Need-view-at-requires
 view-at-requires c κs =
     let p = c .before .before .before .before .before .before .before in
     let few = accepted-iff _ .0 (accepted (p .before .before)) .laid .whole .few in
-    (accepted (p .before .before), omega (arith, few, three p))
+    let k = c .before .before .k .given in
+    let is = sym (c .before .before .before .before .scale-of .ensures) ∙ k .1 in
+    (accepted (p .before .before), omega (arith, few, three p), scale-most _ (k .0 .0) is)
 
 returns-4 : tie.Need-returns-4
 returns-4 c =

@@ -32,7 +32,7 @@ show-requires c κs =
     let b = c .before .before .before .before in
     let s = b .before .before .before in
     rw (b .body .ensures, c .before .before .body2 .ensures, c .before .body3 .ensures)
-    (viewable (now (s .args .sheet)) _ (s .pre .0) (s .pre .1) (rw (b .body .ensures) at (c .before .before .before .if1 .left)))
+    (viewable (now (s .args .sheet)) _ (s .pre .0) (s .pre .1) (rw (b .body .ensures) at (c .before .before .before .if1 .left)), s .pre .2)
 
 same-length : tie.Need-same-length
 same-length c = search needs

@@ -5,10 +5,12 @@ use native.Mathlib.Omega.{arith}
 use mathlib.Core.Path.{sym, _∙_}
 use mathlib.Core.Bool.{true, false}
 use borrow.Author.Tests.{not-true, not-false}
+use denote.Ref.{now}
 use borrow.Fn.Kinds.{In}
 use borrow.Fn.PlainCycle.{Measures, is, falls, and}
 use Rattle.view.specs.View.{rectangle}
-use Rattle.view.specs.Lemmas.Bits.{set-nothing}
+use Rattle.view.specs.Lemmas.Reaching.{living-shown}
+use Rattle.view.specs.Lemmas.Bits.{set-nothing, set-same}
 use Rattle.view.specs.Lemmas.Search.{root-fits, all-marked, block-none, half-call, block-set}
 use Rattle.view.proofs.search.Reads as reads
 use Rattle.view.proofs.search.Kinds as kinds
@@ -21,7 +23,7 @@ use Rattle.view.proofs.+search.{statement}
 use Rattle.view.proofs.+search.Tie.{close}
 
 abbrev size-of : Measures 4 kinds.ps ℕ
-size-of κs a = a .1 .1 .1 .1 .1 .1 .1 .0
+size-of κs a = a .1 .1 .1 .1 .1 .1 .1 .1 .0
 
 -- what a call with the size t is given, and what it asks of the calls that it makes
 module _ (t : ℕ) where
@@ -57,15 +59,14 @@ module _ (t : ℕ) where
   returns-2 c =
       let a = c .before .before .before .before .before .before .before .before in
       let dead = sym (c .before .lives .ensures) ∙ not-true _ (c .if2 .taken) in
-      block-none (a .pre .1) (c .before .before .before .if1 .left) (a .args .k) (rectangle (a .args .view))
-      (c .before .before .entry .ensures .0) dead
+      block-none (a .pre .1) (c .before .before .before .if1 .left) (c .before .before .entry .ensures .0) dead
 
   visit-requires : lts.Need-visit-requires claims given reads.Post
   visit-requires c κs =
       let r = c .before .before .before in
       let a = r .before .before .before .before .before .before in
       let f = root-fits (a .pre .1) (r .before .if1 .left) (r .entry .ensures .0) in
-      (f .0, f .2)
+      (f .0, a .pre .1 .taken, f .2)
 
   sub-second : lts.Need-sub-second claims given reads.Post
   sub-second c = omega arith
@@ -93,7 +94,7 @@ module _ (t : ℕ) where
   search-requires c κs =
       let v = c .before .before .before .before in
       let a = start v in
-      half-call (a .pre .1) (v .before .before .before .before .before .if1 .left) (a .args .k) (rectangle (a .args .view)) true
+      half-call (a .pre .1) (v .before .before .before .before .before .if1 .left) true
       (c .before .size-to-search .ensures) (a .pre .0) (v .visit .ensures .long)
 
   size-to-search-requires-2 : lts.Need-size-to-search-requires-2 claims given reads.Post
@@ -107,7 +108,7 @@ module _ (t : ℕ) where
       let w = c .before .before .before .before in
       let v = w .before .before .before .before .before in
       let a = start v in
-      half-call (a .pre .1) (v .before .before .before .before .before .if1 .left) (a .args .k) (rectangle (a .args .view)) false
+      half-call (a .pre .1) (v .before .before .before .before .before .if1 .left) false
       (c .before .size-to-search2 .ensures) (a .pre .0) (w .search .ensures .long ∙ v .visit .ensures .long)
 
   same-length : lts.Need-same-length claims given reads.Post
@@ -122,8 +123,10 @@ module _ (t : ℕ) where
       let v = w .before .before .before .before .before in
       let a = start v in
       let alive = sym (v .before .before .before .lives .ensures) ∙ not-false _ (v .before .before .if2 .left) in
-      block-set (a .pre .1) (v .before .before .before .before .before .if1 .left) (a .args .k) (rectangle (a .args .view))
-      (v .before .before .before .before .entry .ensures .0) alive (v .visit .ensures)
+      let g = a .args in
+      let same = living-shown (now (g .marks)) (now (g .schedule)) (g .k) (rectangle (g .view)) _ alive in
+      block-set (a .pre .1) (v .before .before .before .before .before .if1 .left)
+      (v .before .before .before .before .entry .ensures .0) (set-same _ same (v .visit .ensures))
       (w .before .before .size-to-search .ensures) (w .search .ensures)
       (c .before .before .before .before .size-to-search2 .ensures) (c .before .before .search2 .ensures)
 

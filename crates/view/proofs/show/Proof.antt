@@ -14,17 +14,26 @@ add-size c = search needs
 clear-requires : tie.Need-clear-requires
 clear-requires c κs = search needs
 
+widest-living-requires : tie.Need-widest-living-requires
+widest-living-requires c κs = search needs
+
+bounds-of-requires : tie.Need-bounds-of-requires
+bounds-of-requires c κs = search needs
+
 search-requires : tie.Need-search-requires
 search-requires c κs =
-    let d = c .before .before .before in
-    whole-searchable (d .before .before .before .before .before .before .pre) (d .clear .ensures .long)
+    let w = c .before .before in
+    let d = w .before .before .before in
+    let a = d .before .before .before .before .before .before in
+    whole-searchable (a .pre .0) (a .args .k) (rectangle (a .args .view)) (d .clear .ensures .long) (a .pre .1)
+    (rw (w .widest-living .ensures) at (c .before .bounds-of .ensures))
 
 count-requires : tie.Need-count-requires
 count-requires c κs = search needs
 
 cast-result : tie.Need-cast-result
 cast-result c =
-    let after = c .before .before .before .before .search .last .1 .1 .1 .1 .1 .0 in
+    let after = c .before .before .before .before .search .last .1 .1 .1 .1 .1 .1 .0 in
     record { fits = count-fits after (omega arith) (c .count .ensures) }
 
 same-length : tie.Need-same-length
@@ -33,10 +42,10 @@ same-length c = search needs
 returns : tie.Need-returns
 returns c =
     let f = c .before .before .before .before in
-    let d = f .before .before .before .before in
+    let d = f .before .before .before .before .before .before in
     let a = d .before .before .before .before .before .before in
     let v = a .args in
-    viewed (a .pre) {shown = shown (now (v .marks)) (now (v .schedule)) (v .k) (rectangle (v .view))} (d .clear .ensures) (f .search .ensures)
+    viewed (a .pre .0) {shown = shown (now (v .marks)) (now (v .schedule)) (v .k) (rectangle (v .view))} (d .clear .ensures) (f .search .ensures)
     (λ i. c .before .before .slice-known3 .given i .fits) (c .count .ensures)
 
 pub show-spec : {M : Type 1} → statement M
@@ -45,6 +54,8 @@ show-spec =
     (tie.spec
     add-size
     clear-requires
+    widest-living-requires
+    bounds-of-requires
     search-requires
     count-requires
     cast-result

@@ -1,74 +1,57 @@
--- A mark whose place is beyond the rectangle has, on that axis, a coordinate below those of all marks inside, or above them.
-use Prim.Native.Nat.{ℕ, _+_, _*_, _<_}
+-- Places counted from n below 0, where omega reads them: their differences and their order, as long as n is below them all.
+use Prim.Native.Nat.{ℕ, zero, suc, _+_, _-_, _<_, _≤_}
 use native.Mathlib.Omega.{arith}
-use mathlib.Core.Path.{_≡_, _∙_}
-use mathlib.Core.Bool.{Bool, true, false}
-use mathlib.Core.List.{List}
-use lib.Dec.{T, ltb, leb}
-use lib.IntN.{ℤ}
-use lib.Signed.{mag, ltZ, leZ, ltZ-yes, leZ-yes, <ℤ-≤ℤ-trans, clashℤ}
-use borrow.Author.Tests.{ltb-true, ltb-false, leb-false}
-use Rattle.numbers.specs.Little.{leAt, signed}
+use mathlib.Core.Path.{_≡_, refl}
+use mathlib.Core.Bool.{true, false}
+use lib.Dec.{ltb}
+use lib.IntN.{ℤ, pos, negsuc, subℕ, _-ℤ_, natAbs}
+use lib.Signed.{mag, leZ}
+use borrow.Author.Tests.{ltb-true, ltb-false, leb-true, leb-false}
 use Rattle.marks.specs.Marks.{shifted}
-use Rattle.index.specs.Index.{coordinate}
-use Rattle.index.specs.Laws.{shifted-order}
-use Rattle.index.specs.Lemmas.Count.{by-cases, and-left, and-right}
-use Rattle.view.specs.Shown.{Rectangle, inside}
-use Rattle.view.specs.Search.{placeAt, edgeOn, isBetween, isBeyond}
+use Rattle.index.specs.Lemmas.Count.{by-cases}
+use Rattle.view.specs.Shown.{above}
 
--- ---- the order of places
+pub above-sub : (a b : ℕ) → above (subℕ a b) ≡ a - b
+above-sub a b = by-cases (ltb a b) (λ e. rw e (omega (arith, ltb-true a b e))) (λ e. rw e)
 
-no-cycle : (a b c : ℤ) → ltZ a b ≡ true → leZ b c ≡ true → leZ c a ≡ true → ⊥
-no-cycle a b c p q r =
-    clashℤ (<ℤ-≤ℤ-trans (ltZ-yes {a = a} {b = b} (passes p)) (leZ-yes {a = b} {b = c} (passes q))) (leZ-yes {a = c} {b = a} (passes r))
-  where
-    passes : {t : Bool} → t ≡ true → T t
-    passes e = rw e tt
+abs-sub : (a b : ℕ) → natAbs (subℕ a b) ≡ (a - b) + (b - a)
+abs-sub a b =
+    by-cases (ltb a b) (λ e. rw e (omega (arith, ltb-true a b e))) (λ e. rw e (omega (arith, ltb-false a b e)))
 
--- a place has 16 bits, whatever the list holds
-signed-mag : (u : ℕ) → mag (signed 2 u) < 32768
-signed-mag u = by-cases (ltb u 32768) (λ e. rw e (ltb-true u 32768 e)) (λ e. rw e (omega (arith, ltb-false u 32768 e)))
+-- how far the place z lies above -n
+abbrev pub from : ℕ → ℤ → ℕ
+from n (pos a) = a + n
+from n (negsuc a) = n - suc a
 
-module _ (s : List ℕ) (axis : Bool) where
-  place-mag : (m : ℕ) → mag (placeAt s axis m) < 32768
-  place-mag m = by-cases axis (λ e. rw e (signed-mag (leAt 2 s (11 * m)))) (λ e. rw e (signed-mag (leAt 2 s (11 * m + 2))))
+pub shifted-from : (z : ℤ) → shifted z ≡ from 32768 z
+shifted-from (pos a) = refl
+shifted-from (negsuc a) = refl
 
-  coordinate-is : (m : ℕ) → coordinate s axis m ≡ shifted (placeAt s axis m)
-  unfolding coordinate
-  coordinate-is m = by-cases axis (λ e. rw e) (λ e. rw e)
+module _ (n : ℕ) where
+  pub from-above : (a b : ℤ) → mag a < n → mag b < n → above (a -ℤ b) ≡ from n a - from n b
+  from-above (pos a) (pos zero) p q = omega arith
+  from-above (pos a) (pos (suc b)) p q = omega (arith, above-sub a (suc b))
+  from-above (pos a) (negsuc b) p q = omega arith
+  from-above (negsuc a) (pos zero) p q = omega (arith, above-sub 0 (suc a))
+  from-above (negsuc a) (pos (suc b)) p q = omega arith
+  from-above (negsuc a) (negsuc b) p q = omega (arith, above-sub (suc b) (suc a))
 
-  coordinate-less : (a b : ℕ) → (leZ (placeAt s axis b) (placeAt s axis a) ≡ true → ⊥) → coordinate s axis a < coordinate s axis b
-  coordinate-less a b h = rw (coordinate-is a, coordinate-is b) (leb-false (shifted y) (shifted x) (by-cases (leb (shifted y) (shifted x)) never (λ e. e)))
-    where
-      x : ℤ
-      x = placeAt s axis a
+  pub from-abs : (a b : ℤ) → mag a < n → mag b < n → natAbs (a -ℤ b) ≡ (from n a - from n b) + (from n b - from n a)
+  from-abs (pos a) (pos zero) p q = omega arith
+  from-abs (pos a) (pos (suc b)) p q = omega (arith, abs-sub a (suc b))
+  from-abs (pos a) (negsuc b) p q = omega arith
+  from-abs (negsuc a) (pos zero) p q = omega (arith, abs-sub 0 (suc a))
+  from-abs (negsuc a) (pos (suc b)) p q = omega arith
+  from-abs (negsuc a) (negsuc b) p q = omega (arith, abs-sub (suc b) (suc a))
 
-      y : ℤ
-      y = placeAt s axis b
+  pub from-le : (a b : ℤ) → mag a < n → mag b < n → leZ a b ≡ true → from n a ≤ from n b
+  from-le (pos a) (pos b) p q h = omega (arith, leb-true a b h)
+  from-le (pos a) (negsuc b) p q h = absurd (let z : _≡_ {A = ℕ} 0 1 = cc in omega arith)
+  from-le (negsuc a) (pos b) p q h = omega arith
+  from-le (negsuc a) (negsuc b) p q h = omega (arith, leb-true b a h)
 
-      never : leb (shifted y) (shifted x) ≡ true → leb (shifted y) (shifted x) ≡ false
-      never e = absurd (h (shifted-order y x (place-mag b) (place-mag a) ∙ e))
-
--- ---- m is inside, and y beyond
-
-module _ (s : List ℕ) (e : Rectangle) (m : ℕ) (h : inside s e m ≡ true) where
-  between : (axis : Bool) → isBetween s e axis m ≡ true
-  unfolding inside
-  between true = and-left (isBetween s e true m) (isBetween s e false m) h
-  between false = and-right (isBetween s e true m) (isBetween s e false m) h
-
-  module _ (axis : Bool) (y : ℕ) where
-    low : leZ (edgeOn e axis true) (placeAt s axis m) ≡ true
-    low = and-left (leZ (edgeOn e axis true) (placeAt s axis m)) (leZ (placeAt s axis m) (edgeOn e axis false)) (between axis)
-
-    high : leZ (placeAt s axis m) (edgeOn e axis false) ≡ true
-    high = and-right (leZ (edgeOn e axis true) (placeAt s axis m)) (leZ (placeAt s axis m) (edgeOn e axis false)) (between axis)
-
-    pub beyond-left : isBeyond e axis true (placeAt s axis y) ≡ true → coordinate s axis y < coordinate s axis m
-    unfolding isBeyond
-    beyond-left b = coordinate-less s axis y m (no-cycle (placeAt s axis y) (edgeOn e axis true) (placeAt s axis m) b low)
-
-    pub beyond-right : isBeyond e axis false (placeAt s axis y) ≡ true → coordinate s axis m < coordinate s axis y
-    unfolding isBeyond
-    beyond-right b =
-        coordinate-less s axis m y (λ q. no-cycle (edgeOn e axis false) (placeAt s axis y) (placeAt s axis m) b q high)
+  pub from-lt : (a b : ℤ) → mag a < n → mag b < n → leZ a b ≡ false → from n b < from n a
+  from-lt (pos a) (pos b) p q h = omega (arith, leb-false a b h)
+  from-lt (pos a) (negsuc b) p q h = omega arith
+  from-lt (negsuc a) (pos b) p q h = absurd (let z : _≡_ {A = ℕ} 0 1 = cc in omega arith)
+  from-lt (negsuc a) (negsuc b) p q h = omega (arith, leb-false b a h)

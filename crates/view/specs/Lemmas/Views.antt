@@ -19,14 +19,19 @@ use Rattle.bitmap.specs.Facts.{Shows, Cleared, countBits}
 use Rattle.bitmap.specs.Laws.{map-is, cleared-bit, count-shown}
 use Rattle.bitmap.specs.Lemmas.Counts.{count-le as bits-le}
 use Rattle.view.specs.View.{Viewable, Viewed}
-use Rattle.view.specs.Search.{inByte, BitsSet, Searchable}
+use Rattle.view.specs.declared.Bounds.{Bounds}
+use Rattle.view.specs.Shown.{Rectangle, shown}
+use Rattle.view.specs.Search.{widestLiving, boundsOf, inByte, BitsSet, Searchable}
+use Rattle.view.specs.Lemmas.Reaching.{shown-lives, shown-within}
 
 module _ {s p t map : List ℕ} {n : ℕ} (v : Viewable s p t map n) where
   few : n ≤ 65536
   few = omega arith
 
-  pub whole-searchable : {cleared : List ℕ} → length cleared ≡ length map → Searchable s p t cleared 0 n true
-  whole-searchable long =
+  -- `b` is what the code has worked out
+  pub whole-searchable : {cleared : List ℕ} (k : ℕ) (e : Rectangle) {b : Bounds} → length cleared ≡ length map → k ≤ 65536
+      → b ≡ boundsOf e k (widestLiving s p k n) → Searchable (shown s p k e) s p t cleared b k 0 n true
+  whole-searchable k e long taken is =
       record {
         n = n;
         whole = v .whole;
@@ -34,6 +39,9 @@ module _ {s p t map : List ℕ} {n : ℕ} (v : Viewable s p t map n) where
         fits = omega arith;
         room = omega (arith, v .room);
         tree = block-tree s p n few t (v .index-right);
+        taken = taken;
+        lives = shown-lives s p k e;
+        held = λ m h q axis. rw is (shown-within s p k e m n h q axis);
       }
 
   -- ---- the map

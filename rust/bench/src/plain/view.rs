@@ -1,7 +1,7 @@
 //! Views by a search down the tree, and walking a map.
 
 use super::index::Indexed;
-use super::marks::{place, value};
+use super::marks::{place, used_radius, value, Record};
 use super::sheet::open;
 use super::{ask, Refusal, Value};
 
@@ -45,31 +45,43 @@ fn search(sheet: &[u8], view: View) -> Result<Search<'_>, Refusal> {
         records,
         index,
     };
-    Ok(Search { indexed, view })
+    Ok(Search::new(indexed, view))
 }
 
-/// A search down the tree.
+/// A search down the tree. The rectangle decides who is shown, and the widened one, from
+/// `low` to `high` on each axis, which halves are searched.
 struct Search<'a> {
     indexed: Indexed<'a>,
     view: View,
+    low: [i32; 2],
+    high: [i32; 2],
 }
 
-impl Search<'_> {
+impl<'a> Search<'a> {
+    /// The search with the rectangle widened by the widest disk that lives.
+    fn new(indexed: Indexed<'a>, view: View) -> Self {
+        let widest = widest_living(&indexed, view.k);
+        let by = (u64::from(view.k) * u64::from(widest) / 64) as i32;
+        Self {
+            indexed,
+            view,
+            low: view.low.map(|edge| i32::from(edge) - by),
+            high: view.high.map(|edge| i32::from(edge) + by),
+        }
+    }
+
     /// Sets the bits of a block's shown marks, and answers how many they are.
     fn block(&self, from: usize, size: usize, axis: usize, map: &mut [u8]) -> u32 {
         if size == 0 {
             return 0;
         }
         let root = self.indexed.number(from);
-        if !self.lives(root) {
+        if !lives(&self.indexed.records[root], self.view.k) {
             return 0;
         }
-        let place = self.place(root);
-        let Self { view, .. } = self;
-        let inside =
-            (0..2).all(|axis| view.low[axis] <= place[axis] && place[axis] <= view.high[axis]);
-        map[root / 8] |= u8::from(inside) << (root % 8);
-        let mut count = u32::from(inside);
+        let reached = self.reaches(root);
+        map[root / 8] |= u8::from(reached) << (root % 8);
+        let mut count = u32::from(reached);
         for (from, size) in self.halves(from, size, axis) {
             count += self.block(from, size, 1 - axis, map);
         }
@@ -81,7 +93,10 @@ impl Search<'_> {
         if size == 0 {
             return 0;
         }
-        if !self.lives(self.indexed.number(from)) {
+        if !lives(
+            &self.indexed.records[self.indexed.number(from)],
+            self.view.k,
+        ) {
             return 1;
         }
         let halves = self.halves(from, size, axis).into_iter();
@@ -91,36 +106,61 @@ impl Search<'_> {
     }
 
     /// The two halves below a block's root, with no marks where they lie beyond the
-    /// rectangle.
+    /// widened rectangle.
     fn halves(&self, from: usize, size: usize, axis: usize) -> [(usize, usize); 2] {
-        let Self { view, .. } = self;
         let (left_size, right_size) = (size / 2, size - 1 - size / 2);
         let (left, right) = (from + 1, from + 1 + left_size);
-        let search_left = right_size == 0 || self.head(right, axis) >= view.low[axis];
-        let search_right = right_size > 0 && self.head(left, axis) <= view.high[axis];
+        let search_left = right_size == 0 || self.head(right, axis) >= self.low[axis];
+        let search_right = right_size > 0 && self.head(left, axis) <= self.high[axis];
         [
             (left, if search_left { left_size } else { 0 }),
             (right, if search_right { right_size } else { 0 }),
         ]
     }
 
-    fn place(&self, mark: usize) -> [i16; 2] {
-        place(&self.indexed.marks[mark]).into()
+    /// Whether a mark's disk reaches the rectangle.
+    fn reaches(&self, mark: usize) -> bool {
+        let mark = &self.indexed.marks[mark];
+        let (x, y) = place(mark);
+        let squared = self.gap_squared(x, 0) + self.gap_squared(y, 1);
+        let reach = u64::from(self.view.k) * u64::from(used_radius(mark));
+        4_096 * squared <= reach * reach
+    }
+
+    /// The squared distance on an axis from a place to the rectangle.
+    fn gap_squared(&self, place: i16, axis: usize) -> u64 {
+        let nearest = place.clamp(self.view.low[axis], self.view.high[axis]);
+        let gap = u64::from(place.abs_diff(nearest));
+        gap * gap
     }
 
     /// The coordinate of the head of a block.
-    fn head(&self, from: usize, axis: usize) -> i16 {
-        self.place(self.indexed.number(from))[axis]
+    fn head(&self, from: usize, axis: usize) -> i32 {
+        let place: [i16; 2] = place(&self.indexed.marks[self.indexed.number(from)]).into();
+        place[axis].into()
     }
+}
 
-    /// Whether a mark is removed later than k²/4096.
-    fn lives(&self, mark: usize) -> bool {
-        let k = u64::from(self.view.k);
-        value(&self.indexed.records[mark]).later_than(Value {
-            numerator: k * k,
-            denominator: 4_096,
-        })
-    }
+/// The greatest used radius of the marks that live.
+fn widest_living(indexed: &Indexed, k: u32) -> u16 {
+    let marks = indexed.marks.iter().zip(indexed.records);
+    marks.fold(0, |widest, (mark, record)| {
+        let radius = used_radius(mark);
+        if radius > widest && lives(record, k) {
+            radius
+        } else {
+            widest
+        }
+    })
+}
+
+/// Whether a mark with this record is removed later than k²/4096.
+fn lives(record: &Record, k: u32) -> bool {
+    let k = u64::from(k);
+    value(record).later_than(Value {
+        numerator: k * k,
+        denominator: 4_096,
+    })
 }
 
 /// The least set bit of a map at or after `start` and below `n`.

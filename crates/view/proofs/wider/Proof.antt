@@ -1,0 +1,31 @@
+-- `view::wider` meets its contract: each answer has the tests of the definition decided. Assumes nothing.
+use borrow.Author.Needs.{needs}
+use borrow.Author.Tests.{le-leb, lt-leb}
+use Rattle.view.specs.Search.{wider}
+use Rattle.view.proofs.wider.Statement.{statement}
+use Rattle.view.proofs.wider.Tie as tie
+
+radius-at-requires : tie.Need-radius-at-requires
+radius-at-requires c κs = search needs
+
+returns : tie.Need-returns
+unfolding wider
+returns c = rw (le-leb _ _ (rw (c .before .radius-at .ensures) at (c .if1 .taken)))
+
+lives-requires : tie.Need-lives-requires
+lives-requires c κs = search needs
+
+returns-2 : tie.Need-returns-2
+unfolding wider
+returns-2 c =
+    let r = c .before .before .before .radius-at .ensures in
+    rw (lt-leb _ _ (rw r at (c .before .before .if1 .left)), ← c .before .lives .ensures, c .if2 .taken) r
+
+returns-3 : tie.Need-returns-3
+unfolding wider
+returns-3 c =
+    let r = c .before .before .before .radius-at .ensures in
+    rw (lt-leb _ _ (rw r at (c .before .before .if1 .left)), ← c .before .lives .ensures, c .if2 .left)
+
+pub wider-spec : {M : Type 1} → statement M
+wider-spec = tie.close (tie.spec radius-at-requires returns lives-requires returns-2 returns-3)

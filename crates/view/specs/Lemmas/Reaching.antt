@@ -1,0 +1,127 @@
+-- Who is shown lies in the bounds: the disk of a mark that lives is no wider than what the rectangle is widened by.
+use Prim.Native.Nat.{ℕ, zero, suc, _+_, _-_, _*_, _/_, _<_, _≤_}
+use native.Mathlib.Omega.{arith}
+use native.Mathlib.Decide.{decLt, ℕ-discrete}
+use native.Mathlib.Nat.{mul-le-mul, mul-mul-mul-comm}
+use mathlib.Core.Path.{_≡_, subst}
+use mathlib.Core.Bool.{Bool, true, false}
+use mathlib.Core.Logic.{dite}
+use mathlib.Core.List.{List}
+use lib.Dec.{leb}
+use lib.IntN.{ℤ, pos, negsuc, _-ℤ_}
+use lib.Signed.{mag}
+use borrow.Author.Tests.{leb-true, leb-false}
+use Rattle.marks.specs.Marks.{xAt, yAt, shifted, usedAt}
+use Rattle.elimination.specs.Records.{valueAt}
+use Rattle.index.specs.Index.{coordinate}
+use Rattle.index.specs.Lemmas.Count.{by-cases, and-left, and-right}
+use Rattle.view.specs.Shown.{Rectangle, livesAt, above, gapSquared, distanceSquared, reaches, shown}
+use Rattle.view.specs.Search.{wider, widestLiving, moved, boundsOf, Within}
+use Rattle.view.specs.Lemmas.Places.{above-sub, shifted-from, from-above}
+
+-- ---- the shift and differences
+
+-- The shift takes what is below 16 bits to 0, so it makes no difference greater,
+shifted-most : (a b : ℤ) → shifted a - shifted b ≤ above (a -ℤ b)
+shifted-most (pos a) (pos zero) = omega arith
+shifted-most (pos a) (pos (suc b)) = omega (arith, above-sub a (suc b))
+shifted-most (pos a) (negsuc b) = omega arith
+shifted-most (negsuc a) (pos zero) = omega (arith, above-sub 0 (suc a))
+shifted-most (negsuc a) (pos (suc b)) = omega arith
+shifted-most (negsuc a) (negsuc b) = omega (arith, above-sub (suc b) (suc a))
+
+-- and of 16 bits it keeps each.
+pub shifted-above : (a b : ℤ) → mag a < 32768 → mag b < 32768 → above (a -ℤ b) ≡ shifted a - shifted b
+shifted-above a b p q = rw (shifted-from a, shifted-from b) (from-above 32768 a b p q)
+
+-- ---- a gap is no wider than a disk that reaches over it
+
+root-le : (a b : ℕ) → a * a ≤ b * b → a ≤ b
+root-le a b h =
+    elim (decLt b a) [
+      | yes l ↦ absurd (bigger l)
+      | no l ↦ omega arith
+    ]
+  where
+    bigger : b < a → ⊥
+    bigger l =
+        let m : suc b ≤ a = l in
+        omega (arith, mul-le-mul m m)
+
+-- d is the other axis's part of the squared distance
+pub gap-most : (k r most gap d : ℕ) → r ≤ most → 4096 * (gap * gap + d) ≤ k * k * (r * r) → gap ≤ k * most / 64
+gap-most k r most gap d h reach =
+    let wide : 64 * gap * (64 * gap) ≤ k * most * (k * most) =
+    rw (mul-mul-mul-comm 64 gap 64 gap, mul-mul-mul-comm k most k most) (omega (arith, widened)) in
+    omega (arith, root-le (64 * gap) (k * most) wide)
+  where
+    widened : k * k * (r * r) ≤ k * k * (most * most)
+    widened = let same : k * k ≤ k * k = omega arith in mul-le-mul same (mul-le-mul h h)
+
+-- ---- the greatest used radius of the marks that live
+
+module _ (s p : List ℕ) (k : ℕ) where
+  wider-keeps : (widest m : ℕ) → widest ≤ wider s p k widest m
+  unfolding wider
+  wider-keeps widest m =
+      by-cases (leb (usedAt s m) widest) (λ e. rw e (omega arith))
+      (λ e. by-cases (livesAt k (valueAt p m)) (λ l. rw (e, l) (omega (arith, leb-false (usedAt s m) widest e)))
+      (λ l. rw (e, l) (omega arith)))
+
+  wider-has : (widest m : ℕ) → livesAt k (valueAt p m) ≡ true → usedAt s m ≤ wider s p k widest m
+  unfolding wider
+  wider-has widest m lives =
+      by-cases (leb (usedAt s m) widest) (λ e. rw e (leb-true (usedAt s m) widest e)) (λ e. rw (e, lives) (omega arith))
+
+  widest-has : (n m : ℕ) → m < n → livesAt k (valueAt p m) ≡ true → usedAt s m ≤ widestLiving s p k n
+  unfolding widestLiving
+  widest-has zero m h lives = absurd (omega arith)
+  widest-has (suc n) m h lives =
+      let widest = widestLiving s p k n in
+      dite (ℕ-discrete m n) (λ e. subst (λ (i : ℕ). usedAt s m ≤ wider s p k widest i) e (wider-has widest m lives))
+      (λ d. omega (arith, widest-has n m (omega arith) lives, wider-keeps widest n))
+
+-- ---- who is shown lives, and lies in the bounds
+
+module _ (s p : List ℕ) (k : ℕ) (e : Rectangle) (m : ℕ) where
+  pub shown-lives : shown s p k e m ≡ true → livesAt k (valueAt p m) ≡ true
+  unfolding shown
+  shown-lives h = and-left (livesAt k (valueAt p m)) (reaches s k e m) h
+
+  shown-reaches : shown s p k e m ≡ true → 4096 * distanceSquared s e m ≤ k * k * (usedAt s m * usedAt s m)
+  unfolding shown reaches
+  shown-reaches h =
+      leb-true (4096 * distanceSquared s e m) (k * k * (usedAt s m * usedAt s m))
+      (and-right (livesAt k (valueAt p m)) (reaches s k e m) h)
+
+  pub living-shown : livesAt k (valueAt p m) ≡ true → reaches s k e m ≡ shown s p k e m
+  unfolding shown
+  living-shown h = rw h
+
+  -- on an axis with the edges `low` and `high`; d is the other axis's part of the squared distance
+  within-edges : (n : ℕ) → m < n → livesAt k (valueAt p m) ≡ true → (low high z : ℤ) (d : ℕ)
+      → 4096 * (gapSquared low high z + d) ≤ k * k * (usedAt s m * usedAt s m)
+      → (shifted low - k * widestLiving s p k n / 64 ≤ shifted z) × (shifted z ≤ shifted high + k * widestLiving s p k n / 64)
+  unfolding gapSquared
+  within-edges n l lives low high z d reach =
+      let gap = above (low -ℤ z) + above (z -ℤ high) in
+      let most = gap-most k (usedAt s m) (widestLiving s p k n) gap d (widest-has s p k n m l lives) reach in
+      (omega (arith, most, shifted-most low z), omega (arith, most, shifted-most z high))
+
+  pub shown-within : (n : ℕ) → m < n → shown s p k e m ≡ true
+      → (axis : Bool) → Within s (boundsOf e k (widestLiving s p k n)) m axis
+  unfolding distanceSquared boundsOf moved coordinate
+  shown-within n l h true =
+      let other = gapSquared (e .y0) (e .y1) (yAt s m) in
+      let w = within-edges n l (shown-lives h) (e .x0) (e .x1) (xAt s m) other (shown-reaches h) in
+      record { low = w .0; high = w .1 }
+  shown-within n l h false =
+      let other = gapSquared (e .x0) (e .x1) (xAt s m) in
+      let w = within-edges n l (shown-lives h) (e .y0) (e .y1) (yAt s m) other (omega (arith, shown-reaches h)) in
+      record { low = w .0; high = w .1 }
+
+-- the test as the code makes it
+pub reached : (s : List ℕ) (k : ℕ) (e : Rectangle) (m : ℕ) {x y r : ℕ} → x ≡ gapSquared (e .x0) (e .x1) (xAt s m)
+    → y ≡ gapSquared (e .y0) (e .y1) (yAt s m) → r ≡ usedAt s m → leb (4096 * (x + y)) (k * k * (r * r)) ≡ reaches s k e m
+unfolding reaches distanceSquared
+reached s k e m x y r = rw (x, y, r)
