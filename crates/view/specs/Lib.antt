@@ -1,4 +1,4 @@
--- To be believed: Zoom, Shown, Questions and View. Search says what the search down the index does; ZoomLaws and Lemmas are proofs.
+-- To be believed: Zoom, Shown, Questions and View. Search says what the search down the index does; ZoomLaws, ReachLaws and Lemmas are proofs.
 pub mod Zoom
 pub mod ZoomLaws
 pub mod Shown
@@ -6,3 +6,4 @@ pub mod Questions
 pub mod View
 pub mod Search
 pub mod Lemmas
+pub mod ReachLaws
