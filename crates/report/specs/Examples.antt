@@ -1,4 +1,5 @@
--- 01, "Proved examples": P1 to P12, and what 01 computes in its text: one table of inputs and answers, shown by one computation.
+-- 01, "Proved examples": P1 to P12, and what 01 computes in its text: one table of inputs and answers, shown by one computation. P4 is as
+-- request 1 of 02 has it.
 use Prim.Native.Nat.{ℕ, zero, suc, _+_, _-_, _*_}
 use mathlib.Core.Path.{_≡_, refl}
 use mathlib.Core.List.{List, [], _∷_, _++_, map}

@@ -3,14 +3,14 @@ use Prim.Native.Nat.{ℕ, zero, suc, _+_, _-_, _*_, _/_, _<_, _≤_}
 use native.Mathlib.Omega.{arith}
 use native.Mathlib.Decide.{decLt, ℕ-discrete}
 use native.Mathlib.Nat.{mul-le-mul, mul-mul-mul-comm}
-use mathlib.Core.Path.{_≡_, subst}
+use mathlib.Core.Path.{_≡_, sym, subst}
 use mathlib.Core.Bool.{Bool, true, false}
 use mathlib.Core.Logic.{dite}
 use mathlib.Core.List.{List}
 use lib.Dec.{leb}
 use lib.IntN.{ℤ, pos, negsuc, _-ℤ_}
 use lib.Signed.{mag}
-use borrow.Author.Tests.{leb-true, leb-false}
+use borrow.Author.Tests.{leb-true, leb-false, le-leb}
 use Rattle.marks.specs.Marks.{xAt, yAt, shifted, usedAt}
 use Rattle.elimination.specs.Records.{valueAt}
 use Rattle.index.specs.Index.{coordinate}
@@ -120,8 +120,20 @@ module _ (s p : List ℕ) (k : ℕ) (e : Rectangle) (m : ℕ) where
       let w = within-edges n l (shown-lives h) (e .y0) (e .y1) (yAt s m) other (omega (arith, shown-reaches h)) in
       record { low = w .0; high = w .1 }
 
--- the test as the code makes it
-pub reached : (s : List ℕ) (k : ℕ) (e : Rectangle) (m : ℕ) {x y r : ℕ} → x ≡ gapSquared (e .x0) (e .x1) (xAt s m)
-    → y ≡ gapSquared (e .y0) (e .y1) (yAt s m) → r ≡ usedAt s m → leb (4096 * (x + y)) (k * k * (r * r)) ≡ reaches s k e m
-unfolding reaches distanceSquared
-reached s k e m x y r = rw (x, y, r)
+-- ---- the test as the code makes it
+
+module _ (s : List ℕ) (k : ℕ) (e : Rectangle) (m : ℕ) {x y : ℕ}
+    (x-is : x ≡ gapSquared (e .x0) (e .x1) (xAt s m)) (y-is : y ≡ gapSquared (e .y0) (e .y1) (yAt s m)) where
+  distance-is : distanceSquared s e m ≡ x + y
+  unfolding distanceSquared
+  distance-is = rw (x-is, y-is)
+
+  pub reached : {r : ℕ} → r ≡ usedAt s m → leb (4096 * (x + y)) (k * k * (r * r)) ≡ reaches s k e m
+  unfolding reaches
+  reached is = rw (distance-is, is)
+
+  -- a point inside
+  pub reached-inside : x + y ≡ 0 → true ≡ reaches s k e m
+  unfolding reaches
+  reached-inside none =
+      sym (le-leb (4096 * distanceSquared s e m) (k * k * (usedAt s m * usedAt s m)) (omega (arith, distance-is, none)))
