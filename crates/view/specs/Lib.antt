@@ -1,4 +1,5 @@
--- To be believed: Zoom, Shown, Questions and View. Search says what the search down the index does; ZoomLaws, ReachLaws and Lemmas are proofs.
+-- To be believed: Zoom, Shown, Questions and View. Search says what the search down the index does; ZoomLaws, ReachLaws and Lemmas are
+-- proofs.
 pub mod Zoom
 pub mod ZoomLaws
 pub mod Shown

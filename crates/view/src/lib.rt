@@ -100,8 +100,8 @@ fn gap_squared(low: i16, high: i16, place: i16) -> u64
     gap * gap
 }
 
-// Does mark m's disk at z = k/64 reach the rectangle, touching included? Both products fit 64 bits. The radius of a mark whose point lies
-// inside is not read: where most marks do, that is most of the work.
+// Does mark m's disk at z = k/64 reach the rectangle, touching included? Both products fit 64 bits. Where the point lies inside the radius
+// is not read: in a view of all places no mark's is.
 pub fn reaches(marks: &[u8], view: Edges, k: u32, m: usize) -> bool
     requires { ⌜ (11 * m + 11 ≤ length (now marks)) × (k ≤ 65536) ⌝ }
     ensures { λ r. ⌜ r ≡ reaches (now (marks .entry)) k (rectangle view) m ⌝ }

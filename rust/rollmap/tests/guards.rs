@@ -10,6 +10,7 @@ use oracle::fraction::{Fraction, Removal};
 use oracle::mark::{touching_value, Mark};
 use oracle::record::Record;
 use oracle::sample::{marks, Shape};
+use oracle::view::{reaches, Edges};
 use rollmap::{map_bytes, schedule_to_vec, view_to_map, Refusal, View, Zoom};
 
 const GUARDS: &str = include_str!("../../../docs/GUARDS.md");
@@ -293,14 +294,14 @@ fn the_printed_zoom_is_rounded_down() {
 
 // ---- the overview
 
-/// The marks that live at k / 64 and lie in the rectangle, by looking at each.
+/// The marks that live at k / 64 and whose disks reach the rectangle, by looking at
+/// each.
 fn scan(marks: &[Mark], removals: &[Removal], view: View, k: u32) -> Vec<u32> {
     let zoom = Fraction::new(u64::from(k) * u64::from(k), 4_096);
-    let inside = |mark: &Mark| {
-        (view.x0..=view.x1).contains(&mark.x) && (view.y0..=view.y1).contains(&mark.y)
-    };
+    let View { x0, x1, y0, y1, .. } = view;
+    let edges = Edges { x0, x1, y0, y1 };
     let numbers = 0..marks.len();
-    let shown = numbers.filter(|&m| inside(&marks[m]) && removals[m].later_than(zoom));
+    let shown = numbers.filter(|&m| reaches(&marks[m], edges, k) && removals[m].later_than(zoom));
     shown.map(|m| m as u32).collect()
 }
 
@@ -330,13 +331,14 @@ fn a_view_is_the_full_scan() {
         let view = View::whole(Zoom::Stop(0));
         assert_eq!(view_to_map(&wrong, view), Err(Refusal::Index));
     }
-    // A label that reaches in from outside is not shown.
-    let outside = scheduled(&[Mark::plain(10, 0, 16_383, 1)]);
-    let left = View {
-        x1: 9,
-        ..View::whole(Zoom::Stop(16))
+    // A label that reaches in from outside is shown, up to the touch.
+    let outside = scheduled(&[Mark::plain(10, 0, 3, 1)]);
+    let up_to = |x1| View {
+        x1,
+        ..View::whole(wheel(64))
     };
-    assert_eq!(view_to_map(&outside, left).unwrap().count(), 0);
+    assert_eq!(view_to_map(&outside, up_to(7)).unwrap().count(), 1);
+    assert_eq!(view_to_map(&outside, up_to(6)).unwrap().count(), 0);
 }
 
 #[test]
