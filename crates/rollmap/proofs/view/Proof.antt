@@ -81,7 +81,8 @@ view-at-requires c κs =
     let few = accepted-iff _ .0 (accepted (p .before .before)) .laid .whole .few in
     let k = c .before .before .k .given in
     let is = sym (c .before .before .before .before .scale-of .ensures) ∙ k .1 in
-    (accepted (p .before .before), omega (arith, few, three p), scale-most _ (k .0 .0) is)
+    let most = scale-most _ (k .0 .0) is in
+    (accepted (p .before .before), omega (arith, few, three p), omega (arith, most))
 
 returns-4 : tie.Need-returns-4
 returns-4 c =
