@@ -13,13 +13,16 @@ use Rattle.marks.specs.declared.House.{House}
 use Rattle.marks.specs.declared.House.the-variants.{Radius, Refused}
 use Rattle.contents.specs.Asking.{_asks_, answer}
 use Rattle.contents.specs.Lemmas.Asked.{Numbered}
-use Rattle.bodies.specs.Questions.{question8, bodyQuestions}
+use Rattle.bodies.specs.Questions.{markCount, part1Questions, question8, bodyQuestions}
 use Rattle.bodies.specs.Fitting.{MarksRight, Fitting}
 use Rattle.bodies.specs.Lemmas.Numbered as Numbering
 use Rattle.bodies.specs.Lemmas.Fitting as Fits
 use Rattle.bodies.specs.Lemmas.Records as Records
 
--- No question of the bodies bears the number 0.
+-- No question of the marks or of the bodies bears the number 0.
+pub part1-numbered : (s : List ℕ) → Numbered (part1Questions s)
+part1-numbered = Numbering.part1-numbered
+
 pub bodies-numbered : (bodies : List (List ℕ)) → Numbered (bodyQuestions bodies)
 bodies-numbered = Numbering.bodies-numbered
 
@@ -32,7 +35,11 @@ kind-answer kind = go (houseOf kind)
     go (Radius radius) = refl
     go Refused = refl
 
--- what the answer 0 to questions 4 to 9 says
+-- what the answer 0 to questions 4 to 6 says
+pub part1-iff : (s : List ℕ) → (answer (part1Questions s) ≡ 0) ↔ MarksRight s (markCount s)
+part1-iff = Fits.part1-iff
+
+-- and to 4 to 9
 pub fitting-iff : (bodies : List (List ℕ)) → (answer (bodyQuestions bodies) ≡ 0) ↔ Fitting bodies
 fitting-iff = Fits.fitting-iff
 

@@ -1,5 +1,5 @@
 -- Questions 4 to 9, each by its number: those of the bodies. Checking a sheet and putting parts together ask the same.
-use Prim.Native.Nat.{ℕ, zero, suc, _*_, _/_, _%_}
+use Prim.Native.Nat.{ℕ, _*_, _/_, _%_}
 use mathlib.Core.Bool.{Bool, _&&_, _||_}
 use mathlib.Core.List.{List, [], _∷_, _++_}
 use lib.ListN.{length}
@@ -10,7 +10,7 @@ use Rattle.marks.specs.Marks.{kindAt, radiusAt, isKind, isRadius, outranks, tou
 use Rattle.elimination.specs.Records.{eliminatorAt, fractionAt, isNever, valueAt}
 use Rattle.index.specs.Index.{isIndex}
 use Rattle.contents.specs.Contents.{has, marksPart, schedulePart, indexPart}
-use Rattle.contents.specs.Asking.{Question, _asks_, every, ifThere}
+use Rattle.contents.specs.Asking.{Question, _asks_, inTurn, every, ifThere}
 
 -- ---- of part 1, `s`
 
@@ -22,10 +22,17 @@ question4 s = eqb (length s % 11) 0 && leb (length s) 45056
 abbrev pub markCount : List ℕ → ℕ
 markCount s = length s / 11
 
--- 5 and 6. "Mark by mark, before its radius: is the kind below 200? Is the radius at most 16,383?" Of the first n marks.
+-- 5 and 6, of one mark: "before its radius: is the kind below 200? Is the radius at most 16,383?"
+abbrev pub oneMark : List ℕ → ℕ → List Question
+oneMark s m = (5 asks isKind (kindAt s m)) ∷ (6 asks isRadius (radiusAt s m)) ∷ []
+
+-- "Mark by mark": of the first n marks
 unfoldable pub markQuestions : List ℕ → ℕ → List Question
-markQuestions s zero = []
-markQuestions s (suc n) = markQuestions s n ++ ((5 asks isKind (kindAt s n)) ∷ (6 asks isRadius (radiusAt s n)) ∷ [])
+markQuestions s n = inTurn (oneMark s) n
+
+-- 4 to 6, of marks as they stand
+unfoldable pub part1Questions : List ℕ → List Question
+part1Questions s = (4 asks question4 s) ∷ markQuestions s (markCount s)
 
 -- ---- of parts 2 and 3; `s` is part 1, `p` part 2 and `n` the number of marks
 
@@ -63,8 +70,7 @@ bodyQuestions bodies =
     let s = marksPart bodies in
     let p = schedulePart bodies in
     let n = markCount s in
-    (4 asks question4 s)
-    ∷ markQuestions s n
+    part1Questions s
     ++ ((7 asks question7 bodies n)
     ∷ (8 asks ifThere (has bodies 2) (question8 s p n))
     ∷ (9 asks ifThere (has bodies 3) (question9 s p (indexPart bodies) n))

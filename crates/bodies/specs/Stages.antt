@@ -1,19 +1,14 @@
--- The questions in the groups in which the functions of src ask them: 4, 5 and 6, 7 to 9.
-use Prim.Native.Nat.{ℕ, suc, _*_}
+-- The questions in the groups in which the functions of src ask them: 4 to 6, and 7 to 9.
+use Prim.Native.Nat.{ℕ, _*_}
 use mathlib.Core.Path.{_≡_, refl}
 use mathlib.Core.Bool.{Bool, _&&_}
 use mathlib.Core.List.{List, [], _∷_, _++_}
 use lib.ListN.{length}
 use lib.Dec.{leb, eqb}
-use Rattle.marks.specs.Marks.{kindAt, radiusAt, isKind, isRadius}
 use Rattle.index.specs.Index.{isIndex}
 use Rattle.contents.specs.Contents.{marksPart, schedulePart, indexPart}
 use Rattle.contents.specs.Asking.{Question, _asks_, ifThere}
-use Rattle.bodies.specs.Questions.{question4, markCount, markQuestions, question7, question8, question9, bodyQuestions}
-
--- 5 and 6, of one mark
-abbrev pub oneMark : List ℕ → ℕ → List Question
-oneMark s m = (5 asks isKind (kindAt s m)) ∷ (6 asks isRadius (radiusAt s m)) ∷ []
+use Rattle.bodies.specs.Questions.{markCount, part1Questions, question7, question8, question9, bodyQuestions}
 
 -- 7, of k parts whose lengths are p and t, and n marks
 unfoldable pub sizesRight : ℕ → ℕ → ℕ → ℕ → Bool
@@ -29,12 +24,7 @@ lastQuestions s p t k n =
 
 -- ---- together they are what 01 has asked
 
-pub mark-stages : (s : List ℕ) (n : ℕ) → markQuestions s (suc n) ≡ markQuestions s n ++ oneMark s n
-unfolding markQuestions
-mark-stages s n = refl
-
 pub body-stages : (bodies : List (List ℕ)) → let s = marksPart bodies in let n = markCount s in
-    bodyQuestions bodies
-    ≡ (4 asks question4 s) ∷ markQuestions s n ++ lastQuestions s (schedulePart bodies) (indexPart bodies) (length bodies) n
+    bodyQuestions bodies ≡ part1Questions s ++ lastQuestions s (schedulePart bodies) (indexPart bodies) (length bodies) n
 unfolding bodyQuestions question7 question9 sizesRight
 body-stages bodies = refl

@@ -9,8 +9,8 @@ ghost use Rattle.elimination.specs.Records.{eliminatorAt, fractionAt, isNever};
 ghost use Rattle.contents.specs.Contents.{given};
 ghost use Rattle.contents.specs.Asking.{answer};
 ghost use Rattle.contents.specs.Questions.{isCount};
-ghost use Rattle.bodies.specs.Questions.{question4, markQuestions, exactly, namesRight, recordRight, question8, bodyQuestions};
-ghost use Rattle.bodies.specs.Stages.{oneMark, sizesRight, lastQuestions};
+ghost use Rattle.bodies.specs.Questions.{question4, oneMark, markQuestions, part1Questions, exactly, namesRight, recordRight, question8, bodyQuestions};
+ghost use Rattle.bodies.specs.Stages.{sizesRight, lastQuestions};
 ghost use Rattle.bodies.specs.Fitting.{MarksRight};
 
 // ---- questions 4 to 6, of part 1
@@ -51,6 +51,16 @@ fn marks_answer(s: &[u8], n: usize) -> u32
         m += 1;
     }
     0
+}
+
+// 4 to 6, of marks as they stand: the first 'no', or 0.
+pub fn part1_answer(s: &[u8]) -> u32
+    ensures { λ r. ⌜ r ≡ answer (part1Questions (now (s .entry))) ⌝ }
+{
+    if !is_marks(s) {
+        return 4;
+    }
+    marks_answer(s, s.len() / 11)
 }
 
 // ---- question 8, of part 2
@@ -186,13 +196,9 @@ pub fn bodies_answer(count: usize, body1: &[u8], body2: &[u8], body3: &[u8]) -> 
     requires { ⌜ isCount count ≡ true ⌝ }
     ensures { λ r. ⌜ r ≡ answer (bodyQuestions (given count (now (body1 .entry)) (now (body2 .entry)) (now (body3 .entry)))) ⌝ }
 {
-    if !is_marks(body1) {
-        return 4;
-    }
-    let n = body1.len() / 11;
-    let number = marks_answer(body1, n);
+    let number = part1_answer(body1);
     if number != 0 {
         return number;
     }
-    last_answer(count, body1, body2, body3, n)
+    last_answer(count, body1, body2, body3, body1.len() / 11)
 }

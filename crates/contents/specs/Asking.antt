@@ -1,7 +1,7 @@
 -- 01, "Questions put in turn".
 use Prim.Native.Nat.{ℕ, zero, suc}
 use mathlib.Core.Bool.{Bool, true, cond, _&&_}
-use mathlib.Core.List.{List, [], _∷_}
+use mathlib.Core.List.{List, [], _∷_, _++_}
 
 -- a question's number, and whether the answer is 'yes'
 pub record Question : Type 0 where
@@ -16,6 +16,11 @@ number asks test = record { number = number; holds = test }
 unfoldable pub answer : List Question → ℕ
 answer [] = 0
 answer (q ∷ rest) = cond (q .holds) (answer rest) (q .number)
+
+-- the questions of one thing after another, of the first n
+unfoldable pub inTurn : (ℕ → List Question) → ℕ → List Question
+inTurn ask zero = []
+inTurn ask (suc n) = inTurn ask n ++ ask n
 
 -- `test` holds of every number below n
 unfoldable pub every : (ℕ → Bool) → ℕ → Bool

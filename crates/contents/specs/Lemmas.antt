@@ -1,6 +1,7 @@
 -- The lemmas behind Laws, in the order in which they build on one another.
 pub mod Tests
 pub mod Asked
+pub mod Turns
 pub mod Parts
 pub mod Laid
 pub mod Entries

@@ -4,9 +4,9 @@ use mathlib.Core.Path.{_≡_, sym, _∙_}
 use native.Mathlib.Omega.{arith}
 use denote.Ref.{now}
 use Rattle.contents.specs.Asking.{answer}
-use Rattle.contents.specs.Lemmas.Asked.{none-asked}
-use Rattle.bodies.specs.Questions.{markQuestions}
-use Rattle.bodies.specs.Lemmas.Fitting.{marks-more, marks-stop}
+use Rattle.contents.specs.Lemmas.Turns.{turn-none, turn-more, turn-stop}
+use Rattle.bodies.specs.Questions.{oneMark, markQuestions}
+use Rattle.bodies.specs.Lemmas.Numbered.{one-numbered}
 use Rattle.bodies.proofs.marks_answer.Statement.{statement}
 use Rattle.bodies.proofs.marks_answer.Tie as tie
 
@@ -18,16 +18,17 @@ abbrev μ-loop : tie.MeasureT-loop
 
 loop-holds : tie.Need-loop-holds Inv-loop μ-loop
 unfolding markQuestions
-loop-holds c = (omega arith, none-asked)
+loop-holds c = let s = now (c .before .args .s) in (omega arith, turn-none (oneMark s) (one-numbered s))
 
 mark-answer-requires : tie.Need-mark-answer-requires Inv-loop μ-loop
 mark-answer-requires c κs = omega arith
 
 returns : tie.Need-returns Inv-loop μ-loop
+unfolding markQuestions
 returns c =
     let a = c .before .before .before .before .before .args in
     c .before .mark-answer .ensures
-    ∙ sym (marks-stop (now (a .s)) (c .before .before .before .loop .m) (a .n) (omega arith) (c .before .before .before .loop .inv .1)
+    ∙ sym (turn-stop (oneMark (now (a .s))) (one-numbered (now (a .s))) (c .before .before .before .loop .m) (a .n) (omega arith) (c .before .before .before .loop .inv .1)
     (omega (arith, c .before .mark-answer .ensures, c .if1 .taken)))
 
 add-m : tie.Need-add-m Inv-loop μ-loop
@@ -37,8 +38,10 @@ loop-less : tie.Need-loop-less Inv-loop μ-loop
 loop-less c = omega arith
 
 loop-again : tie.Need-loop-again Inv-loop μ-loop
+unfolding markQuestions
 loop-again c =
-    (omega arith, marks-more _ (c .before .before .before .loop .m) (c .before .before .before .loop .inv .1) (sym (c .before .mark-answer .ensures) ∙ c .if1 .left))
+    let s = now (c .before .before .before .before .before .args .s) in
+    (omega arith, turn-more (oneMark s) (one-numbered s) (c .before .before .before .loop .m) (c .before .before .before .loop .inv .1) (sym (c .before .mark-answer .ensures) ∙ c .if1 .left))
 
 returns-2 : tie.Need-returns-2 Inv-loop μ-loop
 returns-2 c =

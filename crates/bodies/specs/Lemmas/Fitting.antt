@@ -1,28 +1,27 @@
 -- Each of questions 4 to 9 decides its statement, so the answer 0 is what Fitting says.
-use Prim.Native.Nat.{ℕ, zero, suc, _+_, _*_, _%_, _<_, _≤_}
-use mathlib.Core.Path.{_≡_, refl, ap, _∙_}
+use Prim.Native.Nat.{ℕ, _*_, _%_, _<_, _≤_}
+use mathlib.Core.Path.{_≡_, refl}
 use mathlib.Core.Bool.{Bool, true, false}
-use mathlib.Core.List.{List, _∷_, _++_}
+use mathlib.Core.List.{List, _++_}
 use mathlib.Core.Logic.{_↔_}
-use native.Mathlib.Decide.{decLt}
 use native.Mathlib.Omega.{arith}
 use lib.Dec.{leb, eqb}
-use native.Mathlib.Numerals.{add-one}
 use lib.ListN.{length}
-use borrow.Author.Tests.{ltb-true, leb-true, leb-false, eqb-true, lt-ltb, le-leb, eq-eqb, ne-eqb}
+use borrow.Author.Tests.{leb-true, leb-false, eqb-true, le-leb, eq-eqb}
 use Rattle.marks.specs.Marks.{kindAt, radiusAt, isKind, isRadius}
 use Rattle.marks.specs.Laws.{kind-iff, used-bound}
 use Rattle.index.specs.Index.{isIndex}
 use Rattle.contents.specs.Contents.{marksPart, schedulePart, indexPart, given}
-use Rattle.contents.specs.Asking.{_asks_, answer, ifThere}
+use Rattle.contents.specs.Asking.{answer, ifThere}
 use Rattle.contents.specs.Questions.{isCount}
 use Rattle.contents.specs.Lemmas.Tests.{both-iff}
-use Rattle.contents.specs.Lemmas.Asked.{none-asked, asked-iff, answer-append, append-iff}
+use Rattle.contents.specs.Lemmas.Asked.{none-asked, asked-iff, append-iff}
+use Rattle.contents.specs.Lemmas.Turns.{turn-at, turn-of}
 use Rattle.contents.specs.Lemmas.Laid.{count-cases}
-use Rattle.bodies.specs.Questions.{question4, markCount, markQuestions, question7, question8, question9, bodyQuestions}
-use Rattle.bodies.specs.Stages.{oneMark, sizesRight, lastQuestions, mark-stages, body-stages}
-use Rattle.bodies.specs.Fitting.{MarkRight, Fit, Fitting}
-use Rattle.bodies.specs.Lemmas.Numbered.{marks-numbered}
+use Rattle.bodies.specs.Questions.{question4, markCount, oneMark, markQuestions, part1Questions, question7, question8, question9, bodyQuestions}
+use Rattle.bodies.specs.Stages.{sizesRight, lastQuestions, body-stages}
+use Rattle.bodies.specs.Fitting.{MarkRight, MarksRight, Fit, Fitting}
+use Rattle.bodies.specs.Lemmas.Numbered.{one-numbered, part1-numbered}
 
 -- ---- 4 to 6
 
@@ -38,48 +37,30 @@ radius-iff : (r : ℕ) → (isRadius r ≡ true) ↔ (r ≤ 16383)
 unfolding isRadius
 radius-iff r = (leb-true r 16383, le-leb r 16383)
 
-marks-there : (s : List ℕ) (n : ℕ) → answer (markQuestions s n) ≡ 0 → (m : ℕ) → m < n → MarkRight s m
-unfolding markQuestions
-marks-there s zero e m l = absurd (omega arith)
-marks-there s (suc n) e m l =
-    let p = append-iff (markQuestions s n) _ (marks-numbered s n) .0 e in
-    let k = asked-iff 5 (isKind (kindAt s n)) _ (omega arith) .0 (p .1) in
-    let r = asked-iff 6 (isRadius (radiusAt s n)) _ (omega arith) .0 (k .1) in
-    elim (decLt m n) [
-      | yes b ↦ marks-there s n (p .0) m b
-      | no b ↦
-          (let q : m ≡ n = omega arith in
-          rw q (record { kind = kind-iff _ .0 (k .0); radius = radius-iff _ .0 (r .0); used = used-bound _ _ (r .0) }))
-    ]
+one-iff : (s : List ℕ) (m : ℕ) → (answer (oneMark s m) ≡ 0) ↔ MarkRight s m
+one-iff s m = (
+  (λ e. let k = asked-iff 5 (isKind (kindAt s m)) _ (omega arith) .0 e in
+      let r = asked-iff 6 (isRadius (radiusAt s m)) _ (omega arith) .0 (k .1) in
+      record { kind = kind-iff _ .0 (k .0); radius = radius-iff _ .0 (r .0); used = used-bound _ _ (r .0) }),
+  (λ h. asked-iff 5 (isKind (kindAt s m)) _ (omega arith) .1
+      (kind-iff _ .1 (h .kind), asked-iff 6 (isRadius (radiusAt s m)) _ (omega arith) .1 (radius-iff _ .1 (h .radius), none-asked))),
+)
 
-marks-back : (s : List ℕ) (n : ℕ) → ((m : ℕ) → m < n → MarkRight s m) → answer (markQuestions s n) ≡ 0
-unfolding markQuestions
-marks-back s zero h = none-asked
-marks-back s (suc n) h =
-    let r = h n (omega arith) in
-    append-iff (markQuestions s n) _ (marks-numbered s n) .1 (
-      marks-back s n (λ m l. h m (omega arith)),
-      asked-iff 5 (isKind (kindAt s n)) _ (omega arith) .1
-          (kind-iff _ .1 (r .kind), asked-iff 6 (isRadius (radiusAt s n)) _ (omega arith) .1 (radius-iff _ .1 (r .radius), none-asked)),
-    )
-
-pub marks-iff : (s : List ℕ) (n : ℕ) → (answer (markQuestions s n) ≡ 0) ↔ ((m : ℕ) → m < n → MarkRight s m)
-marks-iff s n = (marks-there s n, marks-back s n)
-
--- A loop over the marks goes on while each answer is 0, and stops at the first that is not.
-pub marks-more : (s : List ℕ) (m : ℕ) → answer (markQuestions s m) ≡ 0 → answer (oneMark s m) ≡ 0 → answer (markQuestions s (m + 1)) ≡ 0
-marks-more s m p q = rw (add-one m, mark-stages s m) (append-iff (markQuestions s m) (oneMark s m) (marks-numbered s m) .1 (p, q))
-
-pub marks-stop : (s : List ℕ) (m n : ℕ) → m < n → answer (markQuestions s m) ≡ 0 → 0 < answer (oneMark s m)
-    → answer (markQuestions s n) ≡ answer (oneMark s m)
-marks-stop s m zero l p q = absurd (omega arith)
-marks-stop s m (suc n) l p q =
-    ap answer (mark-stages s n)
-    ∙ answer-append (markQuestions s n) (oneMark s n) (marks-numbered s n)
-    ∙ elim (decLt m n) [
-      | yes b ↦ (let e = marks-stop s m n b p q in rw (e, ne-eqb (answer (oneMark s m)) 0 (omega arith)))
-      | no b ↦ (let e : n ≡ m = omega arith in rw (e, p))
-    ]
+pub part1-iff : (s : List ℕ) → (answer (part1Questions s) ≡ 0) ↔ MarksRight s (markCount s)
+unfolding part1Questions markQuestions
+part1-iff s = (
+  (λ e. let a = asked-iff 4 (question4 s) _ (omega arith) .0 e in
+      let size = size-iff s .0 (a .0) in
+      record {
+        few = size .0;
+        long = size .1;
+        each = λ m l. one-iff s m .0 (turn-at (oneMark s) (one-numbered s) (markCount s) (a .1) m l);
+      }),
+  (λ h. asked-iff 4 (question4 s) _ (omega arith) .1 (
+    size-iff s .1 (h .few, h .long),
+    turn-of (oneMark s) (one-numbered s) (markCount s) (λ m l. one-iff s m .1 (h .each m l)),
+  )),
+)
 
 -- ---- 7 to 9
 
@@ -113,47 +94,42 @@ module _ (s p t : List ℕ) (k : ℕ) where
   abbrev n : ℕ
   n = markCount s
 
-  fit-there : answer ((4 asks question4 s) ∷ markQuestions s n ++ lastQuestions s p t k n) ≡ 0 → Fit s p t k n
+  fit-there : answer (part1Questions s ++ lastQuestions s p t k n) ≡ 0 → Fit s p t k n
   fit-there e =
-      let a = asked-iff 4 (question4 s) _ (omega arith) .0 e in
-      let size = size-iff s .0 (a .0) in
-      let b = append-iff (markQuestions s n) _ (marks-numbered s n) .0 (a .1) in
+      let b = append-iff (part1Questions s) _ (part1-numbered s) .0 e in
       let c = asked-iff 7 (sizesRight k (length p) (length t) n) _ (omega arith) .0 (b .1) in
       let sizes = sizes-iff k (length p) (length t) n .0 (c .0) in
       let d = asked-iff 8 (ifThere (leb 2 k) (question8 s p n)) _ (omega arith) .0 (c .1) in
       let f = asked-iff 9 (ifThere (leb 3 k) (isIndex s p t n)) _ (omega arith) .0 (d .1) in
       record {
-        marks = record { few = size .0; long = size .1; each = marks-iff s n .0 (b .0) };
+        marks = part1-iff s .0 (b .0);
         schedule-long = sizes .0;
         index-long = sizes .1;
         schedule-right = there-iff 2 k (question8 s p n) .0 (d .0);
         index-right = there-iff 3 k (isIndex s p t n) .0 (f .0);
       }
 
-  fit-back : Fit s p t k n → answer ((4 asks question4 s) ∷ markQuestions s n ++ lastQuestions s p t k n) ≡ 0
+  fit-back : Fit s p t k n → answer (part1Questions s ++ lastQuestions s p t k n) ≡ 0
   fit-back f =
-      asked-iff 4 (question4 s) _ (omega arith) .1 (
-        size-iff s .1 (f .marks .few, f .marks .long),
-        append-iff (markQuestions s n) _ (marks-numbered s n) .1 (
-          marks-iff s n .1 (f .marks .each),
-          asked-iff 7 (sizesRight k (length p) (length t) n) _ (omega arith) .1 (
-            sizes-iff k (length p) (length t) n .1 (f .schedule-long, f .index-long),
-            asked-iff 8 (ifThere (leb 2 k) (question8 s p n)) _ (omega arith) .1 (
-              there-iff 2 k (question8 s p n) .1 (f .schedule-right),
-              asked-iff 9 (ifThere (leb 3 k) (isIndex s p t n)) _ (omega arith) .1
-                  (there-iff 3 k (isIndex s p t n) .1 (f .index-right), none-asked),
-            ),
+      append-iff (part1Questions s) _ (part1-numbered s) .1 (
+        part1-iff s .1 (f .marks),
+        asked-iff 7 (sizesRight k (length p) (length t) n) _ (omega arith) .1 (
+          sizes-iff k (length p) (length t) n .1 (f .schedule-long, f .index-long),
+          asked-iff 8 (ifThere (leb 2 k) (question8 s p n)) _ (omega arith) .1 (
+            there-iff 2 k (question8 s p n) .1 (f .schedule-right),
+            asked-iff 9 (ifThere (leb 3 k) (isIndex s p t n)) _ (omega arith) .1
+                (there-iff 3 k (isIndex s p t n) .1 (f .index-right), none-asked),
           ),
         ),
       )
 
 -- 4 to 9 of the first k of three bodies: what is past them is not asked about
 pub given-stages : (k : ℕ) (a b c : List ℕ) → isCount k ≡ true
-    → answer (bodyQuestions (given k a b c)) ≡ answer ((4 asks question4 a) ∷ markQuestions a (markCount a) ++ lastQuestions a b c k (markCount a))
+    → answer (bodyQuestions (given k a b c)) ≡ answer (part1Questions a ++ lastQuestions a b c k (markCount a))
 unfolding bodyQuestions question7 question9 sizesRight
 given-stages k a b c =
     count-cases (λ k.
-    answer (bodyQuestions (given k a b c)) ≡ answer ((4 asks question4 a) ∷ markQuestions a (markCount a) ++ lastQuestions a b c k (markCount a)))
+    answer (bodyQuestions (given k a b c)) ≡ answer (part1Questions a ++ lastQuestions a b c k (markCount a)))
     refl refl refl k
 
 pub fitting-iff : (bodies : List (List ℕ)) → (answer (bodyQuestions bodies) ≡ 0) ↔ Fitting bodies

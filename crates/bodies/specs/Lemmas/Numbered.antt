@@ -1,16 +1,18 @@
 -- No question of these lists bears the number 0.
-use Prim.Native.Nat.{ℕ, zero, suc}
+use Prim.Native.Nat.{ℕ}
 use mathlib.Core.List.{List}
 use native.Mathlib.Omega.{arith}
 use Rattle.contents.specs.Lemmas.Asked.{Numbered, numbered-append}
-use Rattle.bodies.specs.Questions.{markQuestions, bodyQuestions}
+use Rattle.contents.specs.Lemmas.Turns.{turn-numbered}
+use Rattle.bodies.specs.Questions.{oneMark, markCount, markQuestions, part1Questions, bodyQuestions}
 
-pub marks-numbered : (s : List ℕ) (n : ℕ) → Numbered (markQuestions s n)
-unfolding markQuestions
-marks-numbered s zero = tt
-marks-numbered s (suc n) = numbered-append (markQuestions s n) _ (marks-numbered s n) (omega arith, (omega arith, tt))
+pub one-numbered : (s : List ℕ) (m : ℕ) → Numbered (oneMark s m)
+one-numbered s m = (omega arith, (omega arith, tt))
+
+pub part1-numbered : (s : List ℕ) → Numbered (part1Questions s)
+unfolding part1Questions markQuestions
+part1-numbered s = (omega arith, turn-numbered (oneMark s) (one-numbered s) (markCount s))
 
 pub bodies-numbered : (bodies : List (List ℕ)) → Numbered (bodyQuestions bodies)
 unfolding bodyQuestions
-bodies-numbered bodies =
-    (omega arith, numbered-append (markQuestions _ _) _ (marks-numbered _ _) (omega arith, (omega arith, (omega arith, tt))))
+bodies-numbered bodies = numbered-append (part1Questions _) _ (part1-numbered _) (omega arith, (omega arith, (omega arith, tt)))
