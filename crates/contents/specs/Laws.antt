@@ -78,5 +78,11 @@ join-length = Entries.join-length
 pub sets-append : (l : List ℕ) (i : ℕ) (v w : List ℕ) → sets l i (v ++ w) ≡ sets (sets l i v) (i + length v) w
 sets-append = Writing.sets-append
 
+-- and so of three
+pub bodies-sets : (l : List ℕ) {l₁ l₂ l₃ : List ℕ} (a b c : List ℕ) (at : ℕ) {i j : ℕ}
+    → (i ≡ at + length a) × (l₁ ≡ sets l at a) → (j ≡ i + length b) × (l₂ ≡ sets l₁ i b) → l₃ ≡ sets l₂ j c
+    → l₃ ≡ sets l at (a ++ (b ++ c))
+bodies-sets = Writing.bodies-sets
+
 pub over-sets : (w buffer : List ℕ) → length w ≤ length buffer → sets buffer 0 w ≡ over w buffer
 over-sets = Writing.over-sets

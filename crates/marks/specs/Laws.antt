@@ -16,8 +16,9 @@ use mir.Val.{SFits}
 use Rattle.numbers.specs.Little.{leAt, signed, Bytes}
 use Rattle.numbers.specs.Laws.{le-bound, signed-fits}
 use Rattle.fractions.specs.Order.{Small}
-use Rattle.marks.specs.Marks.{xAt, yAt, radiusAt, kindAt, priorityAt, usedAt, houseRadius, houseOf, houseNumber, houseValue, isKind, isRadius, usedRadius}
+use Rattle.marks.specs.Marks.{xAt, yAt, radiusAt, kindAt, priorityAt, usedAt, houseOf, houseNumber, houseValue, isKind, isRadius, usedRadius}
 use Rattle.marks.specs.declared.House.the-variants.{Radius, Refused}
+use Rattle.marks.specs.Marks.{Group, note, spot, streak, patch, break, kindGroup, groupRadius, houseRadius, oldGroupRadius, oldRadius}
 use Rattle.marks.specs.Marks.{square, touchingOf, touching, outranks, rankKey}
 
 -- ---- kinds
@@ -48,20 +49,35 @@ house-value kind e = ap houseValue (house-there kind (kind-iff kind .0 e))
 abbrev HouseSize : ℕ → Type 0
 HouseSize r = (40 ≤ r) × (r ≤ 200)
 
-pick : (t : Bool) (r : ℕ) {rest : ℕ} → HouseSize r → HouseSize rest → HouseSize (cond t r rest)
-pick true r p q = p
-pick false r p q = q
+group-size : (g : Group) → HouseSize (groupRadius g)
+group-size note = omega arith
+group-size spot = omega arith
+group-size streak = omega arith
+group-size patch = omega arith
+group-size break = omega arith
 
 house-size : (kind : ℕ) → HouseSize (houseRadius kind)
 unfolding houseRadius
-house-size kind =
-    pick (ltb kind 10) 40 (omega arith)
-    (pick (ltb kind 50) 60 (omega arith)
-    (pick (ltb kind 100) 90 (omega arith)
-    (pick (ltb kind 150) 120 (omega arith) (omega arith))))
+house-size kind = group-size (kindGroup kind)
 
 pub house-positive : (kind : ℕ) → 0 < houseRadius kind
 house-positive kind = omega (arith, house-size kind)
+
+-- those of the old table are from 40 to 200 too
+old-group-size : (g : Group) → HouseSize (oldGroupRadius g)
+old-group-size note = omega arith
+old-group-size spot = omega arith
+old-group-size streak = omega arith
+old-group-size patch = omega arith
+old-group-size break = omega arith
+
+pub old-positive : (kind : ℕ) → 0 < oldRadius kind
+unfolding oldRadius
+old-positive kind = omega (arith, old-group-size (kindGroup kind))
+
+pub old-bound : (kind : ℕ) → oldRadius kind ≤ 16383
+unfolding oldRadius
+old-bound kind = omega (arith, old-group-size (kindGroup kind))
 
 pub used-positive : (radius kind : ℕ) → 0 < usedRadius radius kind
 unfolding usedRadius

@@ -1,4 +1,4 @@
--- 01, "A mark" and "Touching, rank, removal" up to the process. `s` is part 1 of a sheet, the marks' bytes, and `m` a mark's number.
+-- 01, "A mark" and "Touching, rank, removal" up to the process, with the house radii of 02, request 2. `s` is part 1 of a sheet, the marks' bytes, and `m` a mark's number.
 use Prim.Native.Nat.{ℕ, suc, _+_, _-_, _*_}
 use mathlib.Core.Bool.{Bool, cond, _&&_, _||_}
 use mathlib.Core.List.{List}
@@ -34,10 +34,39 @@ kindAt s m = leAt 1 s (11 * m + 8)
 
 -- ---- the kind and the radius
 
--- "0 to 9 note 40, 10 to 49 spot 60, 50 to 99 streak 90, 100 to 149 moisture patch 120, 150 to 199 break 200."
+-- "0 to 9 note .., 10 to 49 spot .., 50 to 99 streak .., 100 to 149 moisture patch .., 150 to 199 break .."
+pub data Group : Type 0 where
+  note : Group
+  spot : Group
+  streak : Group
+  patch : Group
+  break : Group
+
+unfoldable pub kindGroup : ℕ → Group
+kindGroup kind =
+    cond (ltb kind 10) note (cond (ltb kind 50) spot (cond (ltb kind 100) streak (cond (ltb kind 150) patch break)))
+
+-- The house radius of each group. 02, request 2: "The house radius of kinds 100 to 149 becomes 150."
+abbrev pub groupRadius : Group → ℕ
+groupRadius note = 40
+groupRadius spot = 60
+groupRadius streak = 90
+groupRadius patch = 150
+groupRadius break = 200
+
 unfoldable pub houseRadius : ℕ → ℕ
-houseRadius kind =
-    cond (ltb kind 10) 40 (cond (ltb kind 50) 60 (cond (ltb kind 100) 90 (cond (ltb kind 150) 120 200)))
+houseRadius kind = groupRadius (kindGroup kind)
+
+-- "The number in 01's old table", which filling alone goes by: "note 40, .. spot 60, .. streak 90, .. moisture patch 120, .. break 200"
+abbrev pub oldGroupRadius : Group → ℕ
+oldGroupRadius note = 40
+oldGroupRadius spot = 60
+oldGroupRadius streak = 90
+oldGroupRadius patch = 120
+oldGroupRadius break = 200
+
+unfoldable pub oldRadius : ℕ → ℕ
+oldRadius kind = oldGroupRadius (kindGroup kind)
 
 -- "Kinds 200 to 255 don't exist." The house radius of a kind, or refusal 5.
 unfoldable pub houseOf : ℕ → House

@@ -5,7 +5,7 @@ ghost use Prim.Native.Nat.{_+_, _*_, _<_, _≤_};
 ghost use lib.ListN.{length};
 ghost use lib.IntN.{_-ℤ_, natAbs};
 ghost use Rattle.fractions.specs.Order.{Small};
-ghost use Rattle.marks.specs.Marks.{xAt, yAt, shifted, radiusAt, priorityAt, kindAt, houseOf, usedRadius, usedAt};
+ghost use Rattle.marks.specs.Marks.{xAt, yAt, shifted, radiusAt, priorityAt, kindAt, houseOf, oldRadius, usedRadius, usedAt};
 ghost use Rattle.marks.specs.Marks.{square, touchingOf, touching, outranks, rankKey};
 
 // ---- the fields
@@ -68,9 +68,22 @@ pub fn house_radius(kind: u8) -> House
         0..=9 => House::Radius(40),
         10..=49 => House::Radius(60),
         50..=99 => House::Radius(90),
-        100..=149 => House::Radius(120),
+        100..=149 => House::Radius(150),
         150..=199 => House::Radius(200),
         _ => House::Refused,
+    }
+}
+
+// The number in 01's old table, in which a moisture patch has 120: filling goes by it.
+pub fn old_radius(kind: u8) -> u16
+    ensures { λ r. ⌜ r ≡ oldRadius kind ⌝ }
+{
+    match kind {
+        0..=9 => 40,
+        10..=49 => 60,
+        50..=99 => 90,
+        100..=149 => 120,
+        _ => 200,
     }
 }
 

@@ -1,5 +1,5 @@
--- 01, "Proved examples": P1 to P12, and what 01 computes in its text: one table of inputs and answers, shown by one computation. P4 is as
--- request 1 of 02 has it.
+-- 01, "Proved examples": P1 to P12, what 01 computes in its text, and the examples of 02's requests: one table of inputs and answers, shown by
+-- one computation. P4 is as request 1 of 02 has it.
 use Prim.Native.Nat.{ℕ, zero, suc, _+_, _-_, _*_}
 use mathlib.Core.Path.{_≡_, refl}
 use mathlib.Core.List.{List, [], _∷_, _++_, map}
@@ -8,23 +8,25 @@ use lib.IntN.{ℤ, pos, negsuc}
 use lib.Ieee.{binary32, ofBits}
 use Rattle.numbers.specs.Little.{leAt, leBytes}
 use Rattle.fractions.specs.Order.{less, same, later, level}
-use Rattle.marks.specs.Marks.{houseRadius, houseOf, isKind, isRadius, usedRadius, square, touchingOf, touching, outranks, rankKey}
+use Rattle.marks.specs.Marks.{kindGroup, houseRadius, oldRadius, houseOf, isKind, isRadius, usedRadius, square, touchingOf, touching, outranks, rankKey}
 use Rattle.elimination.specs.Process.{least, put, before, pair, next, run, process}
 use Rattle.elimination.specs.Records.{eliminatorAt, numAt, denAt, isNever, valueAt, records, scheduleOf}
 use Rattle.index.specs.Tree.{treeOf}
 use Rattle.index.specs.Index.{beats, coordinate, axisKey, indexOf, indexBytes, sameBytes, isIndex}
 use Rattle.contents.specs.Contents.{startAt, split, entries, chain, join, marksPart, schedulePart, indexPart}
-use Rattle.contents.specs.Asking.{answer, every}
+use Rattle.contents.specs.Asking.{answer, inTurn, every}
 use Rattle.contents.specs.Questions.{question1, question2, question3}
-use Rattle.bodies.specs.Questions.{question4, markQuestions, question7, namesRight, recordRight, question8, question9, bodyQuestions}
-use Rattle.sheet.specs.Questions.{checkQuestions, check}
+use Rattle.rows.specs.Rows as Rows
+use Rattle.bodies.specs.Questions.{question4, markQuestions, part1Questions, question7, namesRight, recordRight, question8, question9, bodyQuestions}
+use Rattle.filling.specs.Filling.{filledRadius, filled, fillQuestions}
+use Rattle.sheet.specs.Questions.{checkQuestions, check, assembleQuestions}
 use Rattle.view.specs.declared.Zoom.{Zoom}
 use Rattle.view.specs.declared.Zoom.the-variants.{Stop, Wheel}
 use Rattle.view.specs.Zoom.{stopScale, wheelScale, scaleOf}
 use Rattle.view.specs.Shown.{Rectangle, livesAt, gapSquared, distanceSquared, reaches, shown}
 use Rattle.bitmap.specs.Map.{bit, mapByte, mapPart, mapBytes, countShown, nextSet, walk}
 use Rattle.view.specs.Questions as Viewing
-use Rattle.rollmap.specs.Jobs.{Outcome, outcome, checkJob, scheduled, scheduleQuestions, scheduleJob, shownIn, viewJob}
+use Rattle.rollmap.specs.Jobs.{Outcome, outcome, checkJob, scheduled, scheduleQuestions, scheduleJob, assembleJob, fillJob, shownIn, viewJob}
 use Rattle.text.specs.Text.{digits, rootStep, root, zoomDown}
 use Rattle.report.specs.Text.{text, line, markLine, markLines, listing, refusal, printQuestions, printed}
 
@@ -71,6 +73,11 @@ pub data Asked : Type 0 where
   uses : ℕ → ℕ → Asked
   -- two fractions, by numerator and denominator: 1 where they are equal, else 0
   equals : ℕ → ℕ → ℕ → ℕ → Asked
+  -- filling these marks in a buffer of so many bytes: number, length, and the bytes written
+  fills : List Mark → ℕ → Asked
+  -- a sheet's part 1, cut out by the contents, filled and put together afresh: number and length, what checking it answers, and, scheduled,
+  -- eliminator, numerator and denominator of a mark
+  rescues : List ℕ → ℕ → Asked
 
 -- the numbers of two bytes each
 pairs : List ℕ → List ℕ
@@ -78,16 +85,23 @@ pairs [] = []
 pairs (a ∷ []) = []
 pairs (a ∷ b ∷ l) = (a + 256 * b) ∷ pairs l
 
+-- the record of mark m in part 2 of a sheet
+recordOf : List ℕ → ℕ → List ℕ
+recordOf s m = let p = schedulePart (split s) in eliminatorAt p m ∷ numAt p m ∷ denAt p m ∷ []
+
 pub answers : Asked → List ℕ
 answers (prints l) = printed (sheet l)
 answers (indexes l) = pairs (indexPart (split (scheduled (sheet l))))
-answers (removes l m) =
-    let p = schedulePart (split (scheduled (sheet l))) in
-    eliminatorAt p m ∷ numAt p m ∷ denAt p m ∷ []
+answers (removes l m) = recordOf (scheduled (sheet l)) m
 answers (views l e zoom) = let o = viewJob (scheduled (sheet l)) e zoom 1 in o .number ∷ o .value ∷ o .written
 answers (checks s) = (checkJob s) .number ∷ []
 answers (uses radius kind) = usedRadius radius kind ∷ []
 answers (equals a b c d) = bit (same (record { num = a; den = b }) (record { num = c; den = d })) ∷ []
+answers (fills l room) = let o = fillJob (marks l) room in o .number ∷ o .value ∷ o .written
+answers (rescues s m) =
+    let w = (fillJob (marksPart (split s)) (length s)) .written in
+    let o = assembleJob 1 w [] [] (length s) in
+    o .number ∷ o .value ∷ (checkJob (o .written)) .number ∷ recordOf (scheduled (o .written)) m
 
 -- ---- the table
 
@@ -119,6 +133,19 @@ p11 = mark (pos 60) (pos 0) 2 5 ∷ mark (negsuc 99) (pos 0) 10 9 ∷ mark (pos 
 -- a mark of this radius and this kind
 abbrev of : ℕ → ℕ → List Mark
 of radius kind = record { x = pos 0; y = pos 0; radius = radius; priority = 0; kind = kind } ∷ []
+
+-- two moisture patches with the house radius, and their sheet as it was scheduled when that was 120: mark 1 goes at 10,000 over 240²
+abbrev patches : List Mark
+patches =
+    record { x = pos 0; y = pos 0; radius = 0; priority = 9; kind = 100 }
+    ∷ record { x = pos 100; y = pos 0; radius = 0; priority = 5; kind = 149 }
+    ∷ []
+
+oldSheet : List ℕ
+oldSheet =
+    let never = leBytes 2 65535 ++ (leBytes 8 0 ++ leBytes 4 0) in
+    let gone = leBytes 2 0 ++ (leBytes 8 10000 ++ leBytes 4 57600) in
+    join (marks patches ∷ (never ++ gone) ∷ (leBytes 2 0 ++ leBytes 2 1) ∷ [])
 
 abbrev p3 : Rectangle
 p3 = record { x0 = pos 50; x1 = pos 250; y0 = negsuc 9; y1 = pos 10 }
@@ -164,21 +191,31 @@ table =
     ∷ (removes largest 1 gives (0 ∷ 8589672450 ∷ 1073610756 ∷ []))
     -- "25/1 and 100/4 are equal"
     ∷ (equals 25 1 100 4 gives (1 ∷ []))
+    -- 02, request 2: patches have 150, and 120 once they are filled; 13 where a byte is lacking
+    ∷ (uses 0 100 gives (150 ∷ []))
+    ∷ (uses 0 149 gives (150 ∷ []))
+    ∷ (removes patches 1 gives (0 ∷ 10000 ∷ 90000 ∷ []))
+    ∷ (fills (of 0 149) 11 gives (0 ∷ 11 ∷ 0 ∷ 0 ∷ 0 ∷ 0 ∷ 120 ∷ 0 ∷ 0 ∷ 0 ∷ 149 ∷ 0 ∷ 0 ∷ []))
+    ∷ (fills (of 7 149) 11 gives (0 ∷ 11 ∷ 0 ∷ 0 ∷ 0 ∷ 0 ∷ 7 ∷ 0 ∷ 0 ∷ 0 ∷ 149 ∷ 0 ∷ 0 ∷ []))
+    ∷ (fills (of 0 149) 10 gives (13 ∷ 0 ∷ []))
+    -- "Old scheduled sheets with such marks may now meet 8": this one does, and is rescued
+    ∷ (checks oldSheet gives (8 ∷ []))
+    ∷ (rescues oldSheet 1 gives (0 ∷ 34 ∷ 0 ∷ 0 ∷ 10000 ∷ 57600 ∷ []))
     ∷ []
 
 -- No row is lost.
-pub rows : length table ≡ 21
+pub rows : length table ≡ 29
 unfolding table
 rows = refl
 
 -- Every answer is the expected one.
 pub examples : map (λ (r : Row). answers (r .asked)) table ≡ map (λ (r : Row). r .expected) table
-unfolding table answers pairs sheet marks ofBits
-    leAt leBytes less same later level houseRadius houseOf isKind isRadius usedRadius square touchingOf touching outranks rankKey
+unfolding table answers recordOf pairs sheet marks oldSheet ofBits
+    leAt leBytes less same later level kindGroup houseRadius oldRadius houseOf isKind isRadius usedRadius square touchingOf touching outranks rankKey
     least put before pair next run process isNever valueAt records scheduleOf treeOf beats coordinate axisKey indexOf indexBytes sameBytes isIndex
-    startAt split entries chain join answer every question1 question2 question3 question4
-    markQuestions question7 namesRight recordRight question8
-    question9 bodyQuestions checkQuestions check stopScale wheelScale scaleOf livesAt gapSquared distanceSquared reaches
+    startAt split entries chain join answer inTurn every question1 question2 question3 question4
+    Rows.rows filledRadius filled fillQuestions markQuestions part1Questions question7 namesRight recordRight question8
+    question9 bodyQuestions checkQuestions check assembleQuestions stopScale wheelScale scaleOf livesAt gapSquared distanceSquared reaches
     shown mapByte mapPart mapBytes countShown Viewing.question10 Viewing.question11 Viewing.viewQuestions outcome checkJob scheduled
-    shownIn viewJob digits line rootStep root zoomDown markLine markLines listing refusal printQuestions printed
+    assembleJob fillJob shownIn viewJob digits line rootStep root zoomDown markLine markLines listing refusal printQuestions printed
 examples = refl

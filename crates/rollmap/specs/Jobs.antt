@@ -11,6 +11,7 @@ use Rattle.index.specs.Index.{indexOf, indexBytes}
 use Rattle.contents.specs.Contents.{split, join, marksPart, schedulePart, given}
 use Rattle.contents.specs.Asking.{Question, _asks_, answer}
 use Rattle.bodies.specs.Questions.{markCount}
+use Rattle.filling.specs.Filling.{filled, fillQuestions}
 use Rattle.sheet.specs.Questions.{sheetCount, checkQuestions, check, assembleQuestions}
 use Rattle.view.specs.declared.Zoom.{Zoom}
 use Rattle.view.specs.Zoom.{scaleOf, scale}
@@ -91,6 +92,12 @@ unfoldable pub assembleJob : ℕ → List ℕ → List ℕ → List ℕ → ℕ 
 assembleJob k body1 body2 body3 room =
     let bodies = given k body1 body2 body3 in
     outcome (assembleQuestions k bodies room) (length (join bodies)) (join bodies)
+
+-- ---- filling
+
+-- 11 bytes a mark
+unfoldable pub fillJob : List ℕ → ℕ → Outcome
+fillJob s room = outcome (fillQuestions s room) (11 * markCount s) (filled s)
 
 -- ---- viewing
 

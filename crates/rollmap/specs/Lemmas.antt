@@ -1,4 +1,6 @@
 pub mod Outcomes
+pub mod Rooms
+pub mod Filling
 pub mod Scheduled
 pub mod Walking
 pub mod Scheduling

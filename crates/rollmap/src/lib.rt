@@ -1,4 +1,4 @@
-// The public library: the five jobs, for C and Rust.
+// The public library, for C and Rust.
 use sheet::Assembled;
 use view::Edges;
 use view::Scale;
@@ -15,10 +15,11 @@ ghost use Rattle.sheet.specs.Layout.{opened, placeOf, Located};
 ghost use Rattle.view.specs.declared.Zoom.the-variants.{Stop, Wheel};
 ghost use Rattle.view.specs.View.{rectangle};
 ghost use Rattle.view.specs.Questions.{question11, isMap};
-ghost use Rattle.rollmap.specs.Jobs.{checkJob, newBodies, hasRoom, scheduleJob, assembleJob, viewJob, walkJob, isShownJob};
+ghost use Rattle.rollmap.specs.Jobs.{checkJob, newBodies, hasRoom, scheduleJob, assembleJob, fillJob, viewJob, walkJob, isShownJob};
 ghost use Rattle.rollmap.specs.Answers.{refusal, answerOf, extentOf, edges, Gives, Lent};
 ghost use Rattle.rollmap.specs.Parts.{Joins};
 ghost use Rattle.rollmap.specs.Demand3.{Meets, MeetsView};
+ghost use Rattle.rollmap.specs.Filled.{MeetsFilling};
 ghost use Rattle.rollmap.specs.Steps.{resultsOver, viewAt};
 
 // What a call answers: 0 or the refusal's number, and the length, count or mark number asked for.
@@ -139,6 +140,31 @@ pub extern "C" fn rollmap_schedule(sheet: &[u8], work: &mut [u8], out: &mut [u8]
     Answer {
         number: 0,
         value: (27 * n + 32) as u32,
+    }
+}
+
+// ---- filling
+
+// Writes the same marks, each radius 0 as the number in 01's old table, and answers how many bytes these are: questions 4, then 5 and 6
+// mark by mark, and 13.
+#[no_mangle]
+pub extern "C" fn rollmap_fill(marks: &[u8], out: &mut [u8]) -> Answer
+    ensures { λ r. ⌜ Gives (fillJob (now (marks .entry)) (length (now (out .entry)))) (now (out .entry)) r (now (out .exit)) ⌝ }
+    ensures { λ r. ⌜ MeetsFilling (now (marks .entry)) r (now (out .exit)) ⌝ }
+{
+    let number = bodies::part1_answer(marks);
+    if number != 0 {
+        return refused(number);
+    }
+    let n = marks.len() / 11;
+    let size = 11 * n;
+    if out.len() < size {
+        return refused(13);
+    }
+    filling::fill(out, marks, n);
+    Answer {
+        number: 0,
+        value: size as u32,
     }
 }
 

@@ -8,7 +8,7 @@ use borrow.Author.Needs.{needs}
 use lib.Dec.{ltb}
 use borrow.Author.Tests.{le-ltb, eq-eqb, ne-eqb}
 use Rattle.marks.specs.declared.House.the-variants.{Radius, Refused}
-use Rattle.marks.specs.Marks.{houseRadius, houseOf, usedRadius}
+use Rattle.marks.specs.Marks.{kindGroup, houseRadius, houseOf, usedRadius}
 use Rattle.marks.specs.Laws.{house-there}
 use Rattle.marks.proofs.used_radius.Statement.{statement}
 use Rattle.marks.proofs.used_radius.Tie as tie
@@ -29,7 +29,7 @@ refused-from kind e =
     ]
 
 of-refused : (kind : ℕ) → houseOf kind ≡ Refused → 200 ≡ houseRadius kind
-unfolding houseRadius
+unfolding houseRadius kindGroup
 of-refused kind e =
     let h = refused-from kind e in
     simp (le-ltb kind 10 (omega arith), le-ltb kind 50 (omega arith))

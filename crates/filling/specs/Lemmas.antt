@@ -1,0 +1,2 @@
+-- The lemmas behind Theorems and the functions' proofs.
+pub mod Filled

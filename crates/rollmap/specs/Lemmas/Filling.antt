@@ -1,0 +1,83 @@
+-- What filling writes is what Filled claims. Assumes nothing.
+use Prim.Native.Nat.{ℕ, _+_, _*_, _≤_}
+use mathlib.Core.Path.{_≡_, sym, _∙_, subst⁻¹}
+use mathlib.Core.List.{List, [], _∷_}
+use native.Mathlib.Omega.{arith}
+use lib.Dec.{leb}
+use lib.ListN.{length, length-append}
+use Rattle.contents.specs.Contents.{chain, join}
+use Rattle.contents.specs.Asking.{Question, _asks_, answer}
+use Rattle.contents.specs.Laws.{append-yes, join-length}
+use Rattle.bodies.specs.Questions.{markCount, part1Questions}
+use Rattle.bodies.specs.Fitting.{MarksRight, Fitting}
+use Rattle.bodies.specs.Laws.{part1-numbered, part1-iff}
+use Rattle.filling.specs.Filling.{filled, fillQuestions}
+use Rattle.filling.specs.Theorems.{filled-length, filled-count, filled-accepted, filled-some, filled-used, filled-again}
+use Rattle.sheet.specs.Questions.{assembleQuestions}
+use Rattle.sheet.specs.Laws.{assemble-iff}
+use Rattle.rollmap.specs.declared.Answer.{Answer}
+use Rattle.rollmap.specs.Jobs.{outcome, assembleJob, fillJob}
+use Rattle.rollmap.specs.Answers.{Gives}
+use Rattle.rollmap.specs.Filled.{Filled, MeetsFilling}
+use Rattle.rollmap.specs.Lemmas.Outcomes.{outcome-number}
+use Rattle.rollmap.specs.Lemmas.Rooms.{passed, counted}
+
+outcome-same : (q q′ : List Question) (value : ℕ) (w : List ℕ) → answer q ≡ answer q′ → outcome q value w ≡ outcome q′ value w
+unfolding outcome
+outcome-same q q′ value w e = rw e
+
+-- marks that pass 4 to 6 are a sheet of one part
+alone : (w : List ℕ) → answer (part1Questions w) ≡ 0 → Fitting (w ∷ [])
+alone w ok =
+    record {
+      marks = part1-iff w .0 ok;
+      schedule-long = λ l. absurd (omega arith);
+      index-long = λ l. absurd (omega arith);
+      schedule-right = λ l. absurd (omega arith);
+      index-right = λ l. absurd (omega arith);
+    }
+
+module _ (s : List ℕ) (ok : answer (part1Questions s) ≡ 0) where
+  again : (room : ℕ) → fillJob (filled s) room ≡ fillJob s room
+  unfolding fillJob fillQuestions
+  again room =
+      let n = markCount s in
+      let rest = (13 asks leb (11 * n) room) ∷ [] in
+      let first = append-yes (part1Questions (filled s)) rest (part1-numbered (filled s)) (filled-accepted s ok) in
+      let second = append-yes (part1Questions s) rest (part1-numbered s) ok in
+      rw (filled-count s ok, filled-again s ok) (outcome-same _ _ (11 * n) (filled s) (first ∙ sym second))
+
+  afresh : (body2 body3 : List ℕ) (room : ℕ) → length (filled s) + 12 ≤ room → (assembleJob 1 (filled s) body2 body3 room) .number ≡ 0
+  unfolding assembleJob chain
+  afresh body2 body3 room h =
+      let w = filled s in
+      let chained : length (chain (w ∷ [])) ≡ length w = simp length-append (omega arith) in
+      let long : length (join (w ∷ [])) ≤ room = omega (arith, join-length (w ∷ [])) in
+      outcome-number (assembleQuestions 1 (w ∷ []) room) _ _
+      ∙ assemble-iff 1 (w ∷ []) room .1 ((omega arith, omega arith), alone w (filled-accepted s ok), long)
+
+  filled-is : Filled s (filled s)
+  filled-is =
+      record {
+        count = filled-count s ok;
+        accepted = filled-accepted s ok;
+        no-zero = filled-some s ok;
+        used = filled-used s ok;
+        again = again;
+        afresh = afresh;
+      }
+
+-- and so of what the call answers and leaves
+pub fill-meets : (s before : List ℕ) {r : Answer} {out : List ℕ} → Gives (fillJob s (length before)) before r out → MeetsFilling s r out
+unfolding fillJob fillQuestions
+fill-meets s before gives =
+    record {
+      filled = λ z.
+          (let ok = passed (part1Questions s) (part1-numbered s) (11 * markCount s) (filled s) before gives z in
+          let w = counted (part1Questions s) (part1-numbered s) (11 * markCount s) (filled s) before gives z (sym (filled-length s ok)) in
+          rw w (filled-is s ok));
+    }
+
+pub fill-whole : {s before : List ℕ} {r : Answer} {out : List ℕ} → Gives (fillJob s (length before)) before r out
+    → Gives (fillJob s (length before)) before r out × MeetsFilling s r out
+fill-whole {s} {before} gives = (gives, fill-meets s before gives)

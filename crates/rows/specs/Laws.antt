@@ -1,0 +1,127 @@
+-- Rows of one width: each is found again, a list is its rows, and a loop writes them one by one. Assumes nothing.
+use Prim.Native.Nat.{ℕ, zero, suc, _+_, _*_, _^_, _<_, _≤_}
+use mathlib.Core.Path.{_≡_, refl, sym, ap, ap₂, _∙_}
+use mathlib.Core.List.{List, [], _++_}
+use native.Mathlib.Decide.{decLt}
+use native.Mathlib.Nat.{zero-add, mul-suc, mul-le-mul-left}
+use native.Mathlib.Numerals.{add-one}
+use native.Mathlib.Omega.{arith}
+use lib.ListN.{length, getD, take, drop, length-append, length-take, length-drop}
+use lib.Seq.{sets, take-append-le, drop-append-le, take-at, drop-at, take-all, take-add, take-take, drop-drop, length-take-le, getD-take, getD-drop}
+use Rattle.numbers.specs.Little.{leAt, leBytes}
+use Rattle.numbers.specs.Laws.{le-length, le-drop, le-take, le-append, read-back}
+use Rattle.contents.specs.Laws.{sets-append}
+use Rattle.rows.specs.Rows.{rows}
+
+-- row i ends at or before row n
+within : (w i n : ℕ) → i < n → w * i + w ≤ w * n
+within w i n h = rw (mul-suc w i) at (mul-le-mul-left {m = suc i} {n = n} w h)
+
+module _ (row : ℕ → List ℕ) (w : ℕ) where
+  pub rows-length : (n : ℕ) → ((i : ℕ) → i < n → length (row i) ≡ w) → length (rows row n) ≡ w * n
+  unfolding rows
+  rows-length zero h = omega arith
+  rows-length (suc n) h =
+      rw (length-append (rows row n) (row n), mul-suc w n)
+      (ap₂ _+_ (rows-length n (λ i l. h i (omega arith))) (h n (omega arith)))
+
+  -- row i of the first n
+  pub rows-at : (n i : ℕ) → ((j : ℕ) → j < n → length (row j) ≡ w) → i < n → take w (drop (w * i) (rows row n)) ≡ row i
+  unfolding rows
+  rows-at zero i h l = absurd (omega arith)
+  rows-at (suc n) i h l =
+      let long = rows-length n (λ j k. h j (omega arith)) in
+      elim (decLt i n) [
+        | yes k ↦
+            (let room : w * i + w ≤ length (rows row n) = rw long (within w i n k) in
+            let left : w ≤ length (drop (w * i) (rows row n)) = simp length-drop (omega arith) in
+            rw (drop-append-le (w * i) (rows row n) (row n) (omega arith), take-append-le w (drop (w * i) (rows row n)) (row n) left)
+            (rows-at n i (λ j q. h j (omega arith)) k))
+        | no k ↦
+            (let e : i ≡ n = omega arith in
+            rw (e, drop-at (rows row n) (row n) (w * n) long) (take-all w (row n) (omega (arith, h n (omega arith)))))
+      ]
+
+  -- a list of n rows is its rows
+  rows-take : (s : List ℕ) (n : ℕ) → ((i : ℕ) → i < n → row i ≡ take w (drop (w * i) s)) → rows row n ≡ take (w * n) s
+  unfolding rows
+  rows-take s zero h = let e : w * 0 ≡ 0 = omega arith in rw e
+  rows-take s (suc n) h =
+      rw (mul-suc w n, take-add (w * n) w s)
+      (ap₂ _++_ (rows-take s n (λ i l. h i (omega arith))) (h n (omega arith)))
+
+  pub rows-whole : (s : List ℕ) (n : ℕ) → length s ≡ w * n → ((i : ℕ) → i < n → row i ≡ take w (drop (w * i) s)) → rows row n ≡ s
+  rows-whole s n e h = rows-take s n h ∙ take-all (w * n) s (omega arith)
+
+-- ---- fields of a row of w bytes, at `at`
+
+module _ (s row : List ℕ) (w at : ℕ) (e : take w (drop at s) ≡ row) where
+  pub field-le : (k j : ℕ) → j + k ≤ w → leAt k s (at + j) ≡ leAt k row j
+  field-le k j h = rw (← e, le-take k w (drop at s) j h, le-drop k at s j)
+
+  pub field-get : (j : ℕ) → j < w → getD s (at + j) 0 ≡ getD row j 0
+  field-get j h = rw (← e, getD-take w (drop at s) j 0 h, getD-drop at s j 0)
+
+-- a number of k bytes that is found
+pub le-found : (k : ℕ) (s : List ℕ) (at v : ℕ) → v < 2 ^ (8 * k) → take k (drop at s) ≡ leBytes k v → leAt k s at ≡ v
+le-found k s at v h e =
+    let z : at + 0 ≡ at = omega arith in
+    let room : 0 + k ≤ length (leBytes k v) = rw (le-length k v) (omega arith) in
+    (rw z at (field-le s (leBytes k v) k at e k 0 (omega arith)))
+    ∙ sym (le-append k (leBytes k v) [] 0 room) ∙ read-back k [] [] v 0 refl h
+
+-- ---- pieces of a row
+
+pub cut-length : (s : List ℕ) (k at : ℕ) → at + k ≤ length s → length (take k (drop at s)) ≡ k
+cut-length s k at h = simp (length-take, length-drop) (omega arith)
+
+-- the start and the end of what stands at `at`
+module _ (s front tail : List ℕ) (f k at : ℕ) (l : length front ≡ f) (e : take (f + k) (drop at s) ≡ front ++ tail) where
+  head-of : take f (drop at s) ≡ front
+  head-of = sym (take-take f (f + k) (drop at s) (omega arith)) ∙ ap (take f) e ∙ take-at front tail f l
+
+  tail-of : at + (f + k) ≤ length s → take k (drop (at + f) s) ≡ tail
+  tail-of h =
+      let long : f ≤ length (drop at s) = simp length-drop (omega arith) in
+      let cut : take f (drop at s) ++ take k (drop f (drop at s)) ≡ front ++ tail = rw (take-add f k (drop at s)) at e in
+      rw (← drop-drop f at s)
+      (sym (drop-at (take f (drop at s)) (take k (drop f (drop at s))) f (length-take-le f (drop at s) long))
+      ∙ ap (drop f) cut ∙ drop-at front tail f l)
+
+-- the three pieces of a row
+pub record Split (s a b c : List ℕ) (p q r at : ℕ) : Type 0 where
+  pub first : take p (drop at s) ≡ a
+  pub second : take q (drop (at + p) s) ≡ b
+  pub third : take r (drop (at + (p + q)) s) ≡ c
+
+pub split : (s a b c : List ℕ) (p q r at : ℕ) → length a ≡ p → length b ≡ q → at + (p + (q + r)) ≤ length s
+    → take (p + (q + r)) (drop at s) ≡ a ++ (b ++ c) → Split s a b c p q r at
+split s a b c p q r at la lb h e =
+    let t = tail-of s a (b ++ c) p (q + r) at la e h in
+    let far : at + (p + q) ≡ at + p + q = omega arith in
+    record {
+      first = head-of s a (b ++ c) p (q + r) at la e;
+      second = head-of s b c q r (at + p) lb t;
+      third = rw far (tail-of s b c q r (at + p) lb t (omega arith));
+    }
+
+-- a row of three pieces
+pub pieces : (s : List ℕ) (at p q r : ℕ)
+    → take p (drop at s) ++ (take q (drop (at + p) s) ++ take r (drop (at + (p + q)) s)) ≡ take (p + (q + r)) (drop at s)
+pieces s at p q r =
+    let e : at + (p + q) ≡ at + p + q = omega arith in
+    rw (e, ← drop-drop p at s, ← drop-drop q (at + p) s, take-add p (q + r) (drop at s), take-add q r (drop p (drop at s)), ← drop-drop p at s)
+
+-- ---- writing
+
+module _ (row : ℕ → List ℕ) (w : ℕ) (before : List ℕ) where
+  pub rows-none : before ≡ sets before 0 (rows row 0)
+  unfolding rows
+  rows-none = refl
+
+  -- one turn of a loop that writes row i
+  pub rows-more : (i : ℕ) {l after : List ℕ} → ((j : ℕ) → j < i → length (row j) ≡ w) → l ≡ sets before 0 (rows row i)
+      → after ≡ sets l (w * i) (row i) → after ≡ sets before 0 (rows row (i + 1))
+  unfolding rows
+  rows-more i h e f =
+      rw (add-one i, f, e, sets-append before 0 (rows row i) (row i), zero-add (length (rows row i)), rows-length row w i h)

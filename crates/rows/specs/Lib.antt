@@ -1,0 +1,3 @@
+-- Read Rows first. Laws proves what follows from it.
+pub mod Rows
+pub mod Laws
