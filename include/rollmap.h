@@ -124,6 +124,20 @@ struct rollmap_answer rollmap_assemble(uint32_t parts,
                                        const uint8_t *body3, size_t body3_length,
                                        uint8_t *out, size_t out_length);
 
+/* Fills marks (11 bytes each, as in part 1): writes the same marks to out, each radius 0
+   as the number in the old table of house radii, in which a moisture patch (kinds 100 to
+   149) has 120 and not 150; what follows in out stays as it is. The value is the number
+   of bytes written, as many as marks has. Filled marks pass 4 to 6 and have no radius 0,
+   and filling them again gives the same bytes. Asks 4, then 5 and 6 mark by mark, and 13
+   of out.
+
+   A sheet that was scheduled when patches had 120 may now be refused by 8, and then has
+   no parts. Its owner takes part 1 by the contents (offset and length are the numbers of
+   4 bytes at 4 and 8 of the sheet, once 1 to 3 are answered with yes), fills it and puts
+   it together afresh: rollmap_assemble of one part. */
+struct rollmap_answer rollmap_fill(const uint8_t *marks, size_t marks_length,
+                                   uint8_t *out, size_t out_length);
+
 /* Answers a view of a sheet of n marks: those that live at the zoom and whose disk there
    reaches the rectangle, touching included. With k = 64 times the zoom, a disk reaches it
    where the squared distance from point to rectangle, times 4,096, is at most k squared

@@ -1,7 +1,7 @@
 //! The roll map, read plainly.
 //!
-//! What is defined here is written literally from document 01, for clarity and
-//! not for speed, and owes nothing to the proved library, which is compared with
+//! What is defined here is written literally from documents 01 and 02, for clarity
+//! and not for speed, and owes nothing to the proved library, which is compared with
 //! it. Comments name the section of 01 that a definition comes from. Two faster
 //! ways to schedule stand next to the process as 01 tells it, and [`sample`]
 //! makes up sheets for tests and benchmarks.
@@ -14,6 +14,7 @@
 #![forbid(unsafe_code)]
 
 pub mod contents;
+pub mod fill;
 pub mod fraction;
 pub mod mark;
 pub mod process;

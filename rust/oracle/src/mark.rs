@@ -84,7 +84,7 @@ pub fn house_radius(kind: u8) -> Option<u16> {
         0..=9 => Some(40),      // note
         10..=49 => Some(60),    // spot
         50..=99 => Some(90),    // streak
-        100..=149 => Some(120), // moisture patch
+        100..=149 => Some(150), // moisture patch (02, request 2)
         150..=199 => Some(200), // break
         200..=255 => None,
     }
@@ -163,11 +163,11 @@ mod tests {
 
     #[test]
     fn the_house_radius_changes_at_each_first_kind() {
-        let firsts = [(0, 40), (10, 60), (50, 90), (100, 120), (150, 200)];
+        let firsts = [(0, 40), (10, 60), (50, 90), (100, 150), (150, 200)];
         for (first, radius) in firsts {
             assert_eq!(house_radius(first), Some(radius));
         }
-        let lasts = [(9, 40), (49, 60), (99, 90), (149, 120), (199, 200)];
+        let lasts = [(9, 40), (49, 60), (99, 90), (149, 150), (199, 200)];
         for (last, radius) in lasts {
             assert_eq!(house_radius(last), Some(radius));
         }

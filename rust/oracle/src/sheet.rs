@@ -31,9 +31,7 @@ pub fn open(sheet: &[u8]) -> Result<Opened<'_>, Refusal> {
 
 /// Opens the bodies of a sheet, part 1 first. Asks 4 to 9.
 fn open_bodies(bodies: Vec<&[u8]>) -> Result<Opened<'_>, Refusal> {
-    ask(4, marks_fit(bodies[0]))?;
-    let marks = read_marks(bodies[0]);
-    ask_marks(&marks)?;
+    let marks = open_marks(bodies[0])?;
     ask(7, lengths_fit(&bodies, marks.len()))?;
     let records = bodies.get(1).map(|body| read_records(body));
     if let Some(records) = &records {
@@ -50,6 +48,14 @@ fn open_bodies(bodies: Vec<&[u8]>) -> Result<Opened<'_>, Refusal> {
         records,
         tree,
     })
+}
+
+/// Reads marks as they stand in part 1. Asks 4 to 6.
+pub fn open_marks(part_1: &[u8]) -> Result<Vec<Mark>, Refusal> {
+    ask(4, marks_fit(part_1))?;
+    let marks = read_marks(part_1);
+    ask_marks(&marks)?;
+    Ok(marks)
 }
 
 /// Question 4: part 1 is a multiple of 11 and at most 45,056 bytes.

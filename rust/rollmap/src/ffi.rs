@@ -51,6 +51,13 @@ extern "C" {
         out_length: usize,
     ) -> Answer;
 
+    fn rollmap_fill(
+        marks: *const u8,
+        marks_length: usize,
+        out: *mut u8,
+        out_length: usize,
+    ) -> Answer;
+
     fn rollmap_view_stop(
         sheet: *const u8,
         sheet_length: usize,
@@ -117,6 +124,11 @@ pub(crate) fn assemble(parts: u32, bodies: [&[u8]; 3], out: &mut [u8]) -> Answer
             out.len(),
         )
     }
+}
+
+pub(crate) fn fill(marks: &[u8], out: &mut [u8]) -> Answer {
+    // SAFETY: pointers and lengths are slices' (see the top of this file).
+    unsafe { rollmap_fill(marks.as_ptr(), marks.len(), out.as_mut_ptr(), out.len()) }
 }
 
 pub(crate) fn view(sheet: &[u8], view: View, map: &mut [u8]) -> Answer {

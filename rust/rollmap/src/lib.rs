@@ -34,6 +34,7 @@
 #![deny(unsafe_code, missing_docs)]
 
 mod ffi;
+mod fill;
 mod mark;
 mod record;
 mod refusal;
@@ -41,6 +42,7 @@ mod sheet;
 mod view;
 mod walk;
 
+pub use fill::{fill, fill_to_vec, rescue};
 pub use mark::{marks, marks_to_vec, Mark, MARK_BYTES};
 pub use record::{records, Record, RECORD_BYTES};
 pub use refusal::Refusal;

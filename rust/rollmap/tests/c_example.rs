@@ -34,6 +34,8 @@ short map: 13 65535
 no bodies 2 and 3: 0 56
 no body 3: 0 122
 no parts: 1 0
+short fill: 13 0, then ee
+fill: 0 11, radius 120, tag 7, then ee
 ";
 
 const HEADER: &str = include_str!("../../../include/rollmap.h");

@@ -98,6 +98,21 @@ static void print_refusals(const uint8_t *sheet, size_t length)
     printf("short map: %u %u\n", answer.number, answer.value);
 }
 
+static void print_marks(void)
+{
+    /* A moisture patch with the house radius. */
+    static const uint8_t patch[11] = {0, 0, 0, 0, 0, 0, 1, 0, 100, 7, 0};
+    uint8_t out[12];
+    struct rollmap_answer answer;
+
+    memset(out, 0xee, sizeof out);
+    answer = rollmap_fill(patch, sizeof patch, out, 10);
+    printf("short fill: %u %u, then %02x\n", answer.number, answer.value, out[0]);
+    answer = rollmap_fill(patch, sizeof patch, out, sizeof out);
+    printf("fill: %u %u, radius %u, tag %u, then %02x\n", answer.number, answer.value,
+           (unsigned)number_at(out + 4, 2), (unsigned)number_at(out + 9, 2), out[11]);
+}
+
 int main(void)
 {
     uint8_t sheet[ROLLMAP_CONTENTS_BYTES(1) + sizeof marks];
@@ -118,5 +133,6 @@ int main(void)
     print_views(out, sizeof out - 1);
     print_refusals(out, sizeof out - 1);
     print_ignored(out);
+    print_marks();
     return 0;
 }
