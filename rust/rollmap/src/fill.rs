@@ -1,13 +1,10 @@
 //! Filling marks, and rescuing a sheet that was scheduled by the old house radii.
 
-use crate::{assemble, check, ffi, Refusal};
+use crate::{assemble, check, contents_bytes, ffi, Refusal};
 
 /// Where the contents have the offset and the length of part 1.
 const OFFSET_AT: usize = 4;
 const LENGTH_AT: usize = 8;
-
-/// Bytes of the contents of a sheet of one part.
-const CONTENTS_BYTES: usize = 12;
 
 /// Fills marks into `out`: the same marks, each radius 0 written as the number in
 /// the old table, in which a moisture patch has 120. Answers the number of bytes
@@ -16,8 +13,8 @@ const CONTENTS_BYTES: usize = 12;
 ///
 /// # Errors
 ///
-/// Asks 4, then 5 and 6 mark by mark, and 13 of `out`. A refused call writes
-/// nothing.
+/// Asks [4, then 5 and 6 mark by mark](Refusal), and [13](Refusal::Buffer) of `out`.
+/// A refused call writes nothing.
 pub fn fill(marks: &[u8], out: &mut [u8]) -> Result<usize, Refusal> {
     let written = ffi::fill(marks, out).settle(0)?;
     Ok(written as usize)
@@ -27,7 +24,7 @@ pub fn fill(marks: &[u8], out: &mut [u8]) -> Result<usize, Refusal> {
 ///
 /// # Errors
 ///
-/// Asks 4, then 5 and 6 mark by mark.
+/// Asks [4, then 5 and 6 mark by mark](Refusal).
 pub fn fill_to_vec(marks: &[u8]) -> Result<Vec<u8>, Refusal> {
     let mut out = vec![0; marks.len()];
     let written = fill(marks, &mut out)?;
@@ -42,11 +39,11 @@ pub fn fill_to_vec(marks: &[u8]) -> Result<Vec<u8>, Refusal> {
 ///
 /// # Errors
 ///
-/// Asks 1 to 3 of the sheet, and 4 to 6 of its marks. Its parts 2 and 3 are not
-/// looked at.
+/// Asks [1 to 3](Refusal) of the sheet, and 4 to 6 of its marks. Its parts 2 and 3 are
+/// not looked at.
 pub fn rescue(sheet: &[u8]) -> Result<Vec<u8>, Refusal> {
     let filled = fill_to_vec(cut_marks(sheet)?)?;
-    let mut out = vec![0; CONTENTS_BYTES + filled.len()];
+    let mut out = vec![0; contents_bytes(1) + filled.len()];
     assemble(1, [&filled, &[], &[]], &mut out)?;
     Ok(out)
 }

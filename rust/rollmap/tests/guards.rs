@@ -7,7 +7,7 @@ use std::process::{Command, Stdio};
 
 use common::{one_part, three_parts, P1};
 use oracle::fraction::{Fraction, Removal};
-use oracle::mark::{touching_value, Mark};
+use oracle::mark::{read_marks, touching_value, Mark};
 use oracle::record::Record;
 use oracle::sample::{marks, Shape};
 use oracle::view::{reaches, Edges};
@@ -62,7 +62,7 @@ fn every_test_that_the_page_names_is_here() {
     let sentences = GUARDS.lines().filter_map(|line| line.split_once("Test: "));
     let named = cells.chain(sentences.map(|(_, name)| name.trim_end_matches('.')));
     let names: Vec<&str> = named.flat_map(|names| names.split(", ")).collect();
-    assert_eq!(names.len(), 18);
+    assert_eq!(names.len(), 19);
     for name in names {
         let test = format!("#[test]\nfn {}()", name.trim_matches('`'));
         assert!(own.contains(&test), "{name}");
@@ -136,6 +136,26 @@ fn shown_marks_do_not_touch() {
     assert!(touch(&P1[0], &P1[3], 16));
     let sheet = scheduled(&P1);
     assert!(shown(&sheet, wheel(1)).contains(&3) && shown(&sheet, wheel(16)).contains(&0));
+}
+
+#[test]
+fn the_cut_list_keeps_its_120() {
+    let patch = |x, radius| Mark {
+        kind: 120,
+        ..Mark::plain(x, 0, radius, 0)
+    };
+    let marks = [patch(0, 0), patch(1_000, 7), Mark::plain(2_000, 0, 0, 0)];
+    let sheet = scheduled(&marks);
+    let filled = rollmap::fill_to_vec(rollmap::part(&sheet, 1).unwrap()).unwrap();
+    let radii = read_marks(&filled).into_iter().map(|mark| mark.radius);
+    assert!(radii.eq([120, 7, 40]));
+    // The sheet's own labels grow by 150.
+    let gone = rollmap::Record::Removed {
+        eliminator: 0,
+        numerator: 1_000 * 1_000,
+        denominator: 157 * 157,
+    };
+    assert_eq!(rollmap::records(&sheet).unwrap().nth(1), Some(gone));
 }
 
 #[test]

@@ -17,6 +17,7 @@ static uint8_t sheet[ROLLMAP_CONTENTS_BYTES(1) + sizeof marks];
 static uint8_t work[ROLLMAP_WORK_BYTES(N)];
 static uint8_t out[ROLLMAP_SCHEDULED_BYTES(N)];
 static uint8_t map[ROLLMAP_MAP_BYTES(N)];
+static uint8_t filled[sizeof marks];
 
 static uint32_t assemble(void)
 {
@@ -58,6 +59,11 @@ static uint32_t part(void)
     return rollmap_part(out, sizeof out, 1).length != sizeof marks;
 }
 
+static uint32_t fill(void)
+{
+    return rollmap_fill(marks, sizeof marks, filled, sizeof filled).number;
+}
+
 /* In an order in which each finds what it works on. */
 static const struct call {
     const char *name;
@@ -65,6 +71,7 @@ static const struct call {
 } calls[] = {
     {"assemble", assemble},     {"schedule", schedule}, {"check", check},       {"view_stop", view_stop},
     {"view_wheel", view_wheel}, {"walk", walk},         {"is_shown", is_shown}, {"part", part},
+    {"fill", fill},
 };
 
 static uint8_t *stack;
