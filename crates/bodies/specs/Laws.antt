@@ -1,5 +1,5 @@
 -- What the project cites of bodies that fit one another. The proofs are in Lemmas. Assumes nothing.
-use Prim.Native.Nat.{ℕ, _<_}
+use Prim.Native.Nat.{ℕ, _<_, _≤_}
 use mathlib.Core.Path.{_≡_, refl}
 use lib.Dec.{eqb}
 use mathlib.Core.Bool.{true}
@@ -13,7 +13,7 @@ use Rattle.marks.specs.declared.House.{House}
 use Rattle.marks.specs.declared.House.the-variants.{Radius, Refused}
 use Rattle.contents.specs.Asking.{_asks_, answer}
 use Rattle.contents.specs.Lemmas.Asked.{Numbered}
-use Rattle.bodies.specs.Questions.{markCount, part1Questions, question8, bodyQuestions}
+use Rattle.bodies.specs.Questions.{markCount, fieldQuestions, part1Questions, question8, bodyQuestions}
 use Rattle.bodies.specs.Fitting.{MarksRight, Fitting}
 use Rattle.bodies.specs.Lemmas.Numbered as Numbering
 use Rattle.bodies.specs.Lemmas.Fitting as Fits
@@ -35,7 +35,11 @@ kind-answer kind = go (houseOf kind)
     go (Radius radius) = refl
     go Refused = refl
 
--- what the answer 0 to questions 4 to 6 says
+-- what the answer 0 to questions 5 and 6 says
+pub field-iff : (kind radius : ℕ) → (answer (fieldQuestions kind radius) ≡ 0) ↔ ((kind < 200) × (radius ≤ 16383))
+field-iff = Fits.field-iff
+
+-- to 4 to 6
 pub part1-iff : (s : List ℕ) → (answer (part1Questions s) ≡ 0) ↔ MarksRight s (markCount s)
 part1-iff = Fits.part1-iff
 

@@ -22,9 +22,12 @@ question4 s = eqb (length s % 11) 0 && leb (length s) 45056
 abbrev pub markCount : List ℕ → ℕ
 markCount s = length s / 11
 
--- 5 and 6, of one mark: "before its radius: is the kind below 200? Is the radius at most 16,383?"
+-- 5 and 6. "before its radius: is the kind below 200? Is the radius at most 16,383?"
+abbrev pub fieldQuestions : ℕ → ℕ → List Question
+fieldQuestions kind radius = (5 asks isKind kind) ∷ (6 asks isRadius radius) ∷ []
+
 abbrev pub oneMark : List ℕ → ℕ → List Question
-oneMark s m = (5 asks isKind (kindAt s m)) ∷ (6 asks isRadius (radiusAt s m)) ∷ []
+oneMark s m = fieldQuestions (kindAt s m) (radiusAt s m)
 
 -- "Mark by mark": of the first n marks
 unfoldable pub markQuestions : List ℕ → ℕ → List Question

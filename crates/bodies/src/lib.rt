@@ -9,7 +9,7 @@ ghost use Rattle.elimination.specs.Records.{eliminatorAt, fractionAt, isNever};
 ghost use Rattle.contents.specs.Contents.{given};
 ghost use Rattle.contents.specs.Asking.{answer};
 ghost use Rattle.contents.specs.Questions.{isCount};
-ghost use Rattle.bodies.specs.Questions.{question4, oneMark, markQuestions, part1Questions, exactly, namesRight, recordRight, question8, bodyQuestions};
+ghost use Rattle.bodies.specs.Questions.{question4, fieldQuestions, oneMark, markQuestions, part1Questions, exactly, namesRight, recordRight, question8, bodyQuestions};
 ghost use Rattle.bodies.specs.Stages.{sizesRight, lastQuestions};
 ghost use Rattle.bodies.specs.Fitting.{MarksRight};
 
@@ -22,19 +22,26 @@ fn is_marks(s: &[u8]) -> bool
     s.len() % 11 == 0 && s.len() <= 45056
 }
 
-// 5 and 6, of one mark: its kind is asked before its radius.
+// 5 and 6, of a mark's fields: its kind is asked before its radius.
+pub fn fields_answer(kind: u8, radius: u16) -> u32
+    ensures { λ r. ⌜ r ≡ answer (fieldQuestions kind radius) ⌝ }
+{
+    let house = marks::house_radius(kind);
+    if let House::Refused = house {
+        return 5;
+    }
+    if 16383 < radius {
+        return 6;
+    }
+    0
+}
+
+// The same of mark m.
 fn mark_answer(s: &[u8], m: usize) -> u32
     requires { ⌜ 11 * m + 11 ≤ length (now s) ⌝ }
     ensures { λ r. ⌜ r ≡ answer (oneMark (now (s .entry)) m) ⌝ }
 {
-    let house = marks::house_radius(marks::kind_at(s, m));
-    if let House::Refused = house {
-        return 5;
-    }
-    if 16383 < marks::written_radius_at(s, m) {
-        return 6;
-    }
-    0
+    fields_answer(marks::kind_at(s, m), marks::written_radius_at(s, m))
 }
 
 // 5 and 6, mark by mark: the first 'no' of the first n marks, or 0.

@@ -18,7 +18,7 @@ use Rattle.contents.specs.Lemmas.Tests.{both-iff}
 use Rattle.contents.specs.Lemmas.Asked.{none-asked, asked-iff, append-iff}
 use Rattle.contents.specs.Lemmas.Turns.{turn-at, turn-of}
 use Rattle.contents.specs.Lemmas.Laid.{count-cases}
-use Rattle.bodies.specs.Questions.{question4, markCount, oneMark, markQuestions, part1Questions, question7, question8, question9, bodyQuestions}
+use Rattle.bodies.specs.Questions.{question4, markCount, fieldQuestions, oneMark, markQuestions, part1Questions, question7, question8, question9, bodyQuestions}
 use Rattle.bodies.specs.Stages.{sizesRight, lastQuestions, body-stages}
 use Rattle.bodies.specs.Fitting.{MarkRight, MarksRight, Fit, Fitting}
 use Rattle.bodies.specs.Lemmas.Numbered.{one-numbered, part1-numbered}
@@ -37,13 +37,20 @@ radius-iff : (r : ℕ) → (isRadius r ≡ true) ↔ (r ≤ 16383)
 unfolding isRadius
 radius-iff r = (leb-true r 16383, le-leb r 16383)
 
+pub field-iff : (kind radius : ℕ) → (answer (fieldQuestions kind radius) ≡ 0) ↔ ((kind < 200) × (radius ≤ 16383))
+field-iff kind radius = (
+  (λ e. let k = asked-iff 5 (isKind kind) _ (omega arith) .0 e in
+      let r = asked-iff 6 (isRadius radius) _ (omega arith) .0 (k .1) in
+      (kind-iff _ .0 (k .0), radius-iff _ .0 (r .0))),
+  (λ h. asked-iff 5 (isKind kind) _ (omega arith) .1
+      (kind-iff _ .1 (h .0), asked-iff 6 (isRadius radius) _ (omega arith) .1 (radius-iff _ .1 (h .1), none-asked))),
+)
+
 one-iff : (s : List ℕ) (m : ℕ) → (answer (oneMark s m) ≡ 0) ↔ MarkRight s m
 one-iff s m = (
-  (λ e. let k = asked-iff 5 (isKind (kindAt s m)) _ (omega arith) .0 e in
-      let r = asked-iff 6 (isRadius (radiusAt s m)) _ (omega arith) .0 (k .1) in
-      record { kind = kind-iff _ .0 (k .0); radius = radius-iff _ .0 (r .0); used = used-bound _ _ (r .0) }),
-  (λ h. asked-iff 5 (isKind (kindAt s m)) _ (omega arith) .1
-      (kind-iff _ .1 (h .kind), asked-iff 6 (isRadius (radiusAt s m)) _ (omega arith) .1 (radius-iff _ .1 (h .radius), none-asked))),
+  (λ e. let f = field-iff (kindAt s m) (radiusAt s m) .0 e in
+      record { kind = f .0; radius = f .1; used = used-bound _ _ (radius-iff _ .1 (f .1)) }),
+  (λ h. field-iff (kindAt s m) (radiusAt s m) .1 (h .kind, h .radius)),
 )
 
 pub part1-iff : (s : List ℕ) → (answer (part1Questions s) ≡ 0) ↔ MarksRight s (markCount s)
