@@ -12,6 +12,8 @@ use Rattle.contents.specs.Contents.{split, join, marksPart, schedulePart, given
 use Rattle.contents.specs.Asking.{Question, _asks_, answer}
 use Rattle.bodies.specs.Questions.{markCount}
 use Rattle.filling.specs.Filling.{filled, fillQuestions}
+use Rattle.logs.specs.Log.{recordCount, marksOfLog, logOfMarks}
+use Rattle.logs.specs.Questions.{logQuestions, marksQuestions}
 use Rattle.sheet.specs.Questions.{sheetCount, checkQuestions, check, assembleQuestions}
 use Rattle.view.specs.declared.Zoom.{Zoom}
 use Rattle.view.specs.Zoom.{scaleOf, scale}
@@ -98,6 +100,16 @@ assembleJob k body1 body2 body3 room =
 -- 11 bytes a mark
 unfoldable pub fillJob : List ℕ → ℕ → Outcome
 fillJob s room = outcome (fillQuestions s room) (11 * markCount s) (filled s)
+
+-- ---- turning: 02, request 3, "logs turned into marks and marks into logs"
+
+-- 11 bytes a record
+unfoldable pub logToMarksJob : List ℕ → ℕ → Outcome
+logToMarksJob s room = outcome (logQuestions s room) (11 * recordCount s) (marksOfLog s)
+
+-- 13 bytes a mark
+unfoldable pub marksToLogJob : List ℕ → ℕ → Outcome
+marksToLogJob s room = outcome (marksQuestions s room) (13 * markCount s) (logOfMarks s)
 
 -- ---- viewing
 

@@ -1,11 +1,12 @@
 -- Jobs is what each call gives, Parts and Demand3 what is claimed of sheets and views by demands 2 and 3, and Theorems their proofs.
--- Filled is what is claimed of filled marks.
+-- Filled is what is claimed of filled marks, and Turned of logs and marks that are turned into one another.
 -- Steps is what the code's own steps give.
 pub mod Jobs
 pub mod Answers
 pub mod Parts
 pub mod Demand3
 pub mod Filled
+pub mod Turned
 pub mod Theorems
 pub mod Steps
 pub mod Lemmas

@@ -15,11 +15,12 @@ ghost use Rattle.sheet.specs.Layout.{opened, placeOf, Located};
 ghost use Rattle.view.specs.declared.Zoom.the-variants.{Stop, Wheel};
 ghost use Rattle.view.specs.View.{rectangle};
 ghost use Rattle.view.specs.Questions.{question11, isMap};
-ghost use Rattle.rollmap.specs.Jobs.{checkJob, newBodies, hasRoom, scheduleJob, assembleJob, fillJob, viewJob, walkJob, isShownJob};
+ghost use Rattle.rollmap.specs.Jobs.{checkJob, newBodies, hasRoom, scheduleJob, assembleJob, fillJob, logToMarksJob, marksToLogJob, viewJob, walkJob, isShownJob};
 ghost use Rattle.rollmap.specs.Answers.{refusal, answerOf, extentOf, edges, Gives, Lent};
 ghost use Rattle.rollmap.specs.Parts.{Joins};
 ghost use Rattle.rollmap.specs.Demand3.{Meets, MeetsView};
 ghost use Rattle.rollmap.specs.Filled.{MeetsFilling};
+ghost use Rattle.rollmap.specs.Turned.{MeetsLog, MeetsMarks};
 ghost use Rattle.rollmap.specs.Steps.{resultsOver, viewAt};
 
 // What a call answers: 0 or the refusal's number, and the length, count or mark number asked for.
@@ -165,6 +166,54 @@ pub extern "C" fn rollmap_fill(marks: &[u8], out: &mut [u8]) -> Answer
     Answer {
         number: 0,
         value: size as u32,
+    }
+}
+
+// ---- logs
+
+// Turns a log into marks at the start of `out`, and answers how many bytes these are: questions 4, then 15 and 16 of x, of y, 5 and 6
+// record by record, and 13. Turned back they are the log.
+#[no_mangle]
+pub extern "C" fn rollmap_log_to_marks(log: &[u8], out: &mut [u8]) -> Answer
+    ensures { λ r. ⌜ Gives (logToMarksJob (now (log .entry)) (length (now (out .entry)))) (now (out .entry)) r (now (out .exit)) ⌝ }
+    ensures { λ r. ⌜ MeetsLog (now (log .entry)) r (now (out .exit)) ⌝ }
+{
+    let number = logs::log_answer(log);
+    if number != 0 {
+        return refused(number);
+    }
+    let n = log.len() / 13;
+    let marks_size = 11 * n;
+    if out.len() < marks_size {
+        return refused(13);
+    }
+    logs::put_marks(out, log, n);
+    Answer {
+        number: 0,
+        value: marks_size as u32,
+    }
+}
+
+// Turns marks into a log at the start of `out`, and answers how many bytes it has: questions 4, then 5 and 6 mark by mark, and 13. Turned
+// back it is the marks.
+#[no_mangle]
+pub extern "C" fn rollmap_marks_to_log(marks: &[u8], out: &mut [u8]) -> Answer
+    ensures { λ r. ⌜ Gives (marksToLogJob (now (marks .entry)) (length (now (out .entry)))) (now (out .entry)) r (now (out .exit)) ⌝ }
+    ensures { λ r. ⌜ MeetsMarks (now (marks .entry)) r (now (out .exit)) ⌝ }
+{
+    let number = bodies::part1_answer(marks);
+    if number != 0 {
+        return refused(number);
+    }
+    let n = marks.len() / 11;
+    let log_size = 13 * n;
+    if out.len() < log_size {
+        return refused(13);
+    }
+    logs::put_records(out, marks, n);
+    Answer {
+        number: 0,
+        value: log_size as u32,
     }
 }
 

@@ -1,0 +1,12 @@
+-- `logs::are_digits`: both halves are tested. Assumes nothing.
+use Rattle.logs.specs.Packed.{areDigits}
+use borrow.Author.Needs.{needs}
+use Rattle.logs.proofs.are_digits.Statement.{statement}
+use Rattle.logs.proofs.are_digits.Tie as tie
+
+returns : tie.Need-returns
+unfolding areDigits
+returns c = search needs
+
+pub are-digits-spec : {M : Type 1} → statement M
+are-digits-spec = tie.close (tie.spec returns)

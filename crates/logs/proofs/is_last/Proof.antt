@@ -1,0 +1,12 @@
+-- `logs::is_last`: the digit and the two signs. Assumes nothing.
+use Rattle.logs.specs.Packed.{isLast}
+use borrow.Author.Needs.{needs}
+use Rattle.logs.proofs.is_last.Statement.{statement}
+use Rattle.logs.proofs.is_last.Tie as tie
+
+returns : tie.Need-returns
+unfolding isLast
+returns c = search needs
+
+pub is-last-spec : {M : Type 1} → statement M
+is-last-spec = tie.close (tie.spec returns)

@@ -1,0 +1,183 @@
+-- Both turns, record by record: each piece of a row is found again in the rows, and turned back.
+use Prim.Native.Nat.{ℕ, suc, _+_, _*_, _<_, _≤_}
+use mathlib.Core.Path.{_≡_, refl, sym, ap, ap₂, _∙_}
+use mathlib.Core.Bool.{true}
+use mathlib.Core.List.{List, [], _∷_, _++_}
+use native.Mathlib.Omega.{arith}
+use lib.IntN.{ℤ}
+use lib.ListN.{length, getD, take, drop}
+use lib.Seq.{drop-cons}
+use borrow.Author.Tests.{le-leb}
+use Rattle.numbers.specs.Little.{leAt, leBytes, signed, Bytes}
+use Rattle.numbers.specs.Laws.{le-length, le-bound, write-back}
+use Rattle.marks.specs.Marks.{xAt, yAt, isRadius}
+use Rattle.marks.specs.Laws.{used-bound}
+use Rattle.rows.specs.Rows.{rows}
+use Rattle.rows.specs.Laws.{rows-length, rows-at, rows-whole, field-le, field-get, le-found, Split, split, pieces}
+use Rattle.bodies.specs.Questions.{markCount}
+use Rattle.bodies.specs.Fitting.{MarkRight, MarksRight}
+use Rattle.logs.specs.Packed.{isPlace, packed}
+use Rattle.logs.specs.Log.{recordCount, coordinateAt, placeBits, markOfRecord, recordOfMark}
+use Rattle.logs.specs.Questions.{packedAt}
+use Rattle.logs.specs.Right.{PlaceRight, RecordRight, LogRight}
+use Rattle.logs.specs.Lemmas.Packed.{packed-back, packed-read, place-short, bits-bound, signed-bits, bits-signed, signed-place}
+use Rattle.logs.specs.Lemmas.Writing.{packed-length, mark-length, record-length}
+
+-- ---- a coordinate that is found
+
+pub three : (s : List ℕ) (at : ℕ) → at + 3 ≤ length s
+    → getD s at 0 ∷ getD s (at + 1) 0 ∷ getD s (at + 2) 0 ∷ [] ≡ take 3 (drop at s)
+three s at h =
+    let e : at + 1 ≡ suc at = omega arith in
+    let f : at + 2 ≡ suc (suc at) = omega arith in
+    rw (e, f, drop-cons s at 0 (omega arith), drop-cons s (suc at) 0 (omega arith), drop-cons s (suc (suc at)) 0 (omega arith))
+
+-- a coordinate reads as the three bytes found
+three-same : (s t : List ℕ) (at : ℕ) → getD s at 0 ≡ getD t 0 0 → getD s (at + 1) 0 ≡ getD t 1 0 → getD s (at + 2) 0 ≡ getD t 2 0
+    → (packedAt s at ≡ packedAt t 0) × (coordinateAt s at ≡ coordinateAt t 0)
+three-same s t at e f g = (rw (e, f, g), rw (e, f, g))
+
+-- so it passes 15 and 16
+module _ (s : List ℕ) (at : ℕ) (z : ℤ) (place : isPlace z ≡ true) (e : take 3 (drop at s) ≡ packed z) where
+  same : (packedAt s at ≡ packedAt (packed z) 0) × (coordinateAt s at ≡ coordinateAt (packed z) 0)
+  same =
+      let none : at + 0 ≡ at = omega arith in
+      three-same s (packed z) at (rw none at (field-get s (packed z) 3 at e 0 (omega arith)))
+      (field-get s (packed z) 3 at e 1 (omega arith)) (field-get s (packed z) 3 at e 2 (omega arith))
+
+  place-found : coordinateAt s at ≡ z
+  place-found = same .1 ∙ packed-read z (place-short z place) .1
+
+  place-right : PlaceRight s at
+  place-right = record { packed = same .0 ∙ packed-read z (place-short z place) .0; place = rw place-found place }
+
+-- ---- logs into marks and back
+
+module _ (s : List ℕ) (n : ℕ) (right : LogRight s n) where
+  abbrev marks : List ℕ
+  marks = rows (markOfRecord s) n
+
+  row-long : (i : ℕ) → i < n → length (markOfRecord s i) ≡ 11
+  row-long i l = mark-length s i (omega (arith, right .long))
+
+  pub marks-long : length marks ≡ 11 * n
+  marks-long = rows-length (markOfRecord s) 11 n row-long
+
+  module _ (i : ℕ) (l : i < n) where
+    abbrev x : ℤ
+    x = coordinateAt s (13 * i)
+
+    abbrev y : ℤ
+    y = coordinateAt s (13 * i + 3)
+
+    found : Split marks (leBytes 2 (placeBits x)) (leBytes 2 (placeBits y)) (take 7 (drop (13 * i + 6) s)) 2 2 7 (11 * i)
+    found =
+        split marks (leBytes 2 (placeBits x)) (leBytes 2 (placeBits y)) (take 7 (drop (13 * i + 6) s)) 2 2 7 (11 * i) (le-length 2 (placeBits x)) (le-length 2 (placeBits y))
+        (omega (arith, marks-long)) (rows-at (markOfRecord s) 11 n i row-long l)
+
+    -- the fields behind the places are the record's own
+    mark-right : MarkRight marks i
+    unfolding isRadius
+    mark-right =
+        let r = right .each i l in
+        let t : List ℕ = take 7 (drop (13 * i + 6) s) in
+        let four : 13 * i + 6 + 0 ≡ 13 * i + 6 = omega arith in
+        let five : 11 * i + 4 + 0 ≡ 11 * i + 4 = omega arith in
+        let ten : 13 * i + 6 + 4 ≡ 13 * i + 10 = omega arith in
+        let eight : 11 * i + 4 + 4 ≡ 11 * i + 8 = omega arith in
+        let kind : leAt 1 marks (11 * i + 8) ≡ leAt 1 s (13 * i + 10) =
+        rw (← eight, ← ten) (field-le marks t 7 (11 * i + 4) (found .third) 1 4 (omega arith) ∙ sym (field-le s t 7 (13 * i + 6) refl 1 4 (omega arith))) in
+        let radius : leAt 2 marks (11 * i + 4) ≡ leAt 2 s (13 * i + 6) =
+        (rw five at (field-le marks t 7 (11 * i + 4) (found .third) 2 0 (omega arith))) ∙ sym (rw four at (field-le s t 7 (13 * i + 6) refl 2 0 (omega arith))) in
+        let small : leAt 2 marks (11 * i + 4) ≤ 16383 = omega (arith, r .radius) in
+        record { kind = omega (arith, r .kind); radius = small; used = used-bound _ _ (le-leb _ 16383 small) }
+
+    x-again : packed (xAt marks i) ≡ take 3 (drop (13 * i) s)
+    x-again =
+        let p = right .each i l .x in
+        ap (λ (u : ℕ). packed (signed 2 u)) (le-found 2 marks (11 * i) (placeBits x) (bits-bound x (p .place)) (found .first))
+        ∙ ap packed (signed-bits x (p .place)) ∙ packed-back _ _ _ (p .packed) ∙ three s (13 * i) (omega (arith, right .long))
+
+    y-again : packed (yAt marks i) ≡ take 3 (drop (13 * i + 3) s)
+    y-again =
+        let p = right .each i l .y in
+        ap (λ (u : ℕ). packed (signed 2 u)) (le-found 2 marks (11 * i + 2) (placeBits y) (bits-bound y (p .place)) (found .second))
+        ∙ ap packed (signed-bits y (p .place)) ∙ packed-back _ _ _ (p .packed) ∙ three s (13 * i + 3) (omega (arith, right .long))
+
+    record-again : recordOfMark marks i ≡ take 13 (drop (13 * i) s)
+    record-again = ap₂ _++_ x-again (ap₂ _++_ y-again (found .third)) ∙ pieces s (13 * i) 3 3 7
+
+  pub marks-right : MarksRight marks n
+  marks-right = record { few = right .few; long = marks-long; each = mark-right }
+
+  pub marks-count : markCount marks ≡ n
+  marks-count = omega (arith, marks-long)
+
+  pub log-is : rows (recordOfMark marks) n ≡ s
+  log-is = rows-whole (recordOfMark marks) 13 s n (right .long) record-again
+
+-- ---- marks into logs and back
+
+module _ (s : List ℕ) (n : ℕ) (right : MarksRight s n) where
+  line-long : (i : ℕ) → i < n → length (recordOfMark s i) ≡ 13
+  line-long i l = record-length s i (omega (arith, right .long))
+
+  pub log-long : length (rows (recordOfMark s) n) ≡ 13 * n
+  log-long = rows-length (recordOfMark s) 13 n line-long
+
+module _ (s : List ℕ) (n : ℕ) (bytes : Bytes s) (right : MarksRight s n) where
+  abbrev log : List ℕ
+  log = rows (recordOfMark s) n
+
+  module _ (i : ℕ) (l : i < n) where
+    line : Split log (packed (xAt s i)) (packed (yAt s i)) (take 7 (drop (11 * i + 4) s)) 3 3 7 (13 * i)
+    line =
+        split log (packed (xAt s i)) (packed (yAt s i)) (take 7 (drop (11 * i + 4) s)) 3 3 7 (13 * i) (packed-length _ _) (packed-length _ _)
+        (omega (arith, log-long s n right)) (rows-at (recordOfMark s) 13 n i (line-long s n right) l)
+
+    x-place : isPlace (xAt s i) ≡ true
+    x-place = signed-place _ (le-bound 2 s (11 * i) bytes)
+
+    y-place : isPlace (yAt s i) ≡ true
+    y-place = signed-place _ (le-bound 2 s (11 * i + 2) bytes)
+
+    record-right : RecordRight log i
+    record-right =
+        let r = right .each i l in
+        let t : List ℕ = take 7 (drop (11 * i + 4) s) in
+        let four : 13 * i + 6 + 0 ≡ 13 * i + 6 = omega arith in
+        let five : 11 * i + 4 + 0 ≡ 11 * i + 4 = omega arith in
+        let ten : 13 * i + 6 + 4 ≡ 13 * i + 10 = omega arith in
+        let eight : 11 * i + 4 + 4 ≡ 11 * i + 8 = omega arith in
+        let kind : leAt 1 log (13 * i + 10) ≡ leAt 1 s (11 * i + 8) =
+        rw (← eight, ← ten) (field-le log t 7 (13 * i + 6) (line .third) 1 4 (omega arith) ∙ sym (field-le s t 7 (11 * i + 4) refl 1 4 (omega arith))) in
+        let radius : leAt 2 log (13 * i + 6) ≡ leAt 2 s (11 * i + 4) =
+        (rw four at (field-le log t 7 (13 * i + 6) (line .third) 2 0 (omega arith))) ∙ sym (rw five at (field-le s t 7 (11 * i + 4) refl 2 0 (omega arith))) in
+        record {
+          x = place-right log (13 * i) (xAt s i) x-place (line .first);
+          y = place-right log (13 * i + 3) (yAt s i) y-place (line .second);
+          kind = omega (arith, r .kind);
+          radius = omega (arith, r .radius);
+        }
+
+    x-back : leBytes 2 (placeBits (coordinateAt log (13 * i))) ≡ take 2 (drop (11 * i) s)
+    x-back =
+        ap (λ (z : ℤ). leBytes 2 (placeBits z)) (place-found log (13 * i) (xAt s i) x-place (line .first))
+        ∙ ap (leBytes 2) (bits-signed _ (le-bound 2 s (11 * i) bytes)) ∙ write-back 2 s (11 * i) bytes (omega (arith, right .long))
+
+    y-back : leBytes 2 (placeBits (coordinateAt log (13 * i + 3))) ≡ take 2 (drop (11 * i + 2) s)
+    y-back =
+        ap (λ (z : ℤ). leBytes 2 (placeBits z)) (place-found log (13 * i + 3) (yAt s i) y-place (line .second))
+        ∙ ap (leBytes 2) (bits-signed _ (le-bound 2 s (11 * i + 2) bytes)) ∙ write-back 2 s (11 * i + 2) bytes (omega (arith, right .long))
+
+    mark-again : markOfRecord log i ≡ take 11 (drop (11 * i) s)
+    mark-again = ap₂ _++_ x-back (ap₂ _++_ y-back (line .third)) ∙ pieces s (11 * i) 2 2 7
+
+  pub log-right : LogRight log n
+  log-right = record { few = right .few; long = log-long s n right; each = record-right }
+
+  pub log-count : recordCount log ≡ n
+  log-count = omega (arith, log-long s n right)
+
+  pub marks-are : rows (markOfRecord log) n ≡ s
+  marks-are = rows-whole (markOfRecord log) 11 s n (right .long) mark-again

@@ -1,0 +1,7 @@
+-- Read Packed, Log and Questions first: they say what a log is, what turning asks and what it writes. Theorems has what follows.
+pub mod Packed
+pub mod Log
+pub mod Questions
+pub mod Right
+pub mod Theorems
+pub mod Lemmas

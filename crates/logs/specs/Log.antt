@@ -1,0 +1,51 @@
+-- 02, request 3: "The winder writes 13-byte records: x and y as packed decimal, 3 bytes each, then radius, priority, kind and tag as in a sheet. .. We want
+-- logs turned into marks and marks into logs."
+use Prim.Native.Nat.{ℕ, _+_, _-_, _*_, _/_}
+use mathlib.Core.List.{List, _++_}
+use lib.IntN.{ℤ, pos, negsuc}
+use lib.ListN.{length, getD, take, drop}
+use Rattle.numbers.specs.Little.{leAt, leBytes}
+use Rattle.marks.specs.Marks.{xAt, yAt}
+use Rattle.rows.specs.Rows.{rows}
+use Rattle.bodies.specs.Questions.{markCount}
+use Rattle.logs.specs.Packed.{packedValue, packed}
+
+-- ---- a log's records; `s` is the log and `r` a record's number
+
+-- how many there are
+abbrev pub recordCount : List ℕ → ℕ
+recordCount s = length s / 13
+
+-- the coordinate whose three bytes stand at `at`
+abbrev pub coordinateAt : List ℕ → ℕ → ℤ
+coordinateAt s at = packedValue (getD s at 0) (getD s (at + 1) 0) (getD s (at + 2) 0)
+
+-- "then radius, priority, kind and tag as in a sheet"
+abbrev pub radiusOf : List ℕ → ℕ → ℕ
+radiusOf s r = leAt 2 s (13 * r + 6)
+
+abbrev pub kindOf : List ℕ → ℕ → ℕ
+kindOf s r = leAt 1 s (13 * r + 10)
+
+-- ---- logs into marks
+
+-- a place as a mark has it, "signed, 2 bytes": -1 is 65,535
+unfoldable pub placeBits : ℤ → ℕ
+placeBits (pos n) = n
+placeBits (negsuc n) = 65535 - n
+
+-- the 11 bytes of the mark: the last 7 are the record's own
+abbrev pub markOfRecord : List ℕ → ℕ → List ℕ
+markOfRecord s r =
+    leBytes 2 (placeBits (coordinateAt s (13 * r))) ++ (leBytes 2 (placeBits (coordinateAt s (13 * r + 3))) ++ take 7 (drop (13 * r + 6) s))
+
+unfoldable pub marksOfLog : List ℕ → List ℕ
+marksOfLog s = rows (markOfRecord s) (recordCount s)
+
+-- ---- marks into logs; `s` is the marks' bytes and `m` a mark's number
+
+abbrev pub recordOfMark : List ℕ → ℕ → List ℕ
+recordOfMark s m = packed (xAt s m) ++ (packed (yAt s m) ++ take 7 (drop (11 * m + 4) s))
+
+unfoldable pub logOfMarks : List ℕ → List ℕ
+logOfMarks s = rows (recordOfMark s) (markCount s)

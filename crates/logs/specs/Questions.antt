@@ -1,0 +1,42 @@
+-- What turning asks, each question by its number, in the order of the request. `room` is the length of the written buffer.
+use Prim.Native.Nat.{ℕ, _+_, _*_, _%_}
+use mathlib.Core.Bool.{Bool, _&&_}
+use mathlib.Core.List.{List, [], _∷_, _++_}
+use lib.Dec.{leb, eqb}
+use lib.ListN.{length, getD}
+use Rattle.contents.specs.Asking.{Question, _asks_, inTurn}
+use Rattle.bodies.specs.Questions.{markCount, fieldQuestions, part1Questions}
+use Rattle.logs.specs.Packed.{isPacked, isPlace}
+use Rattle.logs.specs.Log.{recordCount, coordinateAt, radiusOf, kindOf}
+
+-- ---- of a log, `s`
+
+-- 4. "a log that isn't a multiple of 13, or has over 4,096 records, gets 4"
+unfoldable pub logSize : List ℕ → Bool
+logSize s = eqb (length s % 13) 0 && leb (recordCount s) 4096
+
+-- the three bytes at `at` are packed decimal
+abbrev pub packedAt : List ℕ → ℕ → Bool
+packedAt s at = isPacked (getD s at 0) (getD s (at + 1) 0) (getD s (at + 2) 0)
+
+-- 15 and 16, of the coordinate at `at`
+abbrev pub placeQuestions : List ℕ → ℕ → List Question
+placeQuestions s at = (15 asks packedAt s at) ∷ (16 asks isPlace (coordinateAt s at)) ∷ []
+
+-- "then record by record, x by 15 and 16 and after it y by both, .. then 5, 6 for that record, before the next one"
+unfoldable pub recordQuestions : List ℕ → ℕ → List Question
+recordQuestions s r =
+    placeQuestions s (13 * r) ++ (placeQuestions s (13 * r + 3) ++ fieldQuestions (kindOf s r) (radiusOf s r))
+
+unfoldable pub logChecks : List ℕ → List Question
+logChecks s = (4 asks logSize s) ∷ inTurn (recordQuestions s) (recordCount s)
+
+-- "Buffers last, 13."
+unfoldable pub logQuestions : List ℕ → ℕ → List Question
+logQuestions s room = logChecks s ++ ((13 asks leb (11 * recordCount s) room) ∷ [])
+
+-- ---- of marks, `s`
+
+-- "Marks to logs ask 4, 5, 6 and 13."
+unfoldable pub marksQuestions : List ℕ → ℕ → List Question
+marksQuestions s room = part1Questions s ++ ((13 asks leb (13 * markCount s) room) ∷ [])

@@ -1,0 +1,253 @@
+// Logs from the winder: what is asked of a log, the marks of a log, and the log of marks. `s` is a log or the marks' bytes.
+ghost use mathlib.Core.Path.{_≡_};
+ghost use mathlib.Core.Bool.{true};
+ghost use Prim.Native.Nat.{_+_, _*_, _/_, _%_, _<_, _≤_};
+ghost use lib.ListN.{length};
+ghost use lib.Seq.{sets};
+ghost use Rattle.numbers.specs.Little.{signed};
+ghost use Rattle.contents.specs.Asking.{answer, inTurn};
+ghost use Rattle.rows.specs.Rows.{rows};
+ghost use Rattle.bodies.specs.Questions.{fieldQuestions};
+ghost use Rattle.logs.specs.Packed.{magnitude, isMinus, withSign, areDigits, isLast, isPacked, isPlace, packed, packedOf};
+ghost use Rattle.logs.specs.Log.{coordinateAt, radiusOf, kindOf, placeBits, markOfRecord, recordOfMark};
+ghost use Rattle.logs.specs.Questions.{logSize, placeQuestions, recordQuestions, logChecks};
+ghost use Rattle.logs.specs.Right.{LogRight};
+
+// ---- packed decimal
+
+// The half of a byte that comes first.
+fn upper(b: u8) -> u32
+    ensures { λ r. ⌜ r ≡ b / 16 ⌝ }
+{
+    (b / 16) as u32
+}
+
+fn lower(b: u8) -> u32
+    ensures { λ r. ⌜ r ≡ b % 16 ⌝ }
+{
+    (b % 16) as u32
+}
+
+// The number that the five digits of three bytes give.
+fn magnitude(a: u8, b: u8, c: u8) -> u32
+    ensures { λ r. ⌜ r ≡ magnitude a b c ⌝ }
+{
+    10000 * upper(a) + (1000 * lower(a) + (100 * upper(b) + (10 * lower(b) + upper(c))))
+}
+
+fn is_minus(c: u8) -> bool
+    ensures { λ r. ⌜ r ≡ isMinus c ⌝ }
+{
+    c % 16 == 13
+}
+
+// Are both halves digits?
+fn are_digits(b: u8) -> bool
+    ensures { λ r. ⌜ r ≡ areDigits b ⌝ }
+{
+    (b / 16 <= 9) & (b % 16 <= 9)
+}
+
+// A digit and a sign?
+fn is_last(c: u8) -> bool
+    ensures { λ r. ⌜ r ≡ isLast c ⌝ }
+{
+    (c / 16 <= 9) & ((c % 16 == 12) | (c % 16 == 13))
+}
+
+// 15. Five digits and a sign, and not minus zero?
+fn is_packed(a: u8, b: u8, c: u8) -> bool
+    ensures { λ r. ⌜ r ≡ isPacked a b c ⌝ }
+{
+    (are_digits(a) & are_digits(b)) & (is_last(c) & !(is_minus(c) & (magnitude(a, b, c) == 0)))
+}
+
+// 16. Is the number one of -32,768 to 32,767?
+fn is_place(minus: bool, m: u32) -> bool
+    ensures { λ r. ⌜ r ≡ isPlace (withSign minus m) ⌝ }
+{
+    if minus {
+        return m <= 32768;
+    }
+    m <= 32767
+}
+
+// The 16 bits of such a number.
+fn bits_of(minus: bool, m: u32) -> u32
+    requires { ⌜ isPlace (withSign minus m) ≡ true ⌝ }
+    ensures { λ r. ⌜ r ≡ placeBits (withSign minus m) ⌝ }
+{
+    if minus {
+        return (65536 - m) % 65536;
+    }
+    m
+}
+
+// Writes five digits of m and a sign.
+fn put_packed(out: &mut [u8], at: usize, m: u32, sign: u8)
+    requires { ⌜ (at + 3 ≤ length (now out)) × (sign < 16) ⌝ }
+    ensures { λ _. ⌜ now (out .exit) ≡ sets (now (out .entry)) at (packedOf m sign) ⌝ }
+{
+    out[at] = (16 * (m / 10000 % 10) + m / 1000 % 10) as u8;
+    out[at + 1] = (16 * (m / 100 % 10) + m / 10 % 10) as u8;
+    out[at + 2] = (16 * (m % 10)) as u8 + sign;
+}
+
+// Writes the signed number of 16 bits.
+fn put_place(out: &mut [u8], at: usize, u: u16)
+    requires { ⌜ at + 3 ≤ length (now out) ⌝ }
+    ensures { λ _. ⌜ now (out .exit) ≡ sets (now (out .entry)) at (packed (signed 2 u)) ⌝ }
+{
+    if u < 32768 {
+        put_packed(out, at, u as u32, 12);
+        return;
+    }
+    put_packed(out, at, 65536 - u as u32, 13);
+}
+
+// ---- what a log is asked
+
+// 4. Is the log a multiple of 13 and at most 4,096 records?
+fn is_log(s: &[u8]) -> bool
+    ensures { λ r. ⌜ r ≡ logSize (now (s .entry)) ⌝ }
+{
+    (s.len() % 13 == 0) & (s.len() / 13 <= 4096)
+}
+
+// 15 and 16, of the coordinate at `at`.
+fn place_answer(s: &[u8], at: usize) -> u32
+    requires { ⌜ at + 3 ≤ length (now s) ⌝ }
+    ensures { λ r. ⌜ r ≡ answer (placeQuestions (now (s .entry)) at) ⌝ }
+{
+    let a = s[at];
+    let b = s[at + 1];
+    let c = s[at + 2];
+    if !is_packed(a, b, c) {
+        return 15;
+    }
+    if is_place(is_minus(c), magnitude(a, b, c)) {
+        return 0;
+    }
+    16
+}
+
+// 5 and 6, of record r.
+fn field_answer(s: &[u8], r: usize) -> u32
+    requires { ⌜ 13 * r + 13 ≤ length (now s) ⌝ }
+    ensures { λ a. ⌜ a ≡ answer (fieldQuestions (kindOf (now (s .entry)) r) (radiusOf (now (s .entry)) r)) ⌝ }
+{
+    let kind = numbers::read(s, 13 * r + 10, 1) as u8;
+    let radius = numbers::read_u16(s, 13 * r + 6);
+    bodies::fields_answer(kind, radius)
+}
+
+// All questions of record r: x, y, and then the fields.
+fn record_answer(s: &[u8], r: usize) -> u32
+    requires { ⌜ 13 * r + 13 ≤ length (now s) ⌝ }
+    ensures { λ a. ⌜ a ≡ answer (recordQuestions (now (s .entry)) r) ⌝ }
+{
+    let x = place_answer(s, 13 * r);
+    if x != 0 {
+        return x;
+    }
+    let y = place_answer(s, 13 * r + 3);
+    if y != 0 {
+        return y;
+    }
+    field_answer(s, r)
+}
+
+// Record by record: the first 'no' of the first n, or 0.
+fn records_answer(s: &[u8], n: usize) -> u32
+    requires { ⌜ 13 * n ≤ length (now s) ⌝ }
+    ensures { λ a. ⌜ a ≡ answer (inTurn (recordQuestions (now (s .entry))) n) ⌝ }
+{
+    let mut r = 0;
+    while r < n {
+        let number = record_answer(s, r);
+        if number != 0 {
+            return number;
+        }
+        r += 1;
+    }
+    0
+}
+
+// All questions of a log but 13: the first 'no', or 0.
+pub fn log_answer(s: &[u8]) -> u32
+    ensures { λ a. ⌜ a ≡ answer (logChecks (now (s .entry))) ⌝ }
+{
+    if !is_log(s) {
+        return 4;
+    }
+    records_answer(s, s.len() / 13)
+}
+
+// ---- logs into marks
+
+// The 16 bits of the coordinate at `at`.
+fn place_bits(s: &[u8], at: usize) -> u32
+    requires { ⌜ (at + 3 ≤ length (now s)) × (isPlace (coordinateAt (now s) at) ≡ true) ⌝ }
+    ensures { λ r. ⌜ r ≡ placeBits (coordinateAt (now (s .entry)) at) ⌝ }
+{
+    let a = s[at];
+    let b = s[at + 1];
+    let c = s[at + 2];
+    bits_of(is_minus(c), magnitude(a, b, c))
+}
+
+// Writes the mark of record r at its place.
+fn put_mark(out: &mut [u8], s: &[u8], n: usize, r: usize)
+    requires { ⌜ LogRight (now s) n × (r < n) × (11 * n ≤ length (now out)) ⌝ }
+    ensures { λ _. ⌜ now (out .exit) ≡ sets (now (out .entry)) (11 * r) (markOfRecord (now (s .entry)) r) ⌝ }
+{
+    let from = 13 * r;
+    let at = 11 * r;
+    let x = place_bits(s, from);
+    let y = place_bits(s, from + 3);
+    numbers::write(out, at, 2, x as u64);
+    numbers::write(out, at + 2, 2, y as u64);
+    let start = from + 6;
+    let end = from + 13;
+    contents::put(out, at + 4, &s[start..end]);
+}
+
+// Writes the marks of n records.
+pub fn put_marks(out: &mut [u8], s: &[u8], n: usize)
+    requires { ⌜ LogRight (now s) n × (11 * n ≤ length (now out)) ⌝ }
+    ensures { λ _. ⌜ now (out .exit) ≡ sets (now (out .entry)) 0 (rows (markOfRecord (now (s .entry))) n) ⌝ }
+{
+    let mut r = 0;
+    while r < n {
+        put_mark(out, s, n, r);
+        r += 1;
+    }
+}
+
+// ---- marks into logs
+
+// Writes the record of mark m at its place.
+fn put_record(out: &mut [u8], s: &[u8], m: usize)
+    requires { ⌜ (11 * m + 11 ≤ length (now s)) × (13 * m + 13 ≤ length (now out)) ⌝ }
+    ensures { λ _. ⌜ now (out .exit) ≡ sets (now (out .entry)) (13 * m) (recordOfMark (now (s .entry)) m) ⌝ }
+{
+    let from = 11 * m;
+    let at = 13 * m;
+    put_place(out, at, numbers::read_u16(s, from));
+    put_place(out, at + 3, numbers::read_u16(s, from + 2));
+    let start = from + 4;
+    let end = from + 11;
+    contents::put(out, at + 6, &s[start..end]);
+}
+
+// Writes the records of n marks.
+pub fn put_records(out: &mut [u8], s: &[u8], n: usize)
+    requires { ⌜ (11 * n ≤ length (now s)) × (13 * n ≤ length (now out)) ⌝ }
+    ensures { λ _. ⌜ now (out .exit) ≡ sets (now (out .entry)) 0 (rows (recordOfMark (now (s .entry))) n) ⌝ }
+{
+    let mut m = 0;
+    while m < n {
+        put_record(out, s, m);
+        m += 1;
+    }
+}
