@@ -19,6 +19,9 @@ use Rattle.contents.specs.Questions.{question1, question2, question3}
 use Rattle.rows.specs.Rows as Rows
 use Rattle.bodies.specs.Questions.{question4, markQuestions, part1Questions, question7, namesRight, recordRight, question8, question9, bodyQuestions}
 use Rattle.filling.specs.Filling.{filledRadius, filled, fillQuestions}
+use Rattle.logs.specs.Packed.{magnitude, isMinus, withSign, areDigits, isLast, isPacked, isPlace, packedOf}
+use Rattle.logs.specs.Log.{placeBits, marksOfLog, logOfMarks}
+use Rattle.logs.specs.Questions.{logSize, recordQuestions, logChecks, logQuestions, marksQuestions}
 use Rattle.sheet.specs.Questions.{checkQuestions, check, assembleQuestions}
 use Rattle.view.specs.declared.Zoom.{Zoom}
 use Rattle.view.specs.declared.Zoom.the-variants.{Stop, Wheel}
@@ -26,7 +29,7 @@ use Rattle.view.specs.Zoom.{stopScale, wheelScale, scaleOf}
 use Rattle.view.specs.Shown.{Rectangle, livesAt, gapSquared, distanceSquared, reaches, shown}
 use Rattle.bitmap.specs.Map.{bit, mapByte, mapPart, mapBytes, countShown, nextSet, walk}
 use Rattle.view.specs.Questions as Viewing
-use Rattle.rollmap.specs.Jobs.{Outcome, outcome, checkJob, scheduled, scheduleQuestions, scheduleJob, assembleJob, fillJob, shownIn, viewJob}
+use Rattle.rollmap.specs.Jobs.{Outcome, outcome, checkJob, scheduled, scheduleQuestions, scheduleJob, assembleJob, fillJob, logToMarksJob, marksToLogJob, shownIn, viewJob}
 use Rattle.text.specs.Text.{digits, rootStep, root, zoomDown}
 use Rattle.report.specs.Text.{text, line, markLine, markLines, listing, refusal, printQuestions, printed}
 
@@ -78,6 +81,9 @@ pub data Asked : Type 0 where
   -- a sheet's part 1, cut out by the contents, filled and put together afresh: number and length, what checking it answers, and, scheduled,
   -- eliminator, numerator and denominator of a mark
   rescues : List ℕ → ℕ → Asked
+  -- a log turned into marks, and marks into a log, in a buffer of so many bytes: number, length, and the bytes written
+  turnsLog : List ℕ → ℕ → Asked
+  turnsMarks : List Mark → ℕ → Asked
 
 -- the numbers of two bytes each
 pairs : List ℕ → List ℕ
@@ -102,6 +108,8 @@ answers (rescues s m) =
     let w = (fillJob (marksPart (split s)) (length s)) .written in
     let o = assembleJob 1 w [] [] (length s) in
     o .number ∷ o .value ∷ (checkJob (o .written)) .number ∷ recordOf (scheduled (o .written)) m
+answers (turnsLog s room) = let o = logToMarksJob s room in o .number ∷ o .value ∷ o .written
+answers (turnsMarks l room) = let o = marksToLogJob (marks l) room in o .number ∷ o .value ∷ o .written
 
 -- ---- the table
 
@@ -146,6 +154,10 @@ oldSheet =
     let never = leBytes 2 65535 ++ (leBytes 8 0 ++ leBytes 4 0) in
     let gone = leBytes 2 0 ++ (leBytes 8 10000 ++ leBytes 4 57600) in
     join (marks patches ∷ (never ++ gone) ∷ (leBytes 2 0 ++ leBytes 2 1) ∷ [])
+
+-- a log of one record, its x and y by their bytes; radius 300, priority 5, kind 0, tag 0
+abbrev log : ℕ → ℕ → ℕ → ℕ → ℕ → ℕ → List ℕ
+log a b c d e f = a ∷ b ∷ c ∷ d ∷ e ∷ f ∷ 44 ∷ 1 ∷ 5 ∷ 0 ∷ 0 ∷ 0 ∷ 0 ∷ []
 
 abbrev p3 : Rectangle
 p3 = record { x0 = pos 50; x1 = pos 250; y0 = negsuc 9; y1 = pos 10 }
@@ -201,10 +213,25 @@ table =
     -- "Old scheduled sheets with such marks may now meet 8": this one does, and is rescued
     ∷ (checks oldSheet gives (8 ∷ []))
     ∷ (rescues oldSheet 1 gives (0 ∷ 34 ∷ 0 ∷ 0 ∷ 10000 ∷ 57600 ∷ []))
+    -- 02, request 3: the places 32,767 and -32,768, both ways
+    ∷ (turnsLog (log 0x32 0x76 0x7c 0x32 0x76 0x8d) 11 gives (0 ∷ 11 ∷ 0xff ∷ 0x7f ∷ 0x00 ∷ 0x80 ∷ 44 ∷ 1 ∷ 5 ∷ 0 ∷ 0 ∷ 0 ∷ 0 ∷ []))
+    ∷ (turnsMarks (mark (pos 32767) (negsuc 32767) 300 5 ∷ []) 13 gives (0 ∷ 13 ∷ log 0x32 0x76 0x7c 0x32 0x76 0x8d))
+    ∷ (turnsLog (log 0x32 0x76 0x8c 0x00 0x00 0x0c) 11 gives (16 ∷ 0 ∷ []))
+    ∷ (turnsLog (log 0x00 0x00 0x0c 0x32 0x76 0x9d) 11 gives (16 ∷ 0 ∷ []))
+    -- zero, and minus zero
+    ∷ (turnsLog (log 0x00 0x00 0x0c 0x00 0x00 0x1d) 11 gives (0 ∷ 11 ∷ 0 ∷ 0 ∷ 0xff ∷ 0xff ∷ 44 ∷ 1 ∷ 5 ∷ 0 ∷ 0 ∷ 0 ∷ 0 ∷ []))
+    ∷ (turnsLog (log 0x00 0x00 0x0d 0x00 0x00 0x0c) 11 gives (15 ∷ 0 ∷ []))
+    -- 99,999; a digit above 9; another sign
+    ∷ (turnsLog (log 0x99 0x99 0x9c 0x00 0x00 0x0c) 11 gives (16 ∷ 0 ∷ []))
+    ∷ (turnsLog (log 0xa0 0x00 0x0c 0x00 0x00 0x0c) 11 gives (15 ∷ 0 ∷ []))
+    ∷ (turnsLog (log 0x00 0x00 0x0a 0x00 0x00 0x0c) 11 gives (15 ∷ 0 ∷ []))
+    -- x by both before y: 16 of x where y gets 15; and 13 last
+    ∷ (turnsLog (log 0x99 0x99 0x9c 0x00 0x00 0x0a) 11 gives (16 ∷ 0 ∷ []))
+    ∷ (turnsLog (log 0x00 0x00 0x0c 0x00 0x00 0x0c) 10 gives (13 ∷ 0 ∷ []))
     ∷ []
 
 -- No row is lost.
-pub rows : length table ≡ 29
+pub rows : length table ≡ 40
 unfolding table
 rows = refl
 
@@ -214,6 +241,8 @@ unfolding table answers recordOf pairs sheet marks oldSheet ofBits
     leAt leBytes less same later level kindGroup houseRadius oldRadius houseOf isKind isRadius usedRadius square touchingOf touching outranks rankKey
     least put before pair next run process isNever valueAt records scheduleOf treeOf beats coordinate axisKey indexOf indexBytes sameBytes isIndex
     startAt split entries chain join answer inTurn every question1 question2 question3 question4
+    magnitude isMinus withSign areDigits isLast isPacked isPlace packedOf placeBits marksOfLog logOfMarks
+    logSize recordQuestions logChecks logQuestions marksQuestions logToMarksJob marksToLogJob
     Rows.rows filledRadius filled fillQuestions markQuestions part1Questions question7 namesRight recordRight question8
     question9 bodyQuestions checkQuestions check assembleQuestions stopScale wheelScale scaleOf livesAt gapSquared distanceSquared reaches
     shown mapByte mapPart mapBytes countShown Viewing.question10 Viewing.question11 Viewing.viewQuestions outcome checkJob scheduled
