@@ -37,6 +37,11 @@
  *   12  the zoom is taken
  *   13  each written or work buffer, and a walked map, is long enough; at most 4,096
  *       marks are walked
+ *   15  of a log: a coordinate is five digits and a sign, 12 or 13, and not minus zero
+ *   16  of a log: it is from -32,768 to 32,767
+ *
+ * Of a log, 4 is: it is a multiple of 13 and has at most 4,096 records. 14 is asked by
+ * the program alone.
  */
 #ifndef ROLLMAP_H
 #define ROLLMAP_H
@@ -67,6 +72,8 @@ extern "C" {
 #define ROLLMAP_REFUSED_EDGES 11u
 #define ROLLMAP_REFUSED_ZOOM 12u
 #define ROLLMAP_REFUSED_BUFFER 13u
+#define ROLLMAP_REFUSED_PACKED 15u
+#define ROLLMAP_REFUSED_PLACE 16u
 
 /* The most marks of a sheet. */
 #define ROLLMAP_MOST_MARKS 4096u
@@ -75,6 +82,9 @@ extern "C" {
 #define ROLLMAP_MARK_BYTES 11u
 #define ROLLMAP_RECORD_BYTES 14u
 #define ROLLMAP_INDEX_BYTES 2u
+
+/* Bytes of a record in a log. */
+#define ROLLMAP_LOG_RECORD_BYTES 13u
 
 /* Bytes of the contents of a sheet of so many parts, which the first body follows. */
 #define ROLLMAP_CONTENTS_BYTES(parts) ((size_t)10 * (parts) + 2)
@@ -137,6 +147,21 @@ struct rollmap_answer rollmap_assemble(uint32_t parts,
    it together afresh: rollmap_assemble of one part. */
 struct rollmap_answer rollmap_fill(const uint8_t *marks, size_t marks_length,
                                    uint8_t *out, size_t out_length);
+
+/* Turns a log of the winder into marks (11 bytes each, as in part 1), and marks into a
+   log. A log has 13 bytes a record: x and y as packed decimal, 3 bytes each, then radius,
+   priority, kind and tag as in a mark. Packed decimal is five digits, one a half-byte,
+   highest first, the upper half of a byte before the lower, then a half-byte for the
+   sign: 12 plus, 13 minus. The value is the number of bytes written to out, 11 or 13 a
+   record; what follows there stays as it is. An accepted log, turned into marks and back,
+   is the same bytes, and so are accepted marks.
+
+   Logs to marks asks 4 of the log; record by record 15 and 16 of x, both of y, then 5 and
+   6; and 13 of out. Marks to logs asks 4, then 5 and 6 mark by mark, and 13 of out. */
+struct rollmap_answer rollmap_log_to_marks(const uint8_t *log, size_t log_length,
+                                           uint8_t *out, size_t out_length);
+struct rollmap_answer rollmap_marks_to_log(const uint8_t *marks, size_t marks_length,
+                                           uint8_t *out, size_t out_length);
 
 /* Answers a view of a sheet of n marks: those that live at the zoom and whose disk there
    reaches the rectangle, touching included. With k = 64 times the zoom, a disk reaches it

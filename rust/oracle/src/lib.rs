@@ -16,6 +16,7 @@
 pub mod contents;
 pub mod fill;
 pub mod fraction;
+pub mod log;
 pub mod mark;
 pub mod process;
 pub mod record;

@@ -66,11 +66,13 @@ fn marks_fit(part_1: &[u8]) -> bool {
 /// Questions 5 and 6, mark by mark: the kind exists, and then the radius as it is
 /// written is not too large.
 fn ask_marks(marks: &[Mark]) -> Result<(), Refusal> {
-    for mark in marks {
-        ask(5, mark.kind < FIRST_UNKNOWN_KIND)?;
-        ask(6, mark.radius <= LARGEST_RADIUS)?;
-    }
-    Ok(())
+    marks.iter().try_for_each(ask_mark)
+}
+
+/// Questions 5 and 6 of one mark.
+pub(crate) fn ask_mark(mark: &Mark) -> Result<(), Refusal> {
+    ask(5, mark.kind < FIRST_UNKNOWN_KIND)?;
+    ask(6, mark.radius <= LARGEST_RADIUS)
 }
 
 /// Question 7: parts 2 and 3, if present, are 14n and 2n bytes.

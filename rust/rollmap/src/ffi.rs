@@ -58,6 +58,20 @@ extern "C" {
         out_length: usize,
     ) -> Answer;
 
+    fn rollmap_log_to_marks(
+        log: *const u8,
+        log_length: usize,
+        out: *mut u8,
+        out_length: usize,
+    ) -> Answer;
+
+    fn rollmap_marks_to_log(
+        marks: *const u8,
+        marks_length: usize,
+        out: *mut u8,
+        out_length: usize,
+    ) -> Answer;
+
     fn rollmap_view_stop(
         sheet: *const u8,
         sheet_length: usize,
@@ -129,6 +143,16 @@ pub(crate) fn assemble(parts: u32, bodies: [&[u8]; 3], out: &mut [u8]) -> Answer
 pub(crate) fn fill(marks: &[u8], out: &mut [u8]) -> Answer {
     // SAFETY: pointers and lengths are slices' (see the top of this file).
     unsafe { rollmap_fill(marks.as_ptr(), marks.len(), out.as_mut_ptr(), out.len()) }
+}
+
+pub(crate) fn log_to_marks(log: &[u8], out: &mut [u8]) -> Answer {
+    // SAFETY: pointers and lengths are slices' (see the top of this file).
+    unsafe { rollmap_log_to_marks(log.as_ptr(), log.len(), out.as_mut_ptr(), out.len()) }
+}
+
+pub(crate) fn marks_to_log(marks: &[u8], out: &mut [u8]) -> Answer {
+    // SAFETY: pointers and lengths are slices' (see the top of this file).
+    unsafe { rollmap_marks_to_log(marks.as_ptr(), marks.len(), out.as_mut_ptr(), out.len()) }
 }
 
 pub(crate) fn view(sheet: &[u8], view: View, map: &mut [u8]) -> Answer {

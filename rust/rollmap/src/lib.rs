@@ -35,6 +35,7 @@
 
 mod ffi;
 mod fill;
+mod log;
 mod mark;
 mod record;
 mod refusal;
@@ -43,6 +44,7 @@ mod view;
 mod walk;
 
 pub use fill::{fill, fill_to_vec, rescue};
+pub use log::{log_to_marks, log_to_marks_vec, marks_to_log, marks_to_log_vec, LOG_RECORD_BYTES};
 pub use mark::{marks, marks_to_vec, Mark, MARK_BYTES};
 pub use record::{records, Record, RECORD_BYTES};
 pub use refusal::Refusal;

@@ -17,7 +17,7 @@ pub enum Refusal {
     Codes = 2,
     /// 3: where its bodies start and end.
     Bodies = 3,
-    /// 4: the length of part 1.
+    /// 4: the length of part 1, or of a log.
     Marks = 4,
     /// 5: the kind of a mark.
     Kind = 5,
@@ -39,6 +39,10 @@ pub enum Refusal {
     Buffer = 13,
     /// 14: what the program takes; no call of this library asks it.
     Program = 14,
+    /// 15: a coordinate of a log, as packed decimal.
+    Packed = 15,
+    /// 16: a coordinate of a log, as a place.
+    Place = 16,
 }
 
 impl Refusal {
@@ -58,6 +62,8 @@ impl Refusal {
         Self::Zoom,
         Self::Buffer,
         Self::Program,
+        Self::Packed,
+        Self::Place,
     ];
 
     /// The question's number.
@@ -80,7 +86,10 @@ impl Refusal {
                 "does the first body start right after the contents, each next one where the \
                  last ended, and does the last end with the sheet?"
             }
-            Self::Marks => "is part 1 a multiple of 11 and at most 45,056 bytes?",
+            Self::Marks => {
+                "is part 1 a multiple of 11 and at most 45,056 bytes, a log a multiple of 13 \
+                 and at most 4,096 records?"
+            }
             Self::Kind => "is the kind of each mark below 200?",
             Self::Radius => "is the radius of each mark at most 16,383?",
             Self::Lengths => "are parts 2 and 3, if present, 14n and 2n bytes?",
@@ -101,6 +110,11 @@ impl Refusal {
                  4,096 marks walked?"
             }
             Self::Program => "are there at most 2,000 marks and 65,536 input bytes?",
+            Self::Packed => {
+                "are x and y of each record of the log five digits and a sign, 12 or 13, and \
+                 not minus zero?"
+            }
+            Self::Place => "are x and y of each record of the log from -32,768 to 32,767?",
         }
     }
 }
@@ -135,14 +149,14 @@ mod tests {
     use super::*;
 
     #[test]
-    fn numbers_are_1_to_14_in_order() {
+    fn numbers_are_1_to_16_in_order() {
         let numbers = Refusal::ALL.iter().map(|refusal| refusal.number());
-        assert!(numbers.eq(1..=14));
+        assert!(numbers.eq(1..=16));
         for &refusal in Refusal::ALL {
             assert_eq!(Refusal::from_number(refusal.number()), Some(refusal));
         }
         assert_eq!(Refusal::from_number(0), None);
-        assert_eq!(Refusal::from_number(15), None);
+        assert_eq!(Refusal::from_number(17), None);
     }
 
     #[test]

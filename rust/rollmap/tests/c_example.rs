@@ -36,6 +36,9 @@ no body 3: 0 122
 no parts: 1 0
 short fill: 13 0, then ee
 fill: 0 11, radius 120, tag 7, then ee
+marks to log: 0 13, x 12 34 5d, then ee
+log to marks: 0 11, the same 1, then ee
+minus zero: 15 0
 ";
 
 const HEADER: &str = include_str!("../../../include/rollmap.h");
@@ -109,6 +112,7 @@ fn the_header_has_the_sizes_and_the_version_of_this_crate() {
         ("MOST_MARKS", rollmap::MOST_MARKS),
         ("MARK_BYTES", rollmap::MARK_BYTES),
         ("RECORD_BYTES", rollmap::RECORD_BYTES),
+        ("LOG_RECORD_BYTES", rollmap::LOG_RECORD_BYTES),
     ];
     for (name, size) in sizes {
         assert!(
@@ -136,7 +140,7 @@ fn every_call_takes_less_stack_than_the_header_says() {
         (name, bytes.parse::<usize>().expect("a number"))
     });
     let calls: Vec<(&str, usize)> = calls.collect();
-    assert_eq!(calls.len(), 9);
+    assert_eq!(calls.len(), 11);
     for (name, bytes) in calls {
         assert!(bytes < STACK, "{name} takes {bytes}");
     }

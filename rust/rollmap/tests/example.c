@@ -113,6 +113,26 @@ static void print_marks(void)
            (unsigned)number_at(out + 4, 2), (unsigned)number_at(out + 9, 2), out[11]);
 }
 
+static void print_logs(void)
+{
+    /* At (-12345, 0). */
+    static const uint8_t mark[11] = {0xc7, 0xcf, 0, 0, 1, 0, 1, 0, 100, 7, 0};
+    uint8_t log[14], back[12];
+    struct rollmap_answer answer;
+
+    memset(log, 0xee, sizeof log);
+    memset(back, 0xee, sizeof back);
+    answer = rollmap_marks_to_log(mark, sizeof mark, log, sizeof log);
+    printf("marks to log: %u %u, x %02x %02x %02x, then %02x\n", answer.number, answer.value,
+           log[0], log[1], log[2], log[13]);
+    answer = rollmap_log_to_marks(log, ROLLMAP_LOG_RECORD_BYTES, back, sizeof back);
+    printf("log to marks: %u %u, the same %d, then %02x\n", answer.number, answer.value,
+           memcmp(back, mark, sizeof mark) == 0, back[11]);
+    log[5] = 0x0d;
+    answer = rollmap_log_to_marks(log, ROLLMAP_LOG_RECORD_BYTES, back, sizeof back);
+    printf("minus zero: %u %u\n", answer.number, answer.value);
+}
+
 int main(void)
 {
     uint8_t sheet[ROLLMAP_CONTENTS_BYTES(1) + sizeof marks];
@@ -134,5 +154,6 @@ int main(void)
     print_refusals(out, sizeof out - 1);
     print_ignored(out);
     print_marks();
+    print_logs();
     return 0;
 }

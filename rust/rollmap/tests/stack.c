@@ -18,6 +18,7 @@ static uint8_t work[ROLLMAP_WORK_BYTES(N)];
 static uint8_t out[ROLLMAP_SCHEDULED_BYTES(N)];
 static uint8_t map[ROLLMAP_MAP_BYTES(N)];
 static uint8_t filled[sizeof marks];
+static uint8_t winder_log[N * ROLLMAP_LOG_RECORD_BYTES];
 
 static uint32_t assemble(void)
 {
@@ -64,6 +65,16 @@ static uint32_t fill(void)
     return rollmap_fill(marks, sizeof marks, filled, sizeof filled).number;
 }
 
+static uint32_t marks_to_log(void)
+{
+    return rollmap_marks_to_log(marks, sizeof marks, winder_log, sizeof winder_log).number;
+}
+
+static uint32_t log_to_marks(void)
+{
+    return rollmap_log_to_marks(winder_log, sizeof winder_log, filled, sizeof filled).number;
+}
+
 /* In an order in which each finds what it works on. */
 static const struct call {
     const char *name;
@@ -71,7 +82,7 @@ static const struct call {
 } calls[] = {
     {"assemble", assemble},     {"schedule", schedule}, {"check", check},       {"view_stop", view_stop},
     {"view_wheel", view_wheel}, {"walk", walk},         {"is_shown", is_shown}, {"part", part},
-    {"fill", fill},
+    {"fill", fill},             {"marks_to_log", marks_to_log}, {"log_to_marks", log_to_marks},
 };
 
 static uint8_t *stack;

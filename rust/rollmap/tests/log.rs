@@ -1,0 +1,301 @@
+//! Logs turned into marks and marks into logs, compared with the oracle.
+
+mod common;
+
+use std::collections::BTreeMap;
+
+use common::{number, some_marks, Lent};
+use oracle::log::write_packed;
+use oracle::mark::{write_marks, Mark};
+use oracle::sample::{marks, Generator, Shape};
+use rollmap::{Refusal, LOG_RECORD_BYTES};
+
+/// What a turn answers for its input and a buffer of so many bytes.
+type Turn = fn(&[u8], &mut [u8]) -> Result<usize, Refusal>;
+type Expected = fn(&[u8], usize) -> Result<Vec<u8>, u32>;
+
+/// Turns some bytes in a buffer of so many bytes, and sees that the answer and every
+/// byte are the oracle's. Answers the number.
+fn turn(turn: Turn, expected: Expected, given: &[u8], out_length: usize, seed: u64) -> u32 {
+    let mut out = Lent::new(out_length, seed);
+    let mut lent = Lent::holding(given, seed >> 3);
+    let answer = turn(lent.slice(), out.slice());
+    match expected(given, out_length) {
+        Ok(written) => {
+            assert_eq!(answer, Ok(written.len()));
+            out.assert_written(&written);
+        }
+        Err(expected) => {
+            assert_eq!(number(&answer), expected, "{given:02x?}");
+            out.assert_untouched();
+        }
+    }
+    lent.assert_untouched();
+    number(&answer)
+}
+
+fn log_to_marks(log: &[u8], out_length: usize, seed: u64) -> u32 {
+    let expected = oracle::log::log_to_marks;
+    turn(rollmap::log_to_marks, expected, log, out_length, seed)
+}
+
+fn marks_to_log(part_1: &[u8], out_length: usize, seed: u64) -> u32 {
+    let expected = oracle::log::marks_to_log;
+    turn(rollmap::marks_to_log, expected, part_1, out_length, seed)
+}
+
+/// The log of these marks.
+fn log_of(marks: &[Mark]) -> Vec<u8> {
+    rollmap::marks_to_log_vec(&write_marks(marks)).expect("the marks are taken")
+}
+
+/// A record with these coordinates, kind and radius.
+fn record(x: [u8; 3], y: [u8; 3], kind: u8, radius: u16) -> Vec<u8> {
+    let mut log = [x, y].concat();
+    log.extend(radius.to_le_bytes());
+    log.extend([5, 0, kind, 9, 1]);
+    log
+}
+
+/// Coordinates that get 15 and 16, and one that is taken.
+const UNPACKED: [u8; 3] = [0, 0, 0x0d];
+const FAR: [u8; 3] = [0x99, 0x99, 0x9c];
+const TAKEN: [u8; 3] = [0x12, 0x34, 0x5d];
+
+#[test]
+fn every_place_there_and_back() {
+    let places: Vec<i16> = (i16::MIN..=i16::MAX).collect();
+    for chunk in places.chunks(4_096) {
+        let sample: Vec<Mark> = chunk
+            .iter()
+            .map(|&x| Mark::plain(x, !x, 1, x as u16))
+            .collect();
+        let (part_1, log) = (write_marks(&sample), log_of(&sample));
+        assert_eq!(marks_to_log(&part_1, log.len(), 1), 0);
+        assert_eq!(log_to_marks(&log, part_1.len(), 2), 0);
+        assert_eq!(rollmap::log_to_marks_vec(&log), Ok(part_1));
+    }
+}
+
+#[test]
+fn coordinates_of_many_bytes() {
+    let bytes = [
+        0x00, 0x01, 0x09, 0x0a, 0x0c, 0x0d, 0x0f, 0x10, 0x1c, 0x32, 0x67, 0x76, 0x7c, 0x7d, 0x8c,
+        0x8d, 0x8e, 0x90, 0x99, 0x9b, 0x9c, 0x9d, 0x9e, 0xa0, 0xc9, 0xdc, 0xff,
+    ];
+    let mut numbers = BTreeMap::new();
+    for a in bytes {
+        for b in bytes {
+            for c in bytes {
+                for (x, y) in [([a, b, c], TAKEN), (TAKEN, [a, b, c])] {
+                    let number = log_to_marks(&record(x, y, 0, 1), 11, u64::from(c));
+                    *numbers.entry(number).or_insert(0) += 1;
+                }
+            }
+        }
+    }
+    assert!(numbers.keys().eq(&[0, 15, 16]), "{numbers:?}");
+    assert!(numbers.values().all(|&times| times > 500), "{numbers:?}");
+}
+
+#[test]
+fn the_ends_of_the_range_and_minus_zero() {
+    for (packed, expected) in [
+        ([0x32, 0x76, 0x7c], 0),
+        ([0x32, 0x76, 0x8c], 16),
+        ([0x32, 0x76, 0x8d], 0),
+        ([0x32, 0x76, 0x9d], 16),
+        ([0x99, 0x99, 0x9c], 16),
+        ([0x99, 0x99, 0x9d], 16),
+        ([0x00, 0x00, 0x0c], 0),
+        ([0x00, 0x00, 0x0d], 15),
+        ([0x00, 0x00, 0x0a], 15),
+        ([0x00, 0x00, 0x0f], 15),
+        ([0x00, 0x00, 0xac], 15),
+        ([0x0a, 0x00, 0x0c], 15),
+    ] {
+        assert_eq!(log_to_marks(&record(packed, TAKEN, 0, 1), 11, 1), expected);
+        assert_eq!(log_to_marks(&record(TAKEN, packed, 0, 1), 11, 2), expected);
+    }
+    assert_eq!(write_packed(i16::MAX), [0x32, 0x76, 0x7c]);
+}
+
+#[test]
+fn a_record_is_asked_by_x_y_kind_and_radius_before_the_next_one() {
+    let faults = [
+        (record(UNPACKED, FAR, 200, 16_384), 15),
+        (record(FAR, UNPACKED, 200, 16_384), 16),
+        (record(TAKEN, UNPACKED, 200, 16_384), 15),
+        (record(TAKEN, FAR, 200, 16_384), 16),
+        (record(TAKEN, TAKEN, 200, 16_384), 5),
+        (record(TAKEN, TAKEN, 199, 16_384), 6),
+    ];
+    let taken = record(TAKEN, TAKEN, 199, 16_383);
+    for (first, expected) in &faults {
+        assert_eq!(log_to_marks(first, 0, 1), *expected);
+        for (second, _) in &faults {
+            let log = [first.as_slice(), second].concat();
+            assert_eq!(log_to_marks(&log, 22, 2), *expected);
+            let log = [&taken, first.as_slice(), second].concat();
+            assert_eq!(log_to_marks(&log, 0, 3), *expected);
+            // 4 is asked before all else.
+            assert_eq!(log_to_marks(&log[1..], 33, 4), 4);
+        }
+    }
+    assert_eq!(log_to_marks(&taken, 11, 5), 0);
+    assert_eq!(log_to_marks(&taken, 10, 6), 13);
+}
+
+#[test]
+fn every_length_of_the_input_and_of_the_written_buffer() {
+    let sample = marks(Shape::Uniform, 4, 1);
+    let (part_1, log) = (write_marks(&sample), log_of(&sample));
+    let expected = |length: usize, width: usize, room: usize, needed: usize| match () {
+        () if !length.is_multiple_of(width) => 4,
+        () if room < length / width * needed => 13,
+        () => 0,
+    };
+    for length in 0..=log.len() {
+        for room in 0..=60 {
+            let number = log_to_marks(&log[..length], room, (61 * length + room) as u64);
+            assert_eq!(number, expected(length, LOG_RECORD_BYTES, room, 11));
+        }
+    }
+    for length in 0..=part_1.len() {
+        for room in 0..=70 {
+            let number = marks_to_log(&part_1[..length], room, (71 * length + room) as u64);
+            assert_eq!(number, expected(length, 11, room, LOG_RECORD_BYTES));
+        }
+    }
+}
+
+#[test]
+fn the_most_records() {
+    let sample = marks(Shape::Uniform, 4_096, 5);
+    let (part_1, log) = (write_marks(&sample), log_of(&sample));
+    assert_eq!(log_to_marks(&log, 45_056, 1), 0);
+    assert_eq!(log_to_marks(&log, 45_055, 2), 13);
+    assert_eq!(marks_to_log(&part_1, 53_248, 3), 0);
+    assert_eq!(marks_to_log(&part_1, 53_247, 4), 13);
+    let one_more = [log.as_slice(), &log[..13]].concat();
+    assert_eq!(log_to_marks(&one_more, 1 << 17, 5), 4);
+    let one_more = [part_1.as_slice(), &part_1[..11]].concat();
+    assert_eq!(marks_to_log(&one_more, 1 << 17, 6), 4);
+}
+
+/// Puts a fault into a log or marks, most often.
+fn damage(generator: &mut Generator, bytes: &mut Vec<u8>, width: usize, fields: &[(usize, u8)]) {
+    let length = bytes.len();
+    match generator.below(8) {
+        0 => bytes.truncate(length.saturating_sub(1 + generator.below(13) as usize)),
+        1 => bytes.resize(length + 1 + generator.below(13) as usize, 0),
+        2 | 3 if length > 0 => {
+            let row = generator.below((length / width) as u32) as usize;
+            let (field, value) = generator.choose(fields);
+            bytes[width * row + field] = value;
+        }
+        4 | 5 if length > 0 => {
+            let at = generator.below(length as u32) as usize;
+            bytes[at] ^= 1 << generator.below(8);
+        }
+        _ => {}
+    }
+}
+
+/// A room near what is needed.
+fn some_room(generator: &mut Generator, needed: usize) -> usize {
+    match generator.below(6) {
+        0 => needed.saturating_sub(1),
+        1 => generator.below(100) as usize,
+        2 => needed + generator.below(40) as usize,
+        _ => needed,
+    }
+}
+
+#[test]
+fn many_logs_and_marks_with_a_few_faults() {
+    let mut generator = Generator::new(41);
+    let mut numbers = [BTreeMap::new(), BTreeMap::new()];
+    let in_log = [
+        (2, 0x0d),
+        (5, 0x9a),
+        (0, 0x99),
+        (3, 0x99),
+        (7, 0x40),
+        (10, 200),
+    ];
+    let in_marks = [(5, 0x40), (5, 0xff), (8, 200), (8, 255)];
+    for seed in 0..40_000 {
+        let sample = some_marks(&mut generator);
+        let (mut part_1, mut log) = (write_marks(&sample), log_of(&sample));
+        damage(&mut generator, &mut log, 13, &in_log);
+        damage(&mut generator, &mut part_1, 11, &in_marks);
+        let room = some_room(&mut generator, log.len() / 13 * 11);
+        let number = log_to_marks(&log, room, seed);
+        *numbers[0].entry(number).or_insert(0) += 1;
+        let room = some_room(&mut generator, part_1.len() / 11 * 13);
+        let number = marks_to_log(&part_1, room, seed);
+        *numbers[1].entry(number).or_insert(0) += 1;
+    }
+    for (numbers, reached) in numbers
+        .iter()
+        .zip([[0, 4, 5, 6, 13, 15, 16].as_slice(), &[0, 4, 5, 6, 13]])
+    {
+        assert!(numbers.keys().eq(reached), "{numbers:?}");
+        assert!(numbers.values().all(|&times| times > 100), "{numbers:?}");
+    }
+}
+
+#[test]
+fn accepted_logs_and_marks_come_back_byte_for_byte() {
+    let mut generator = Generator::new(42);
+    for shape in Shape::ALL {
+        for n in [0, 1, 2, 30] {
+            let mut sample = marks(shape, n, n as u64);
+            for mark in &mut sample {
+                mark.radius = generator.choose(&[0, mark.radius]);
+                mark.tag = generator.draw() as u16;
+            }
+            let (part_1, log) = (write_marks(&sample), log_of(&sample));
+            assert_eq!(rollmap::log_to_marks_vec(&log).as_ref(), Ok(&part_1));
+            assert_eq!(rollmap::marks_to_log_vec(&part_1), Ok(log));
+        }
+    }
+}
+
+/// A number of five digits as packed decimal, by its text read as hexadecimal.
+fn packed(number: i32) -> [u8; 3] {
+    let sign = if number < 0 { 'd' } else { 'c' };
+    let text = format!("{:05}{sign}", number.unsigned_abs());
+    let bytes = u32::from_str_radix(&text, 16).expect("six digits");
+    let [_, a, b, c] = bytes.to_be_bytes();
+    [a, b, c]
+}
+
+#[test]
+fn logs_by_another_hand() {
+    let mut generator = Generator::new(43);
+    let mut numbers = [0; 2];
+    for seed in 0..4_000 {
+        let coordinate = |generator: &mut Generator| generator.below(80_001) as i32 - 40_000;
+        let (x, y) = (coordinate(&mut generator), coordinate(&mut generator));
+        let log = record(packed(x), packed(y), 7, 0);
+        let places = (i16::try_from(x), i16::try_from(y));
+        let expected = if let (Ok(x), Ok(y)) = places {
+            let mark = Mark {
+                kind: 7,
+                tag: 265,
+                ..Mark::plain(x, y, 0, 5)
+            };
+            let part_1 = write_marks(&[mark]);
+            assert_eq!(rollmap::log_to_marks_vec(&log).as_ref(), Ok(&part_1));
+            assert_eq!(rollmap::marks_to_log_vec(&part_1).as_ref(), Ok(&log));
+            0
+        } else {
+            16
+        };
+        assert_eq!(log_to_marks(&log, 11, seed), expected);
+        numbers[usize::from(expected > 0)] += 1;
+    }
+    assert!(numbers.iter().all(|&times| times > 500), "{numbers:?}");
+}
