@@ -173,7 +173,8 @@ struct rollmap_answer rollmap_marks_to_log(const uint8_t *marks, size_t marks_le
 
    A stop s, 0 to 16, is the zoom of 2 to the power s, divided by 64, map units per pixel.
    A wheel value is the zoom itself, taken where 64 times it is a whole number from 1 to
-   65,536. */
+   65,536. A stop and the wheel value of the same zoom give the same answer and the same
+   map, refusals too; any other stop gets 12. */
 struct rollmap_answer rollmap_view_stop(const uint8_t *sheet, size_t sheet_length,
                                         int16_t x0, int16_t x1, int16_t y0, int16_t y1,
                                         uint8_t stop,

@@ -1,5 +1,6 @@
 -- Jobs is what each call gives, Parts and Demand3 what is claimed of sheets and views by demands 2 and 3, and Theorems their proofs.
 -- Filled is what is claimed of filled marks, and Turned of logs and marks that are turned into one another.
+-- Stops is request 4 of 02: a stop and the wheel value of the same zoom give the same.
 -- Steps is what the code's own steps give.
 pub mod Jobs
 pub mod Answers
@@ -8,5 +9,6 @@ pub mod Demand3
 pub mod Filled
 pub mod Turned
 pub mod Theorems
+pub mod Stops
 pub mod Steps
 pub mod Lemmas

@@ -21,6 +21,7 @@ ghost use Rattle.rollmap.specs.Parts.{Joins};
 ghost use Rattle.rollmap.specs.Demand3.{Meets, MeetsView};
 ghost use Rattle.rollmap.specs.Filled.{MeetsFilling};
 ghost use Rattle.rollmap.specs.Turned.{MeetsLog, MeetsMarks};
+ghost use Rattle.rollmap.specs.Stops.{MeetsStop};
 ghost use Rattle.rollmap.specs.Steps.{resultsOver, viewAt};
 
 // What a call answers: 0 or the refusal's number, and the length, count or mark number asked for.
@@ -264,7 +265,7 @@ fn view(sheet: &[u8], edges: Edges, zoom: Zoom, map: &mut [u8]) -> Answer
     }
 }
 
-// The view at a stop; of a sheet scheduled here it meets demand 3.
+// The view at a stop; of a sheet scheduled here it meets demand 3, and it is that at the wheel value of the same zoom.
 #[no_mangle]
 pub extern "C" fn rollmap_view_stop(
     sheet: &[u8],
@@ -276,7 +277,7 @@ pub extern "C" fn rollmap_view_stop(
     map: &mut [u8],
 ) -> Answer
     ensures { λ r. ⌜ Gives (viewJob (now (sheet .entry)) (edges x0 x1 y0 y1) (Stop stop) (length (now (map .entry)))) (now (map .entry)) r (now (map .exit)) ⌝ }
-    ensures { λ r. ⌜ MeetsView (now (sheet .entry)) (edges x0 x1 y0 y1) (Stop stop) r (now (map .exit)) ⌝ }
+    ensures { λ r. ⌜ MeetsView (now (sheet .entry)) (edges x0 x1 y0 y1) (Stop stop) r (now (map .exit)) × MeetsStop (now (sheet .entry)) (edges x0 x1 y0 y1) stop (now (map .entry)) r (now (map .exit)) ⌝ }
 {
     view(sheet, Edges { x0, x1, y0, y1 }, Zoom::Stop(stop), map)
 }

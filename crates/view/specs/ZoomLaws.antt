@@ -9,10 +9,11 @@ use native.Mathlib.Omega.{arith}
 use borrow.Author.Tests.{le-leb, lt-leb, leb-true, eqb-true}
 use lib.Dec.{leb, eqb}
 use lib.Pow.{pow-mono, pow-pos}
-use lib.Ieee.{Float, nan, inf, fin, up, down}
+use lib.Ieee.{Float, nan, inf, fin, up, down, binary32, ofBits}
 use lib.Ieee.Exact.{HasValue}
 use lib.Ieee.Fits.{down-pos}
-use Rattle.contents.specs.Asking.{_asks_, answer}
+use Rattle.contents.specs.Asking.{_asks_, answer, every}
+use Rattle.contents.specs.Lemmas.Tests.{every-at}
 use Rattle.view.specs.Zoom.{stopScale, wheelScale, scaleOf, scaleNumber, Is64}
 use Rattle.view.specs.Questions.{isTaken}
 use Rattle.view.specs.declared.Zoom.{Zoom}
@@ -69,6 +70,27 @@ wheel-none w h = cases (wheelScale w) refl
 pub stop-wheel : (s : ℕ) (w : Float) → s ≤ 16 → HasValue w false (2 ^ s) 64 → scaleOf (Stop s) ≡ scaleOf (Wheel w)
 unfolding scaleOf stopScale
 stop-wheel s w h v = simp (le-leb s 16 h) (sym (wheel-is w (2 ^ s) (pow-pos s, pow-mono {i = s} {j = 16} h, v)))
+
+-- and there is one for each stop: the float whose exponent's field is 121 + s and whose digits are 0
+abbrev pub wheelOf : ℕ → Float
+wheelOf s = ofBits binary32 ((121 + s) * 2 ^ 23)
+
+abbrev is : ℕ → Scale → Bool
+is k Refused = false
+is k (Taken j) = eqb j k
+
+is-taken : (k : ℕ) (r : Scale) → is k r ≡ true → r ≡ Taken k
+is-taken k Refused h = absurd (true≢false (sym h))
+is-taken k (Taken j) h = ap Taken (eqb-true j k h)
+
+all-stops : every (λ s. is (2 ^ s) (wheelScale (wheelOf s))) 17 ≡ true
+unfolding every wheelScale ofBits
+all-stops = refl
+
+pub stop-has-wheel : (s : ℕ) → s ≤ 16 → HasValue (wheelOf s) false (2 ^ s) 64
+stop-has-wheel s h =
+    wheel-from (wheelOf s) (2 ^ s)
+    (is-taken (2 ^ s) (wheelScale (wheelOf s)) (every-at (λ (i : ℕ). is (2 ^ i) (wheelScale (wheelOf i))) 17 all-stops s (omega arith))) .2
 
 -- what the code of a stop computes
 pub stop-shifted : (s : ℕ) → s ≤ 16 → stopScale s ≡ Taken (1 * 2 ^ s % 2 ^ 32)

@@ -1,7 +1,7 @@
 -- `rollmap::rollmap_view_stop`: the view at a stop. Assumes nothing.
 use borrow.Author.Needs.{needs}
 use mir.Facts.{toZ-ofZ}
-use Rattle.rollmap.specs.Theorems.{view-whole}
+use Rattle.rollmap.specs.Stops.{stop-whole}
 use Rattle.rollmap.proofs.rollmap_view_stop.Statement.{statement}
 use Rattle.rollmap.proofs.rollmap_view_stop.Tie as tie
 
@@ -14,7 +14,7 @@ same-length c = search needs
 returns : tie.Need-returns
 returns c =
     let b = c .before .before .before .before .before .before in
-    view-whole
+    stop-whole
     (rw (toZ-ofZ {z = b .args .x0} (b .fits .x0), toZ-ofZ {z = b .args .x1} (b .fits .x1), toZ-ofZ {z = b .args .y0} (b .fits .y0), toZ-ofZ {z = b .args .y1} (b .fits .y1)) at (c .before .before .view .ensures))
 
 pub rollmap-view-stop-spec : {M : Type 1} → statement M
