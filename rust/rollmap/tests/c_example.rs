@@ -1,9 +1,16 @@
-//! The C header: a program in C is compiled against it, linked with the archive and
-//! run, once as C and once as C++; and what the header says of numbers and of the stack
-//! is seen to be so.
+//! The C header: programs in C are compiled against it, linked with the archive and
+//! run, one of them as C++ too; and what the header says of numbers and of the stack is
+//! seen to be so.
 
+mod common;
+
+use std::io::Write;
 use std::path::{Path, PathBuf};
-use std::process::Command;
+use std::process::{Command, Stdio};
+
+use common::{one_part, scheduled, some_sheet};
+use oracle::sample::{marks, Generator, Shape};
+use oracle::view::{map_bytes, view, Edges, Zoom};
 
 use rollmap::Refusal;
 
@@ -48,17 +55,21 @@ fn in_crate(path: &str) -> PathBuf {
     Path::new(env!("CARGO_MANIFEST_DIR")).join(path)
 }
 
-/// Runs a command, which must succeed, and answers what it prints.
-fn run(command: &mut Command) -> String {
-    let output = command.output().expect("the command is there");
-    let errors = String::from_utf8_lossy(&output.stderr);
-    assert!(output.status.success(), "{command:?}\n{errors}");
+/// Runs a command with this input, which must succeed, and answers what it prints.
+fn run(command: &mut Command, input: &[u8]) -> String {
+    let pipes = command.stdin(Stdio::piped()).stdout(Stdio::piped());
+    let mut child = pipes.spawn().expect("the command is there");
+    let mut to_child = child.stdin.take().expect("it has an input");
+    let output = std::thread::scope(|scope| {
+        scope.spawn(move || to_child.write_all(input).expect("it reads its input"));
+        child.wait_with_output().expect("it ends")
+    });
+    assert!(output.status.success(), "{command:?} {}", output.status);
     String::from_utf8(output.stdout).expect("it prints text")
 }
 
-/// Compiles a program of this folder with these words, runs it, and answers what it
-/// prints.
-fn compile_and_run(source: &str, name: &str, compiler: &str, words: &[&str]) -> String {
+/// Compiles a program of this folder with these words, and answers where it is.
+fn compile(source: &str, name: &str, compiler: &str, words: &[&str]) -> PathBuf {
     let program = Path::new(env!("CARGO_TARGET_TMPDIR")).join(name);
     let mut compile = Command::new(compiler);
     compile
@@ -68,21 +79,21 @@ fn compile_and_run(source: &str, name: &str, compiler: &str, words: &[&str]) -> 
         .arg(in_crate("tests").join(source))
         .args(["-x", "none", ARCHIVE, "-o"])
         .arg(&program);
-    run(&mut compile);
-    run(&mut Command::new(program))
+    run(&mut compile, &[]);
+    program
 }
 
 #[test]
 fn a_c_program_uses_the_library() {
-    let printed = compile_and_run("example.c", "example_c", "cc", &["-std=c99"]);
-    assert_eq!(printed, EXPECTED);
+    let program = compile("example.c", "example_c", "cc", &["-std=c99"]);
+    assert_eq!(run(&mut Command::new(program), &[]), EXPECTED);
 }
 
 #[test]
 fn a_cpp_program_uses_the_library() {
     let words = ["-std=c++11", "-x", "c++"];
-    let printed = compile_and_run("example.c", "example_cpp", "c++", &words);
-    assert_eq!(printed, EXPECTED);
+    let program = compile("example.c", "example_cpp", "c++", &words);
+    assert_eq!(run(&mut Command::new(program), &[]), EXPECTED);
 }
 
 /// The numbers that the header defines with this beginning of a name, by the rest of it.
@@ -134,7 +145,8 @@ const STACK: usize = 8 * 1024;
 #[test]
 fn every_call_takes_less_stack_than_the_header_says() {
     let words = ["-std=c99", "-pthread"];
-    let printed = compile_and_run("stack.c", "stack", "cc", &words);
+    let program = compile("stack.c", "stack", "cc", &words);
+    let printed = run(&mut Command::new(program), &[]);
     let calls = printed.lines().map(|line| {
         let (name, bytes) = line.split_once(": ").expect("a name and a number");
         (name, bytes.parse::<usize>().expect("a number"))
@@ -144,4 +156,55 @@ fn every_call_takes_less_stack_than_the_header_says() {
     for (name, bytes) in calls {
         assert!(bytes < STACK, "{name} takes {bytes}");
     }
+}
+
+/// A view as the program `stops.c` reads it, and what it is to print: the oracle's answer
+/// at the stops 0 to 17, with a byte behind the map that nobody writes.
+fn stops_case(sheet: &[u8], edges: Edges, map_length: usize) -> (Vec<u8>, String) {
+    let lengths = [sheet.len(), map_length].map(|length| (length as u32).to_ne_bytes());
+    let Edges { x0, x1, y0, y1 } = edges;
+    let edge_bytes = [x0, x1, y0, y1].map(i16::to_ne_bytes);
+    let input = [lengths.as_flattened(), edge_bytes.as_flattened(), sheet].concat();
+    let line = |stop| {
+        let (number, (written, count)) = match view(sheet, edges, Zoom::Stop(stop), map_length) {
+            Ok(answered) => (0, answered),
+            Err(number) => (number, (Vec::new(), 0)),
+        };
+        let mut map = vec![0xee; map_length + 1];
+        map[..written.len()].copy_from_slice(&written);
+        let hex: String = map.iter().map(|byte| format!("{byte:02x}")).collect();
+        format!("{number} {count} {hex}\n")
+    };
+    (input, (0..=17).map(line).collect())
+}
+
+#[test]
+fn every_stop_is_its_wheel_value_through_c() {
+    let edges = |[x0, x1, y0, y1]: [i16; 4]| Edges { x0, x1, y0, y1 };
+    let whole = edges([i16::MIN, i16::MAX, i16::MIN, i16::MAX]);
+    let mut cases = Vec::new();
+    for shape in Shape::ALL {
+        for n in [0, 1, 9, 40] {
+            let sample = marks(shape, n, 11);
+            let (sheet, needed) = (scheduled(&sample), map_bytes(n));
+            cases.push(stops_case(&sheet, whole, needed));
+            cases.push(stops_case(&sheet, edges([-900, 900, 0, 0]), needed + 1));
+            cases.push(stops_case(&sheet, edges([1, 0, 0, 0]), needed));
+            cases.push(stops_case(&sheet, whole, needed.saturating_sub(1)));
+            cases.push(stops_case(&one_part(&sample), whole, needed));
+        }
+    }
+    let mut generator = Generator::new(50);
+    for _ in 0..500 {
+        let sheet = some_sheet(&mut generator);
+        cases.push(stops_case(&sheet, whole, 6));
+    }
+    let (inputs, expected): (Vec<_>, Vec<_>) = cases.into_iter().unzip();
+    let program = compile("stops.c", "stops", "cc", &["-std=c99"]);
+    let printed = run(&mut Command::new(program), &inputs.concat());
+    let expected = expected.concat();
+    let lines = printed.lines().zip(expected.lines()).enumerate();
+    let differing = lines.into_iter().find(|(_, (ours, theirs))| ours != theirs);
+    assert_eq!(differing, None);
+    assert_eq!(printed.len(), expected.len());
 }

@@ -254,19 +254,56 @@ fn every_stop() {
     }
 }
 
+/// Answers a view of a sheet at every stop and at the wheel value of the same zoom, sees
+/// that both give the same answer and leave the same bytes, and answers the number, which
+/// is that of every stop.
+fn stops_and_wheel_values(sheet: &[u8], rectangle: View, map_length: usize) -> u32 {
+    let answered = |zoom| {
+        let mut map = vec![0xee; map_length + 2];
+        let asked = View { zoom, ..rectangle };
+        let answer = rollmap::view(sheet, asked, &mut map[..map_length]);
+        (answer, map)
+    };
+    let numbers = (0..=16).map(|stop| {
+        let by_stop = answered(Zoom::Stop(stop));
+        let wheel = Zoom::Wheel(2_f32.powi(i32::from(stop) - 6));
+        assert_eq!(by_stop, answered(wheel), "stop {stop} {sheet:02x?}");
+        number(&by_stop.0)
+    });
+    let numbers: Vec<u32> = numbers.collect();
+    assert!(numbers.iter().all(|&number| number == numbers[0]));
+    numbers[0]
+}
+
 #[test]
 fn a_stop_and_its_wheel_value_give_the_same() {
     for shape in Shape::ALL {
         let sheet = scheduled(&marks(shape, 50, 3));
-        for stop in 0..=16 {
-            let (mut by_stop, mut by_wheel) = ([0xaa; 7], [0x55; 7]);
-            let at = |zoom| View { zoom, ..WHOLE };
-            let wheel = Zoom::Wheel(2_f32.powi(i32::from(stop) - 6));
-            let count = rollmap::view(&sheet, at(Zoom::Stop(stop)), &mut by_stop);
-            assert_eq!(rollmap::view(&sheet, at(wheel), &mut by_wheel), count);
-            assert_eq!(by_stop, by_wheel);
-        }
+        assert_eq!(stops_and_wheel_values(&sheet, WHOLE, 7), 0);
+        assert_eq!(stops_and_wheel_values(&sheet, WHOLE, 6), 13);
+        let crossed = View {
+            x0: 1,
+            x1: 0,
+            ..WHOLE
+        };
+        assert_eq!(stops_and_wheel_values(&sheet, crossed, 7), 11);
     }
+}
+
+#[test]
+fn a_stop_and_its_wheel_value_give_the_same_of_any_sheet() {
+    let mut generator = Generator::new(49);
+    let mut numbers = BTreeMap::new();
+    for _ in 0..6_000 {
+        let sheet = some_sheet(&mut generator);
+        let small = anywhere(&mut generator);
+        let rectangle = generator.choose(&[WHOLE, small]);
+        let length = generator.choose(&[0, 1, 6, 6]);
+        let number = stops_and_wheel_values(&sheet, rectangle, length);
+        *numbers.entry(number).or_insert(0) += 1;
+    }
+    let reached = (0..=10).chain([13]);
+    assert!(reached.into_iter().all(|n| numbers[&n] > 20), "{numbers:?}");
 }
 
 #[test]
