@@ -1,7 +1,7 @@
 -- What the schedule of a sheet's marks says, read back from its bytes: demand 3's first half, over part 2. Assumes nothing.
 -- `s` is part 1 and `n` the number of marks; `scheduleOf s n` is part 2.
 use Prim.Native.Nat.{ℕ, _*_, _<_, _≤_}
-use mathlib.Core.Path.{_≡_, refl, sym, ap, subst}
+use mathlib.Core.Path.{_≡_, refl, sym, subst}
 use mathlib.Core.List.{List}
 use mathlib.Core.Logic.{_↔_}
 use native.Mathlib.Omega.{arith}

@@ -1,7 +1,7 @@
 -- Laws of the order of fractions and removal values. Assumes nothing.
 use Prim.Native.Nat.{_*_, _<_, _≤_}
 use mathlib.Core.Path.{_≡_, refl}
-use mathlib.Core.Bool.{true, false≢true}
+use mathlib.Core.Bool.{true}
 use mathlib.Core.Logic.{_⊎_, inl, inr, _↔_}
 use native.Mathlib.Omega.{arith}
 use native.Mathlib.Nat.{mul-le-mul, mul-le-mul-right, le-of-mul-le-mul-right}
@@ -10,7 +10,7 @@ use borrow.Author.Tests.{ltb-true, eqb-true, lt-ltb, eq-eqb}
 use Rattle.fractions.specs.declared.Fraction.{Fraction}
 use Rattle.fractions.specs.declared.Value.{Value}
 use Rattle.fractions.specs.declared.Value.the-variants.{Never, At}
-use Rattle.fractions.specs.Order.{less, same, later, level, Less, AtMost, Same, Later, Equal, Sound, Small}
+use Rattle.fractions.specs.Order.{less, same, later, Less, AtMost, Same, Later, Equal, Sound, Small}
 
 -- ---- the order is total and transitive
 
@@ -69,13 +69,6 @@ pub later-iff : (v : Value) (f : Fraction) → (later v (At f) ≡ true) ↔ Lat
 unfolding later
 later-iff Never f = ((λ e. tt), (λ l. refl))
 later-iff (At g) f = less-iff f g
-
-pub level-iff : (v w : Value) → (level v w ≡ true) ↔ Equal v w
-unfolding level
-level-iff Never Never = ((λ e. tt), (λ l. refl))
-level-iff Never (At g) = ((λ e. absurd (false≢true e)), (λ l. absurd l))
-level-iff (At f) Never = ((λ e. absurd (false≢true e)), (λ l. absurd l))
-level-iff (At f) (At g) = same-iff f g
 
 -- ---- products of small fractions fit 64 bits
 

@@ -1,11 +1,11 @@
 -- What the other crates cite of the index. `s` is part 1, `p` part 2, `t` part 3 and n the number of marks; the proofs are in Lemmas.
-use Prim.Native.Nat.{ℕ, _*_, _<_, _≤_}
+use Prim.Native.Nat.{ℕ, _<_, _≤_}
 use native.Mathlib.Omega.{arith}
-use mathlib.Core.Path.{_≡_, ap, _∙_}
+use mathlib.Core.Path.{_≡_, _∙_}
 use mathlib.Core.Bool.{Bool, true, false}
 use mathlib.Core.Logic.{_↔_, _≢_}
 use mathlib.Core.List.{List}
-use lib.ListN.{length, getD}
+use lib.ListN.{length}
 use lib.Dec.{eqb, leb}
 use lib.IntN.{ℤ}
 use lib.Signed.{mag, leZ}
@@ -51,14 +51,6 @@ module _ (s p : List ℕ) (n : ℕ) (few : n ≤ 65536) where
       → l ≡ indexOf s p n
   index-only = Whole.index-only s p n few
 
-  -- ---- its bytes
-
-  pub bytes-length : length (indexBytes (indexOf s p n)) ≡ 2 * n
-  bytes-length = Bytes.index-length (indexOf s p n) ∙ ap (λ (k : ℕ). 2 * k) index-length
-
-  pub bytes-read : (i : ℕ) → i < n → entryAt (indexBytes (indexOf s p n)) i ≡ getD (indexOf s p n) i 0
-  bytes-read i h = Bytes.index-read (indexOf s p n) (Whole.index-below s p n few 65536 few) i (omega (arith, index-length))
-
   -- ---- what question 9 accepts
 
   module _ (t : List ℕ) where
@@ -69,9 +61,6 @@ module _ (s p : List ℕ) (n : ℕ) (few : n ≤ 65536) where
     -- The numbers that an accepted index holds are the tree.
     pub index-block : isIndex s p t n ≡ true → block (entryAt t) 0 n ≡ indexOf s p n
     index-block = Whole.index-entries s p n few t
-
-    pub block-members : isIndex s p t n ≡ true → block (entryAt t) 0 n ≈ upTo n
-    block-members h q = rw (index-block h) (index-members q)
 
     pub block-tree : isIndex s p t n ≡ true → isTree (beats p) (axisKey s) true (block (entryAt t) 0 n) ≡ true
     block-tree h = rw (index-block h) index-tree

@@ -16,7 +16,7 @@ use mir.Val.{SFits}
 use Rattle.numbers.specs.Little.{leAt, signed, Bytes}
 use Rattle.numbers.specs.Laws.{le-bound, signed-fits}
 use Rattle.fractions.specs.Order.{Small}
-use Rattle.marks.specs.Marks.{xAt, yAt, radiusAt, kindAt, priorityAt, usedAt, houseOf, houseNumber, houseValue, isKind, isRadius, usedRadius}
+use Rattle.marks.specs.Marks.{xAt, yAt, radiusAt, kindAt, priorityAt, usedAt, houseOf, houseValue, isKind, isRadius, usedRadius}
 use Rattle.marks.specs.declared.House.the-variants.{Radius, Refused}
 use Rattle.marks.specs.Marks.{Group, note, spot, streak, patch, break, kindGroup, groupRadius, houseRadius, oldGroupRadius, oldRadius}
 use Rattle.marks.specs.Marks.{square, touchingOf, touching, outranks, rankKey}

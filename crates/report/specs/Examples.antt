@@ -1,6 +1,6 @@
 -- 01, "Proved examples": P1 to P12, what 01 computes in its text, and the examples of 02's requests: one table of inputs and answers, shown by
 -- one computation. P4 is as request 1 of 02 has it.
-use Prim.Native.Nat.{ℕ, zero, suc, _+_, _-_, _*_}
+use Prim.Native.Nat.{ℕ, suc, _+_, _-_, _*_}
 use mathlib.Core.Path.{_≡_, refl}
 use mathlib.Core.List.{List, [], _∷_, _++_, map}
 use lib.ListN.{length}
@@ -27,9 +27,9 @@ use Rattle.view.specs.declared.Zoom.{Zoom}
 use Rattle.view.specs.declared.Zoom.the-variants.{Stop, Wheel}
 use Rattle.view.specs.Zoom.{stopScale, wheelScale, scaleOf}
 use Rattle.view.specs.Shown.{Rectangle, livesAt, gapSquared, distanceSquared, reaches, shown}
-use Rattle.bitmap.specs.Map.{bit, mapByte, mapPart, mapBytes, countShown, nextSet, walk}
+use Rattle.bitmap.specs.Map.{bit, mapByte, mapPart, mapBytes, countShown}
 use Rattle.view.specs.Questions as Viewing
-use Rattle.rollmap.specs.Jobs.{Outcome, outcome, checkJob, scheduled, scheduleQuestions, scheduleJob, assembleJob, fillJob, logToMarksJob, marksToLogJob, shownIn, viewJob}
+use Rattle.rollmap.specs.Jobs.{outcome, checkJob, scheduled, assembleJob, fillJob, logToMarksJob, marksToLogJob, shownIn, viewJob}
 use Rattle.text.specs.Text.{digits, rootStep, root, zoomDown}
 use Rattle.report.specs.Text.{text, line, markLine, markLines, listing, refusal, printQuestions, printed}
 

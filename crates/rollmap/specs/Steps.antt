@@ -2,7 +2,7 @@
 use Prim.Native.Nat.{ℕ, _*_}
 use mathlib.Core.List.{List, [], _∷_, _++_}
 use lib.Dec.{leb}
-use lib.ListN.{length, drop}
+use lib.ListN.{drop}
 use Rattle.elimination.specs.Records.{scheduleOf}
 use Rattle.index.specs.Index.{indexOf, indexBytes}
 use Rattle.contents.specs.Contents.{split, marksPart, schedulePart}

@@ -5,9 +5,9 @@ ghost use mathlib.Core.Bool.{true};
 ghost use Rattle.contents.specs.Contents.{Writable, given};
 ghost use Rattle.contents.specs.Questions.{isCount};
 ghost use Rattle.contents.specs.Laid.{Whole};
-ghost use Rattle.contents.specs.Extent.{nowhere, cutOf};
+ghost use Rattle.contents.specs.Extent.{cutOf};
 ghost use Rattle.sheet.specs.Questions.{check};
-ghost use Rattle.sheet.specs.Layout.{layoutOf, opened, placeOf, partOf};
+ghost use Rattle.sheet.specs.Layout.{layoutOf, opened, placeOf};
 ghost use Rattle.sheet.specs.Assembled.{kept, Placing, Assembling};
 
 // ---- checking
@@ -138,13 +138,6 @@ pub fn part_of(s: &[u8], code: u32) -> Extent
     ensures { λ r. ⌜ r ≡ placeOf (opened (now (s .entry))) code ⌝ }
 {
     place_of(opened(s), code)
-}
-
-// The bytes of the part of this code, which stay the caller's.
-pub fn part_bytes<'a>(s: &'a [u8], code: u32) -> &'a [u8]
-    ensures { λ r. ⌜ now r ≡ partOf (now (s .entry)) code ⌝ }
-{
-    part_in(s, opened(s), code)
 }
 
 // An opened sheet: the caller's bytes, and where the parts lie in them.

@@ -1,7 +1,7 @@
--- What the code of a wheel value computes: w in 1/64 .. 1024 times 64 is exact, and the remainder by 1 tells whether that is whole.
+-- What the code of a wheel value computes: w in 1/64 .. 1024 times 64 is exact, and its whole part, cast back, tells whether it is whole.
 -- Assumes nothing.
 use mathlib.Core.Path.{_≡_, refl, sym, ap, _∙_, subst}
-use mathlib.Core.Bool.{Bool, true, false, not, _&&_, true≢false}
+use mathlib.Core.Bool.{Bool, true, false, _&&_, true≢false}
 use Prim.Native.Nat.{ℕ, zero, suc, _+_, _-_, _*_, _/_, _%_, _^_, _≤_, _<_}
 use native.Mathlib.Nat.{add-zero, le-trans, le-of-eq, lt-of-le-of-lt, lt-of-lt-of-le, lt-irrefl, lt-of-not-le, mul-assoc, mul-comm, mul-one, one-mul, mul-right-comm, mul-le-mul-right, le-of-mul-le-mul-right, eq-of-mul-eq-mul-right, mul-pos, mul-mod-left, div-le-of-le-mul, div-add-mod'}
 use native.Mathlib.Omega.{arith}

@@ -1,12 +1,12 @@
 -- 01: who lives at a zoom; 02, request 1: whose disk reaches the rectangle, and who is shown. `s` is part 1 of a sheet and `p` part 2.
 use Prim.Native.Nat.{ℕ, _+_, _*_}
-use mathlib.Core.Bool.{Bool, true, _&&_}
+use mathlib.Core.Bool.{Bool, _&&_}
 use mathlib.Core.List.{List}
 use lib.Dec.{leb}
 use lib.IntN.{ℤ, pos, negsuc, _-ℤ_}
 use Rattle.fractions.specs.declared.Fraction.{Fraction}
 use Rattle.fractions.specs.declared.Value.{Value}
-use Rattle.fractions.specs.declared.Value.the-variants.{Never, At}
+use Rattle.fractions.specs.declared.Value.the-variants.{At}
 use Rattle.fractions.specs.Order.{later}
 use Rattle.marks.specs.Marks.{xAt, yAt, usedAt}
 use Rattle.elimination.specs.Records.{valueAt}

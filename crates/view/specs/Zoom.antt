@@ -1,6 +1,6 @@
 -- 01, "The view and its map": the zoom. z² is k²/4096 with k = 64z.
 use Prim.Native.Nat.{ℕ, _*_, _/_, _%_, _^_, _≤_}
-use mathlib.Core.Bool.{Bool, true, false, cond, _&&_}
+use mathlib.Core.Bool.{true, false, cond, _&&_}
 use lib.Dec.{leb, eqb}
 use lib.Ieee.{Float, nan, inf, fin, up, down}
 use lib.Ieee.Exact.{HasValue}

@@ -37,9 +37,6 @@ module _ (test : ℕ → Bool) where
         | no b ↦ (let q : i ≡ n = omega arith in subst⁻¹ (λ (k : ℕ). test k ≡ true) q (p .1))
       ]
 
-  pub every-iff : (n : ℕ) → (every test n ≡ true) ↔ ((i : ℕ) → i < n → test i ≡ true)
-  every-iff n = (every-at n, every-of n)
-
   -- one more, as a loop counts
   pub every-more : (i : ℕ) → every test i ≡ true → test i ≡ true → every test (i + 1) ≡ true
   unfolding every

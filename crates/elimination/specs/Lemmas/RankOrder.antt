@@ -1,57 +1,19 @@
 -- Visiting the marks in rank order: what a scan of the marks visited so far has found for the next one, and that it settles that one.
 use Prim.Native.Nat.{ℕ, suc, _<_, _≤_}
 use mathlib.Core.Path.{_≡_, refl, ap}
-use mathlib.Core.Logic.{inl, inr, _≢_}
+use mathlib.Core.Logic.{_≢_}
 use native.Mathlib.Omega.{arith}
 use native.Mathlib.Decide.{decLt, ℕ-discrete}
 use Rattle.fractions.specs.declared.Fraction.{Fraction}
-use Rattle.fractions.specs.Order.{Less, AtMost, Same, Later}
-use Rattle.fractions.specs.Laws.{order as order-of, less-atMost}
-use Rattle.elimination.specs.Marks.{Marks, Proper}
-use Rattle.elimination.specs.Process.{Removal, stays, gone, when, _over_}
+use Rattle.fractions.specs.Order.{Less, Same}
+use Rattle.elimination.specs.Marks.{Marks}
+use Rattle.elimination.specs.Process.{Removal, stays, gone, _over_}
 use Rattle.elimination.specs.Settled.{Ahead, Candidate, Best, SettledAt, Settled}
 use Rattle.elimination.specs.RankOrder.{Ranking, Stands, Found}
 use Rattle.elimination.specs.Lemmas.Settled.{settled-like}
 
 module _ (M : Marks) where
   open Marks M using (count as n, key, value)
-
-  module _ (order : ℕ → ℕ) (s : ℕ → Removal) (m : ℕ) where
-    -- the scan's steps: the mark visited at `k` takes `m` if at their value both it and, as far as is known, `m` live
-    pub found-none : Found M order s m 0 stays
-    found-none q b x = omega arith
-
-    pub found-keep : (k : ℕ) (r : Removal) → (Stands M order s m k → Later (when r) (value (order k) m) → ⊥) → Found M order s m k r → Found M order s m (suc k) r
-    found-keep k stays w x = λ q b y. elim (ℕ-discrete q k) [ yes e ↦ w (rw e at y) tt | no d ↦ x q (omega arith) y ]
-    found-keep k (gone h f) w (a, e, x) = (
-      a,
-      e,
-      record {
-        below = omega (arith, x .below);
-        exact = x .exact;
-        stands = x .stands;
-        less = x .less;
-        atMost = λ q b y.
-            elim (ℕ-discrete q k) [
-              | yes i ↦ rw i (elim (order-of f (value (order k) m)) [ inl l ↦ l | inr l ↦ absurd (w (rw i at y) l) ])
-              | no d ↦ x .atMost q (omega arith) y
-            ];
-      },
-    )
-
-    pub found-take : Proper M → (k : ℕ) (r : Removal) → Stands M order s m k → Later (when r) (value (order k) m) → Found M order s m k r
-        → Found M order s m (suc k) (gone (order k) (value (order k) m))
-    found-take ok k r y l x = (k, refl, record { below = omega arith; exact = refl; stands = y; less = less r l x; atMost = atMost })
-      where
-        less : (r : Removal) → Later (when r) (value (order k) m) → Found M order s m k r
-            → (q : ℕ) → q < k → Stands M order s m q → Less (value (order k) m) (value (order q) m)
-        less stays l x = λ q b z. absurd (x q b z)
-        less (gone h f) l (a, e, x) = λ q b z. less-atMost (ok .positive _ _) l (x .atMost q b z)
-
-        atMost : (q : ℕ) → q < suc k → Stands M order s m q → AtMost (value (order k) m) (value (order q) m)
-        atMost q b z =
-            elim (ℕ-discrete q k)
-            [ yes e ↦ rw e (omega arith) | no d ↦ (let u = less r l x q (omega arith) z in omega arith) ]
 
   -- a mark for which all the marks above it were scanned is settled
   module _ (order : ℕ → ℕ) (rank : Ranking M order) (s : ℕ → Removal) (p : ℕ) (hp : p < n) where

@@ -1,20 +1,19 @@
 -- A schedule's records, read back: each names the removal value that was written. Assumes nothing.
-use Prim.Native.Nat.{ℕ, zero, suc, _+_, _*_, _^_, _<_, _≤_}
+use Prim.Native.Nat.{ℕ, zero, suc, _+_, _*_, _<_}
 use mathlib.Core.Path.{_≡_, refl, sym, ap, _∙_}
-use mathlib.Core.Bool.{Bool, true, false, cond}
+use mathlib.Core.Bool.{cond}
 use mathlib.Core.List.{List, [], _++_, append-nil, append-assoc}
 use native.Mathlib.Omega.{arith}
 use native.Mathlib.Decide.{ℕ-discrete}
-use borrow.Author.Tests.{eq-eqb, ne-eqb}
+use borrow.Author.Tests.{ne-eqb}
 use lib.Dec.{eqb}
 use lib.ListN.{length, length-append}
-use Rattle.numbers.specs.Little.{leAt, leBytes}
-use Rattle.numbers.specs.Laws.{le-length, le-append, le-after, read-back}
+use Rattle.numbers.specs.Little.{leBytes}
+use Rattle.numbers.specs.Laws.{le-length, read-back}
 use Rattle.fractions.specs.declared.Fraction.{Fraction}
-use Rattle.fractions.specs.declared.Value.{Value}
 use Rattle.fractions.specs.declared.Value.the-variants.{Never, At}
 use Rattle.elimination.specs.Process.{Removal, stays, gone, when}
-use Rattle.elimination.specs.Records.{eliminatorAt, numAt, denAt, fractionAt, isNever, valueAt, recordBytes, removalBytes, records}
+use Rattle.elimination.specs.Records.{eliminatorAt, numAt, denAt, fractionAt, valueAt, recordBytes, removalBytes, records}
 
 -- a removal whose numbers fit their fields
 pub data Fits : Removal → Type 0 where

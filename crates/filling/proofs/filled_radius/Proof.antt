@@ -1,5 +1,4 @@
 -- `filling::filled_radius` meets its contract: 0 alone is replaced. Assumes nothing.
-use mathlib.Core.Path.{_∙_}
 use borrow.Author.Needs.{needs}
 use borrow.Author.Tests.{eq-eqb, ne-eqb}
 use Rattle.filling.specs.Filling.{filledRadius}

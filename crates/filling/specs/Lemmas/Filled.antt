@@ -1,13 +1,13 @@
 -- Each piece of a filled mark is found again: its radius is that of the old table, and all else is the mark's own.
 use Prim.Native.Nat.{ℕ, _+_, _-_, _*_, _<_, _≤_}
-use mathlib.Core.Path.{_≡_, refl, sym, ap, ap₂, _∙_}
+use mathlib.Core.Path.{_≡_, refl, sym, ap, _∙_}
 use mathlib.Core.List.{List, _++_}
 use native.Mathlib.Omega.{arith}
 use lib.ListN.{length, take, drop, length-append}
 use lib.Seq.{sets}
 use borrow.Author.Tests.{le-leb, ne-eqb, eq-eqb}
 use native.Mathlib.Decide.{decLt}
-use Rattle.numbers.specs.Little.{leAt, leBytes}
+use Rattle.numbers.specs.Little.{leBytes}
 use Rattle.numbers.specs.Laws.{le-length}
 use Rattle.marks.specs.Marks.{radiusAt, kindAt, usedAt, oldRadius, isRadius, usedRadius}
 use Rattle.marks.specs.Laws.{used-bound, old-positive, old-bound}

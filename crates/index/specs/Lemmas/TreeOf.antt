@@ -3,7 +3,7 @@
 use Prim.Native.Nat.{ℕ, zero, suc, _+_, _-_, _≤_, _<_}
 use native.Mathlib.Omega.{arith}
 use mathlib.Core.Path.{_≡_, refl, sym, ap, ap₂, _∙_}
-use mathlib.Core.Bool.{Bool, true, false, not, cond, _&&_, and-false, true≢false}
+use mathlib.Core.Bool.{Bool, true, false, not, cond, _&&_, true≢false}
 use mathlib.Core.List.{List, [], _∷_, _++_}
 use lib.ListN.{length, length-append}
 use lib.Seq.{take-at, drop-at}
@@ -32,9 +32,6 @@ Keyed key l = (axis : Bool) (v : ℕ) → count (keyed (key axis) v) l ≤ 1
 module _ (beats : ℕ → ℕ → Bool) (ord : Order beats) where
   pub self-rival : (x : ℕ) → rival beats x x ≡ false
   self-rival x = ap (λ (z : Bool). not z && not (beats x x)) (eq-eqb x x refl)
-
-  pub beaten-rival : (x y : ℕ) → beats x y ≡ true → rival beats x y ≡ false
-  beaten-rival x y h = rw h (and-false (not (eqb x y)))
 
   -- who beats b has no rivals but b's
   pub rival-pass : (x b z : ℕ) → beats x b ≡ true → rival beats x z ≡ true → rival beats b z ≡ true

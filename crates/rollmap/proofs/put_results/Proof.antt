@@ -1,5 +1,4 @@
 -- `rollmap::put_results`: the index is built from the schedule that stands before it. Assumes nothing.
-use native.Mathlib.Omega.{arith}
 use borrow.Author.Needs.{needs}
 use Rattle.rollmap.specs.Lemmas.Scheduling.{results-are}
 use Rattle.rollmap.proofs.put_results.Statement.{statement}

@@ -1,5 +1,4 @@
 -- `rollmap::view_at`: question 13, and then what the search shows. Assumes nothing.
-use native.Mathlib.Omega.{arith}
 use borrow.Author.Needs.{needs}
 use mathlib.Core.Path.{refl}
 use denote.Ref.{now}

@@ -1,6 +1,6 @@
 -- What filling writes is what Filled claims. Assumes nothing.
 use Prim.Native.Nat.{ℕ, _+_, _*_, _≤_}
-use mathlib.Core.Path.{_≡_, sym, _∙_, subst⁻¹}
+use mathlib.Core.Path.{_≡_, sym, _∙_}
 use mathlib.Core.List.{List, [], _∷_}
 use native.Mathlib.Omega.{arith}
 use lib.Dec.{leb}
@@ -9,7 +9,7 @@ use Rattle.contents.specs.Contents.{chain, join}
 use Rattle.contents.specs.Asking.{Question, _asks_, answer}
 use Rattle.contents.specs.Laws.{append-yes, join-length}
 use Rattle.bodies.specs.Questions.{markCount, part1Questions}
-use Rattle.bodies.specs.Fitting.{MarksRight, Fitting}
+use Rattle.bodies.specs.Fitting.{Fitting}
 use Rattle.bodies.specs.Laws.{part1-numbered, part1-iff}
 use Rattle.filling.specs.Filling.{filled, fillQuestions}
 use Rattle.filling.specs.Theorems.{filled-length, filled-count, filled-accepted, filled-some, filled-used, filled-again}

@@ -1,7 +1,7 @@
 -- Scheduling: the written pieces are the sheet that is defined, and each way out answers as the job says. Assumes nothing.
-use Prim.Native.Nat.{ℕ, zero, suc, _+_, _-_, _*_, _/_, _<_, _≤_}
-use mathlib.Core.Path.{_≡_, refl, sym, ap, _∙_}
-use mathlib.Core.Bool.{true, false, cond, _&&_}
+use Prim.Native.Nat.{ℕ, zero, suc, _+_, _-_, _*_, _<_, _≤_}
+use mathlib.Core.Path.{_≡_, ap, _∙_}
+use mathlib.Core.Bool.{true, false, cond}
 use mathlib.Core.List.{List, [], _∷_, _++_, append-nil, append-assoc}
 use native.Mathlib.Omega.{arith}
 use borrow.Author.Tests.{leb-true}
@@ -19,13 +19,12 @@ use Rattle.contents.specs.Contents.{split, chain, join, marksPart}
 use Rattle.contents.specs.Asking.{answer}
 use Rattle.contents.specs.Written.{contentsOf, over}
 use Rattle.contents.specs.Lemmas.Tests.{both-iff}
-use Rattle.contents.specs.Laws.{append-yes, append-no, join-contents, contents-length, join-length, sets-append, over-sets}
+use Rattle.contents.specs.Laws.{append-yes, append-no, join-contents, contents-length, sets-append, over-sets}
 use Rattle.bodies.specs.Questions.{markCount}
-use Rattle.bodies.specs.Fitting.{MarksRight}
 use Rattle.sheet.specs.Questions.{sheetCount, checkQuestions, check}
 use Rattle.sheet.specs.Laws.{check-numbered, accepted-iff}
 use Rattle.rollmap.specs.declared.Answer.{Answer}
-use Rattle.rollmap.specs.Jobs.{outcome, after, newSchedule, newIndex, newBodies, scheduled, hasRoom, scheduleQuestions, scheduleJob}
+use Rattle.rollmap.specs.Jobs.{newBodies, scheduled, hasRoom, scheduleQuestions, scheduleJob}
 use Rattle.rollmap.specs.Answers.{refusal, Gives}
 use Rattle.rollmap.specs.Steps.{resultsOver}
 use Rattle.rollmap.specs.Lemmas.Outcomes.{refused-gives, written-gives}

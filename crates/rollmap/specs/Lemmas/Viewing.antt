@@ -1,13 +1,13 @@
 -- Viewing: each way out answers as the job says. Assumes nothing.
-use Prim.Native.Nat.{ℕ, _/_, _+_, _<_, _≤_}
-use mathlib.Core.Path.{_≡_, refl, sym, ap, _∙_}
+use Prim.Native.Nat.{ℕ, _<_, _≤_}
+use mathlib.Core.Path.{_≡_, _∙_}
 use mathlib.Core.Bool.{Bool, true, false, and-false}
-use mathlib.Core.List.{List, [], _∷_, _++_}
+use mathlib.Core.List.{List, [], _∷_}
 use native.Mathlib.Omega.{arith}
 use borrow.Author.Tests.{le-leb, lt-leb}
 use lib.Dec.{leb}
-use lib.ListN.{length, drop}
-use Rattle.contents.specs.Contents.{countAt, split, has, marksPart, schedulePart, indexPart}
+use lib.ListN.{length}
+use Rattle.contents.specs.Contents.{countAt, split, marksPart, schedulePart, indexPart}
 use Rattle.contents.specs.Asking.{Question, _asks_, answer}
 use Rattle.contents.specs.Written.{over}
 use Rattle.contents.specs.Laws.{append-yes, append-no, split-length}

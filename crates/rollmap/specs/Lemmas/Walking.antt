@@ -1,7 +1,7 @@
 -- Reading a map: question 13, the walk's ends, and walking on until none is left. Assumes nothing.
-use Prim.Native.Nat.{ℕ, zero, suc, _+_, _/_, _<_, _≤_}
-use mathlib.Core.Path.{_≡_, refl, sym, ap, _∙_}
-use mathlib.Core.Bool.{Bool, true, false, cond, _&&_}
+use Prim.Native.Nat.{ℕ, zero, suc, _+_, _<_, _≤_}
+use mathlib.Core.Path.{_≡_, refl, sym, _∙_}
+use mathlib.Core.Bool.{Bool, true, false, cond}
 use mathlib.Core.List.{List, [], _∷_, _++_}
 use native.Mathlib.Omega.{arith}
 use native.Mathlib.Decide.{decLt}
@@ -12,7 +12,6 @@ use lib.ListN.{length}
 use Rattle.contents.specs.Asking.{answer}
 use Rattle.contents.specs.Lemmas.Tests.{both-iff}
 use Rattle.bitmap.specs.Map.{mapSize, bitAt, isSet, shownFrom, walk}
-use Rattle.bitmap.specs.Facts.{Walked}
 use Rattle.bitmap.specs.Laws.{walked, walk-end, walk-here, walk-past}
 use Rattle.view.specs.Questions.{isMap, walkQuestions}
 use Rattle.rollmap.specs.Jobs.{outcome, walkJob, walksFrom, isShownJob}

@@ -6,7 +6,7 @@ use native.Mathlib.Omega.{arith}
 use lib.ListN.{length, length-take}
 use borrow.Author.Needs.{needs}
 use Rattle.schedule.specs.declared.Reading.{Reading}
-use Rattle.schedule.specs.declared.Reading.the-variants.{Read, Failed}
+use Rattle.schedule.specs.declared.Reading.the-variants.{Read}
 use Rattle.schedule.specs.Reading.{Told, Reported}
 use Rattle.schedule.proofs.print_read.Statement.{statement}
 use Rattle.schedule.proofs.print_read.Tie as tie

@@ -1,6 +1,6 @@
 -- `schedule::read_input` meets its contract. The loop's invariant: the room keeps its length, and what was read lies in it. The measure is the
 -- room that is left. A full room is longer than an input may be. Assumes nothing.
-use Prim.Native.Nat.{ℕ, _≤_, _<_, _-_}
+use Prim.Native.Nat.{ℕ, _≤_, _-_}
 use mathlib.Core.Path.{_≡_, subst}
 use mathlib.Core.Logic.{inl, inr}
 use mathlib.Core.List.{List}

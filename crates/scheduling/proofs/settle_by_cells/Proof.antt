@@ -2,7 +2,7 @@
 use mathlib.Core.Path.{_∙_}
 use Rattle.scheduling.proofs.Progress.{same-kept, radius-same, processed-like}
 use native.Mathlib.Omega.{arith}
-use Prim.Native.Nat.{_≤_, _<_, _-_, _*_}
+use Prim.Native.Nat.{_≤_, _-_, _*_}
 use borrow.Author.Needs.{needs}
 use Rattle.grid.specs.Plan.{Divides}
 use Rattle.searching.specs.Cells.{Gridded}

@@ -1,16 +1,14 @@
 -- The parts of an opened sheet are its bodies, and a refused one has none.
-use Prim.Native.Nat.{ℕ, zero, suc, _+_, _<_, _≤_}
+use Prim.Native.Nat.{ℕ, zero, suc, _<_, _≤_}
 use mathlib.Core.Path.{_≡_, refl, sym, ap, _∙_}
 use mathlib.Core.List.{List, [], _∷_}
-use mathlib.Core.Bool.{Bool, true, false, cond, _&&_, false≢true}
-use mathlib.Core.Logic.{_↔_}
-use lib.Dec.{eqb, leb}
+use mathlib.Core.Bool.{Bool, true, false, cond, false≢true}
+use lib.Dec.{eqb}
 use native.Mathlib.Decide.{decLt}
 use native.Mathlib.Omega.{arith}
-use lib.ListN.{length, getD, take, drop, List·getD-eq-default}
+use lib.ListN.{length, getD, List·getD-eq-default}
 use borrow.Author.Tests.{eqb-true, eqb-false, eq-eqb, ne-eqb, le-leb, lt-leb, lt-ltb, le-ltb}
 use Rattle.sheet.specs.declared.Layout.{Layout}
-use Rattle.contents.specs.declared.Extent.{Extent}
 use Rattle.contents.specs.Contents.{countAt, offsetAt, lengthAt, startAt, split}
 use Rattle.contents.specs.Laid.{Laid}
 use Rattle.contents.specs.Extent.{nowhere, extentAt, cutOf}

@@ -1,5 +1,5 @@
 -- `text::put_decimal`: the digits of a tenth of v, and the last digit behind them. The measure is v. Assumes nothing.
-use mathlib.Core.Path.{_≡_, sym, ap, _∙_}
+use mathlib.Core.Path.{ap}
 use native.Mathlib.Omega.{arith}
 use borrow.Author.Needs.{needs}
 use lib.ListN.{length}

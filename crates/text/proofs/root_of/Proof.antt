@@ -1,5 +1,5 @@
 -- `text::root_of`: after each turn r is the root of the bits of v passed so far. Assumes nothing.
-use mathlib.Core.Path.{_≡_, _∙_, ap}
+use mathlib.Core.Path.{_≡_, _∙_}
 use Prim.Native.Nat.{_-_, _*_, _/_, _^_, _≤_}
 use native.Mathlib.Omega.{arith}
 use Rattle.text.specs.Text.{root}
