@@ -23,14 +23,16 @@ use Rattle.logs.specs.Packed.{magnitude, isMinus, withSign, areDigits, isLast, 
 use Rattle.logs.specs.Log.{placeBits, marksOfLog, logOfMarks}
 use Rattle.logs.specs.Questions.{logSize, recordQuestions, logChecks, logQuestions, marksQuestions}
 use Rattle.sheet.specs.Questions.{checkQuestions, check, assembleQuestions}
-use Rattle.view.specs.declared.Zoom.{Zoom}
-use Rattle.view.specs.declared.Zoom.the-variants.{Stop, Wheel}
-use Rattle.view.specs.Zoom.{stopScale, wheelScale, scaleOf}
-use Rattle.view.specs.Shown.{Rectangle, livesAt, gapSquared, distanceSquared, reaches, shown}
+use Rattle.zoom.specs.declared.Zoom.{Zoom}
+use Rattle.zoom.specs.declared.Zoom.the-variants.{Stop, Wheel}
+use Rattle.zoom.specs.Zoom.{stopScale, wheelScale, scaleOf}
+use Rattle.zoom.specs.Living.{livesAt}
+use Rattle.zoom.specs.Printed.{rootStep, root, zoomDown}
+use Rattle.view.specs.Shown.{Rectangle, gapSquared, distanceSquared, reaches, shown}
 use Rattle.bitmap.specs.Map.{bit, mapByte, mapPart, mapBytes, countShown}
 use Rattle.view.specs.Questions as Viewing
 use Rattle.rollmap.specs.Jobs.{outcome, checkJob, scheduled, assembleJob, fillJob, logToMarksJob, marksToLogJob, shownIn, viewJob}
-use Rattle.text.specs.Text.{digits, rootStep, root, zoomDown}
+use Rattle.text.specs.Text.{digits}
 use Rattle.report.specs.Text.{text, line, markLine, markLines, listing, refusal, printQuestions, printed}
 
 -- ---- inputs by their fields

@@ -6,7 +6,8 @@ use mathlib.Core.Bool.{cond}
 use mathlib.Core.List.{List, [], _∷_, _++_}
 use lib.ListN.{length}
 use lib.Dec.{leb, eqb}
-use Rattle.text.specs.Text.{decimal, zoomDown}
+use Rattle.text.specs.Text.{decimal}
+use Rattle.zoom.specs.Printed.{zoomDown}
 use Rattle.elimination.specs.Process.{Removal, stays, gone, process}
 use Rattle.elimination.specs.Records.{marksOf}
 use Rattle.contents.specs.Contents.{split, marksPart}

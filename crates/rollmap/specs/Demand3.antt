@@ -16,9 +16,10 @@ use Rattle.contents.specs.Asking.{answer}
 use Rattle.sheet.specs.Questions.{sheetCount, check}
 use Rattle.bitmap.specs.Map.{countShown}
 use Rattle.bitmap.specs.Facts.{Shows}
-use Rattle.view.specs.declared.Zoom.{Zoom}
-use Rattle.view.specs.Zoom.{scaleOf, scale}
-use Rattle.view.specs.Shown.{Rectangle, livesAt, reaches}
+use Rattle.zoom.specs.declared.Zoom.{Zoom}
+use Rattle.zoom.specs.Zoom.{scaleOf, scale}
+use Rattle.zoom.specs.Living.{livesAt}
+use Rattle.view.specs.Shown.{Rectangle, reaches}
 use Rattle.view.specs.Questions.{viewQuestions}
 use Rattle.rollmap.specs.declared.Answer.{Answer}
 use Rattle.rollmap.specs.Jobs.{after, ScheduledHere, viewJob}

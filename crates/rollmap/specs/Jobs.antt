@@ -15,8 +15,8 @@ use Rattle.filling.specs.Filling.{filled, fillQuestions}
 use Rattle.logs.specs.Log.{recordCount, marksOfLog, logOfMarks}
 use Rattle.logs.specs.Questions.{logQuestions, marksQuestions}
 use Rattle.sheet.specs.Questions.{sheetCount, checkQuestions, check, assembleQuestions}
-use Rattle.view.specs.declared.Zoom.{Zoom}
-use Rattle.view.specs.Zoom.{scaleOf, scale}
+use Rattle.zoom.specs.declared.Zoom.{Zoom}
+use Rattle.zoom.specs.Zoom.{scaleOf, scale}
 use Rattle.view.specs.Shown.{Rectangle, shown}
 use Rattle.bitmap.specs.Map.{mapBytes, countShown, bitAt, walk}
 use Rattle.view.specs.Questions.{viewQuestions, walkQuestions}

@@ -16,9 +16,9 @@ use Rattle.contents.specs.Laws.{append-yes, append-iff}
 use Rattle.sheet.specs.Questions.{sheetCount, checkQuestions, check}
 use Rattle.sheet.specs.Laws.{check-numbered}
 use Rattle.bitmap.specs.Map.{mapSize, mapBytes, countShown}
-use Rattle.view.specs.declared.Zoom.the-variants.{Stop, Wheel}
-use Rattle.view.specs.Zoom.{scaleOf}
-use Rattle.view.specs.ZoomLaws.{stop-wheel, stop-refused}
+use Rattle.zoom.specs.declared.Zoom.the-variants.{Stop, Wheel}
+use Rattle.zoom.specs.Zoom.{scaleOf}
+use Rattle.zoom.specs.Laws.{stop-wheel, stop-refused}
 use Rattle.view.specs.Shown.{Rectangle}
 use Rattle.view.specs.Questions.{question10, question11, isTaken, viewQuestions}
 use Rattle.rollmap.specs.declared.Answer.{Answer}

@@ -24,9 +24,10 @@ use Rattle.sheet.specs.Laws.{check-numbered, accepted-iff, assemble-iff, fittin
 use Rattle.bitmap.specs.Map.{mapSize, bit, mapBytes, countShown, shownFrom, isSet}
 use Rattle.bitmap.specs.Facts.{Shows}
 use Rattle.bitmap.specs.Laws.{map-shows, map-length, shown-set, shown-same}
-use Rattle.view.specs.declared.Zoom.{Zoom}
-use Rattle.view.specs.Zoom.{scaleOf, scale}
-use Rattle.view.specs.Shown.{Rectangle, zoomSquared, livesAt, shown}
+use Rattle.zoom.specs.declared.Zoom.{Zoom}
+use Rattle.zoom.specs.Zoom.{scaleOf, scale}
+use Rattle.zoom.specs.Living.{zoomSquared, livesAt}
+use Rattle.view.specs.Shown.{Rectangle, shown}
 use Rattle.view.specs.Questions.{viewQuestions, isMap, walkQuestions}
 use Rattle.rollmap.specs.declared.Answer.{Answer}
 use Rattle.rollmap.specs.Jobs.{Outcome, outcome, after, newBodies, scheduled, hasRoom, scheduleQuestions, scheduleJob, ScheduledHere, LeftByScheduling}

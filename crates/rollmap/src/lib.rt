@@ -1,8 +1,8 @@
 // The public library, for C and Rust.
 use sheet::Assembled;
 use view::Edges;
-use view::Scale;
-use view::Zoom;
+use zoom::Scale;
+use zoom::Zoom;
 ghost use mathlib.Core.Path.{_≡_};
 ghost use Prim.Native.Nat.{_+_, _*_, _≤_};
 ghost use lib.ListN.{length};
@@ -12,7 +12,7 @@ ghost use Rattle.contents.specs.Written.{over};
 ghost use Rattle.bodies.specs.Fitting.{MarksRight};
 ghost use Rattle.sheet.specs.Questions.{check};
 ghost use Rattle.sheet.specs.Layout.{opened, placeOf, Located};
-ghost use Rattle.view.specs.declared.Zoom.the-variants.{Stop, Wheel};
+ghost use Rattle.zoom.specs.declared.Zoom.the-variants.{Stop, Wheel};
 ghost use Rattle.view.specs.View.{rectangle};
 ghost use Rattle.view.specs.Questions.{question11, isMap};
 ghost use Rattle.rollmap.specs.Jobs.{checkJob, newBodies, hasRoom, scheduleJob, assembleJob, fillJob, logToMarksJob, marksToLogJob, viewJob, walkJob, isShownJob};
@@ -259,7 +259,7 @@ fn view(sheet: &[u8], edges: Edges, zoom: Zoom, map: &mut [u8]) -> Answer
     if !is_rectangle(edges) {
         return refused(11);
     }
-    match view::scale_of(zoom) {
+    match zoom::scale_of(zoom) {
         Scale::Refused => refused(12),
         Scale::Taken(k) => view_at(sheet, edges, k, map),
     }

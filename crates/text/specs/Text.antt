@@ -1,12 +1,11 @@
--- Numbers as text, and the integer root.
+-- Numbers as text.
 use Prim.Native.Nat.{ℕ, zero, suc, _+_, _-_, _*_, _/_, _%_}
 use mathlib.Core.Path.{_≡_}
 use mathlib.Core.Bool.{cond}
 use mathlib.Core.List.{List, [], _∷_, _++_}
 use lib.ListN.{length}
 use lib.Seq.{sets}
-use lib.Dec.{ltb, leb}
-use Rattle.fractions.specs.declared.Fraction.{Fraction}
+use lib.Dec.{ltb}
 
 -- the decimal digits of v, which has at most `width` of them
 unfoldable pub digits : ℕ → ℕ → List ℕ
@@ -21,19 +20,6 @@ decimal v = digits 20 v
 unfoldable pub denoted : ℕ → List ℕ → ℕ
 denoted v [] = v
 denoted v (d ∷ rest) = denoted (10 * v + (d - 48)) rest
-
--- the root of v from that of v / 4: doubled, and one more where that fits
-unfoldable pub rootStep : ℕ → ℕ → ℕ
-rootStep r v = cond (leb ((2 * r + 1) * (2 * r + 1)) v) (2 * r + 1) (2 * r)
-
--- the largest r with r² ≤ v, for v below 4 to the power `width`
-unfoldable pub root : ℕ → ℕ → ℕ
-root zero v = 0
-root (suc width) v = rootStep (root width (v / 4)) v
-
--- 01: "the removal zoom in 64ths, rounded down (the largest k with k² times denominator ≤ 4096 times numerator)"
-unfoldable pub zoomDown : Fraction → ℕ
-zoomDown f = root 32 (4096 * f .num / f .den)
 
 -- `after` is `before` with these bytes at `at`, and `next` is behind them
 pub record Wrote (before after : List ℕ) (at : ℕ) (bytes : List ℕ) (next : ℕ) : Type 0 where

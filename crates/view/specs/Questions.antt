@@ -5,12 +5,12 @@ use mathlib.Core.List.{List, [], _∷_, _++_}
 use lib.ListN.{length}
 use lib.Dec.{leb, eqb}
 use lib.Signed.{leZ}
+use Rattle.zoom.specs.declared.Zoom.{Zoom}
+use Rattle.zoom.specs.declared.Scale.{Scale}
+use Rattle.zoom.specs.Zoom.{scaleOf, scaleNumber}
 use Rattle.contents.specs.Contents.{split, has}
 use Rattle.contents.specs.Asking.{Question, _asks_}
 use Rattle.sheet.specs.Questions.{checkQuestions, sheetCount}
-use Rattle.view.specs.declared.Zoom.{Zoom}
-use Rattle.view.specs.declared.Scale.{Scale}
-use Rattle.view.specs.Zoom.{scaleOf, scaleNumber}
 use Rattle.view.specs.Shown.{Rectangle}
 use Rattle.bitmap.specs.Map.{mapSize}
 

@@ -9,13 +9,14 @@ use lib.Dec.{ltb, leb, eqb}
 use lib.IntN.{ℤ}
 use Rattle.marks.specs.Marks.{shifted, usedAt}
 use Rattle.elimination.specs.Records.{valueAt}
+use Rattle.zoom.specs.Living.{livesAt}
 use Rattle.index.specs.Count.{count, both}
 use Rattle.index.specs.Index.{beats, coordinate, axisKey}
 use Rattle.index.specs.Valid.{isTree}
 use Rattle.index.specs.Blocks.{entryAt, block}
 use Rattle.index.specs.Check.{Whole, AllBelow}
 use Rattle.bitmap.specs.Map.{mapSize, bitAt}
-use Rattle.view.specs.Shown.{Rectangle, livesAt}
+use Rattle.view.specs.Shown.{Rectangle}
 use Rattle.view.specs.declared.Bounds.{Bounds}
 
 -- ---- the bounds

@@ -1,15 +1,12 @@
--- 01: who lives at a zoom; 02, request 1: whose disk reaches the rectangle, and who is shown. `s` is part 1 of a sheet and `p` part 2.
+-- 02, request 1: whose disk reaches the rectangle, and who is shown. `s` is part 1 of a sheet and `p` part 2.
 use Prim.Native.Nat.{ℕ, _+_, _*_}
 use mathlib.Core.Bool.{Bool, _&&_}
 use mathlib.Core.List.{List}
 use lib.Dec.{leb}
 use lib.IntN.{ℤ, pos, negsuc, _-ℤ_}
-use Rattle.fractions.specs.declared.Fraction.{Fraction}
-use Rattle.fractions.specs.declared.Value.{Value}
-use Rattle.fractions.specs.declared.Value.the-variants.{At}
-use Rattle.fractions.specs.Order.{later}
 use Rattle.marks.specs.Marks.{xAt, yAt, usedAt}
 use Rattle.elimination.specs.Records.{valueAt}
+use Rattle.zoom.specs.Living.{livesAt}
 
 -- "the edges x0, x1, y0, y1": a view's rectangle
 pub record Rectangle : Type 0 where
@@ -17,14 +14,6 @@ pub record Rectangle : Type 0 where
   pub x1 : ℤ
   pub y0 : ℤ
   pub y1 : ℤ
-
--- "z² is k²/4096 with k = 64z"
-abbrev pub zoomSquared : ℕ → Fraction
-zoomSquared k = record { num = k * k; den = 4096 }
-
--- "A mark lives at z exactly when z² is below its removal value, or it has none."
-unfoldable pub livesAt : ℕ → Value → Bool
-livesAt k v = later v (At (zoomSquared k))
 
 -- how far one place lies above another, from their difference: 0 where it does not
 abbrev pub above : ℤ → ℕ

@@ -1,63 +1,15 @@
-// Zoom, the search down the index, the map and the count. `marks`, `schedule` and `index` are the bytes of parts 1, 2 and 3 of a
+// Who is shown: the search down the index, the map and the count. `marks`, `schedule` and `index` are the bytes of parts 1, 2 and 3 of a
 // sheet; an `axis` is true for x.
-use fractions::Fraction;
-use fractions::Value;
 ghost use mathlib.Core.Path.{_≡_};
 ghost use mathlib.Core.List.{[], _∷_};
 ghost use Prim.Native.Nat.{_+_, _*_, _/_, _<_, _≤_};
 ghost use lib.ListN.{length};
 ghost use lib.IntN.{_-ℤ_};
-ghost use Rattle.elimination.specs.Records.{valueAt};
 ghost use Rattle.index.specs.Blocks.{entryAt, block};
 ghost use Rattle.index.specs.Check.{AllMarked};
-ghost use Rattle.view.specs.Zoom.{scaleOf, wheelScale};
-ghost use Rattle.view.specs.Shown.{livesAt, above, gapSquared, reaches, shown};
+ghost use Rattle.view.specs.Shown.{above, gapSquared, reaches, shown};
 ghost use Rattle.view.specs.View.{rectangle, Viewable, Viewed};
 ghost use Rattle.view.specs.Search.{wider, widestLiving, moved, boundsOf, boundOn, isBeyond, sizeToSearch, BitsSet, Searchable};
-
-// ---- the zoom
-
-// 01: "For the viewer a zoom is either a stop or a wheel value."
-pub enum Zoom {
-    Stop(u8),
-    Wheel(f32),
-}
-
-// k = 64z, or refusal 12.
-pub enum Scale {
-    Taken(u32),
-    Refused,
-}
-
-// The tests on w keep the product in range, so that it is exact; the whole part cast back to a float tells that nothing is cut off.
-fn wheel_scale(w: f32) -> Scale
-    ensures { λ r. ⌜ r ≡ wheelScale w ⌝ }
-{
-    if w >= 0.015625 {
-        if w <= 1024.0 {
-            let p = w * 64.0;
-            let t = std::num::truncating_f32_to_u64(p);
-            if t as f32 == p {
-                return Scale::Taken(p as u32);
-            }
-        }
-    }
-    Scale::Refused
-}
-
-// k = 64z of a zoom that is taken. The stop is tested before the shift, whose amount would wrap.
-pub fn scale_of(zoom: Zoom) -> Scale
-    ensures { λ r. ⌜ r ≡ scaleOf zoom ⌝ }
-{
-    match zoom {
-        Zoom::Stop(s) => if s <= 16 {
-            Scale::Taken(1u32 << s)
-        } else {
-            Scale::Refused
-        },
-        Zoom::Wheel(w) => wheel_scale(w),
-    }
-}
 
 // ---- who is shown
 
@@ -67,16 +19,6 @@ pub struct Edges {
     pub x1: i16,
     pub y0: i16,
     pub y1: i16,
-}
-
-// Does mark m live at z = k/64?
-pub fn lives(schedule: &[u8], k: u32, m: usize) -> bool
-    requires { ⌜ 14 * m + 14 ≤ length (now schedule) ⌝ }
-    ensures { λ r. ⌜ r ≡ livesAt k (valueAt (now (schedule .entry)) m) ⌝ }
-{
-    let num = k as u64 * k as u64;
-    let zoom = Value::At(Fraction { num, den: 4096 });
-    fractions::later(elimination::value_at(schedule, m), zoom)
 }
 
 // How far place a lies above place b: 0 where it does not.
@@ -147,7 +89,7 @@ fn wider(marks: &[u8], schedule: &[u8], k: u32, widest: u16, m: usize) -> u16
     if radius <= widest {
         return widest;
     }
-    if lives(schedule, k, m) {
+    if zoom::lives(elimination::value_at(schedule, m), k) {
         radius
     } else {
         widest
@@ -268,7 +210,7 @@ fn search(
         return;
     }
     let root = index::entry(index, lo);
-    if !lives(schedule, k, root) {
+    if !zoom::lives(elimination::value_at(schedule, root), k) {
         return;
     }
     visit(marks, view, k, root, map);

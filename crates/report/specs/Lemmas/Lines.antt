@@ -6,7 +6,8 @@ use native.Mathlib.Numerals.{add-one}
 use native.Mathlib.Omega.{arith}
 use lib.ListN.{length, length-append, set}
 use Rattle.fractions.specs.declared.Fraction.{Fraction}
-use Rattle.text.specs.Text.{decimal, zoomDown, Wrote}
+use Rattle.text.specs.Text.{decimal, Wrote}
+use Rattle.zoom.specs.Printed.{zoomDown}
 use Rattle.text.specs.Laws.{digits-bound, wrote-byte, wrote-then, wrote-length}
 use Rattle.elimination.specs.Process.{Removal, stays, gone}
 use Rattle.report.specs.Text.{text, line, markLine, markLines, listing, refusal}

@@ -9,7 +9,7 @@ use Rattle.contents.specs.Contents.{countAt}
 use Rattle.contents.specs.Lemmas.Tests.{said-no, said-yes}
 use Rattle.sheet.specs.Questions.{check}
 use Rattle.sheet.specs.Laws.{accepted-iff}
-use Rattle.view.specs.ZoomLaws.{scale-most}
+use Rattle.zoom.specs.Laws.{scale-most}
 use Rattle.view.specs.View.{rectangle}
 use Rattle.view.specs.Questions.{question11}
 use Rattle.rollmap.specs.Lemmas.Viewing.{view-refused, view-no-parts, view-no-rectangle, view-no-zoom, view-taken}

@@ -15,9 +15,9 @@ use Rattle.sheet.specs.Questions.{sheetCount, checkQuestions, check}
 use Rattle.sheet.specs.Laws.{check-numbered, accepted-iff}
 use Rattle.bitmap.specs.Map.{mapSize, mapBytes, countShown}
 use Rattle.bitmap.specs.Laws.{map-length}
-use Rattle.view.specs.declared.Zoom.{Zoom}
-use Rattle.view.specs.declared.Scale.the-variants.{Taken, Refused}
-use Rattle.view.specs.Zoom.{scaleOf}
+use Rattle.zoom.specs.declared.Zoom.{Zoom}
+use Rattle.zoom.specs.declared.Scale.the-variants.{Taken, Refused}
+use Rattle.zoom.specs.Zoom.{scaleOf}
 use Rattle.view.specs.Shown.{Rectangle, shown}
 use Rattle.view.specs.View.{Viewable, Viewed}
 use Rattle.view.specs.Questions.{question10, question11, isTaken, viewQuestions}

@@ -4,6 +4,8 @@ use Prim.Native.Nat.{ℕ, _<_}
 use native.Mathlib.Omega.{arith}
 use mathlib.Core.Path.{sym, _∙_}
 use mathlib.Core.Bool.{true, false}
+use mathlib.Core.Logic.{_≢_}
+use borrow.Author.Needs.{needs}
 use borrow.Author.Tests.{not-true, not-false}
 use denote.Ref.{now}
 use borrow.Fn.Kinds.{In}
@@ -16,7 +18,8 @@ use Rattle.view.proofs.search.Reads as reads
 use Rattle.view.proofs.search.Kinds as kinds
 use Rattle.view.proofs.+search.Lts-search as lts
 use Rattle.index.proofs.entry.Reads as entry
-use Rattle.view.proofs.lives.Reads as lives
+use Rattle.elimination.proofs.value_at.Reads as value-at
+use Rattle.zoom.proofs.lives.Reads as lives
 use Rattle.view.proofs.size_to_search.Reads as size-to-search
 use Rattle.view.proofs.visit.Reads as visit
 use Rattle.view.proofs.+search.{statement}
@@ -34,6 +37,8 @@ module _ (t : ℕ) where
   claims = (
     entry.Asked,
     entry.Learnt,
+    value-at.Asked,
+    value-at.Learnt,
     lives.Asked,
     lives.Learnt,
     visit.Asked,
@@ -44,29 +49,38 @@ module _ (t : ℕ) where
     reads.Post,
   )
 
+  -- `e` is where the root has been read, `start e` the call's start and `some e` that the block is not empty
+  abbrev start : lts.After-entry claims given reads.Post → lts.Start claims given reads.Post
+  start e = e .before .before .before .before .before .before
+
+  abbrev some : (e : lts.After-entry claims given reads.Post) → start e .args .size ≢ 0
+  some e = e .before .if1 .left
+
   returns : lts.Need-returns claims given reads.Post
   returns c = rw (c .if1 .taken) (set-nothing _ _)
 
   entry-requires : lts.Need-entry-requires claims given reads.Post
   entry-requires c κs = omega arith
 
+  value-at-requires : lts.Need-value-at-requires claims given reads.Post
+  value-at-requires c κs = root-fits (start c .pre .1) (some c) (c .entry .ensures .0) .1
+
   lives-requires : lts.Need-lives-requires claims given reads.Post
-  lives-requires c κs =
-      let a = c .before .before .before .before .before .before in
-      root-fits (a .pre .1) (c .before .if1 .left) (c .entry .ensures .0) .1
+  lives-requires c κs = search needs
 
   returns-2 : lts.Need-returns-2 claims given reads.Post
   returns-2 c =
-      let a = c .before .before .before .before .before .before .before .before in
-      let dead = sym (c .before .lives .ensures) ∙ not-true _ (c .if2 .taken) in
-      block-none (a .pre .1) (c .before .before .before .if1 .left) (c .before .before .entry .ensures .0) dead
+      let v = c .before .before in
+      let e = v .before in
+      let dead = sym (rw (v .value-at .ensures) at (c .before .lives .ensures)) ∙ not-true _ (c .if2 .taken) in
+      block-none (start e .pre .1) (some e) (e .entry .ensures .0) dead
 
   visit-requires : lts.Need-visit-requires claims given reads.Post
   visit-requires c κs =
-      let r = c .before .before .before in
-      let a = r .before .before .before .before .before .before in
-      let f = root-fits (a .pre .1) (r .before .if1 .left) (r .entry .ensures .0) in
-      (f .0, a .pre .1 .taken, f .2)
+      let e = c .before .before .before .before in
+      let r = start e .pre .1 in
+      let f = root-fits r (some e) (e .entry .ensures .0) in
+      (f .0, r .taken, f .2)
 
   sub-second : lts.Need-sub-second claims given reads.Post
   sub-second c = omega arith
@@ -80,36 +94,33 @@ module _ (t : ℕ) where
   add-q : lts.Need-add-q claims given reads.Post
   add-q c = omega arith
 
-  -- from here on `v` is where the root has been visited, and `start v` the call's start
-  abbrev start : lts.After-visit claims given reads.Post → lts.Start claims given reads.Post
-  start v = v .before .before .before .before .before .before .before .before .before .before
+  -- from here on `v` is where the root has been visited
+  abbrev found : lts.After-visit claims given reads.Post → lts.After-entry claims given reads.Post
+  found v = v .before .before .before .before .before
 
   size-to-search-requires : lts.Need-size-to-search-requires claims given reads.Post
   size-to-search-requires c κs =
-      let v = c .before .before in
-      let a = start v in
-      (all-marked (a .pre .1) (v .before .before .before .before .before .if1 .left), omega arith)
+      let e = found (c .before .before) in
+      (all-marked (start e .pre .1) (some e), omega arith)
 
   search-requires : lts.Need-search-requires claims given reads.Post
   search-requires c κs =
       let v = c .before .before .before .before in
-      let a = start v in
-      half-call (a .pre .1) (v .before .before .before .before .before .if1 .left) true
-      (c .before .size-to-search .ensures) (a .pre .0) (v .visit .ensures .long)
+      let e = found v in
+      half-call (start e .pre .1) (some e) true (c .before .size-to-search .ensures) (start e .pre .0) (v .visit .ensures .long)
 
   size-to-search-requires-2 : lts.Need-size-to-search-requires-2 claims given reads.Post
   size-to-search-requires-2 c κs =
-      let v = c .before .before .before .before .before .before .before in
-      let a = start v in
-      (all-marked (a .pre .1) (v .before .before .before .before .before .if1 .left), omega arith)
+      let e = found (c .before .before .before .before .before .before .before) in
+      (all-marked (start e .pre .1) (some e), omega arith)
 
   search-requires-2 : lts.Need-search-requires-2 claims given reads.Post
   search-requires-2 c κs =
       let w = c .before .before .before .before in
       let v = w .before .before .before .before .before in
-      let a = start v in
-      half-call (a .pre .1) (v .before .before .before .before .before .if1 .left) false
-      (c .before .size-to-search2 .ensures) (a .pre .0) (w .search .ensures .long ∙ v .visit .ensures .long)
+      let e = found v in
+      half-call (start e .pre .1) (some e) false (c .before .size-to-search2 .ensures) (start e .pre .0)
+      (w .search .ensures .long ∙ v .visit .ensures .long)
 
   same-length : lts.Need-same-length claims given reads.Post
   same-length c =
@@ -121,12 +132,12 @@ module _ (t : ℕ) where
   returns-3 c =
       let w = c .before .before .before .before .before .before .before in
       let v = w .before .before .before .before .before in
-      let a = start v in
-      let alive = sym (v .before .before .before .lives .ensures) ∙ not-false _ (v .before .before .if2 .left) in
-      let g = a .args in
-      let same = living-shown (now (g .marks)) (now (g .schedule)) (g .k) (rectangle (g .view)) _ alive in
-      block-set (a .pre .1) (v .before .before .before .before .before .if1 .left)
-      (v .before .before .before .before .entry .ensures .0) (set-same _ same (v .visit .ensures))
+      let e = found v in
+      let a = start e .args in
+      let l = v .before .before .before in
+      let alive = sym (rw (l .before .value-at .ensures) at (l .lives .ensures)) ∙ not-false _ (v .before .before .if2 .left) in
+      let same = living-shown (now (a .marks)) (now (a .schedule)) (a .k) (rectangle (a .view)) _ alive in
+      block-set (start e .pre .1) (some e) (e .entry .ensures .0) (set-same _ same (v .visit .ensures))
       (w .before .before .size-to-search .ensures) (w .search .ensures)
       (c .before .before .before .before .size-to-search2 .ensures) (c .before .before .search2 .ensures)
 
@@ -134,6 +145,7 @@ pub +search-spec : {M : Type 1} → statement M
 +search-spec = close size-of λ t. lts.spec (claims t) (given t) reads.Post
     (returns t)
     (entry-requires t)
+    (value-at-requires t)
     (lives-requires t)
     (returns-2 t)
     (visit-requires t)

@@ -12,20 +12,25 @@ returns : tie.Need-returns
 unfolding wider
 returns c = rw (le-leb _ _ (rw (c .before .radius-at .ensures) at (c .if1 .taken)))
 
+value-at-requires : tie.Need-value-at-requires
+value-at-requires c κs = search needs
+
 lives-requires : tie.Need-lives-requires
 lives-requires c κs = search needs
 
 returns-2 : tie.Need-returns-2
 unfolding wider
 returns-2 c =
-    let r = c .before .before .before .radius-at .ensures in
-    rw (lt-leb _ _ (rw r at (c .before .before .if1 .left)), ← c .before .lives .ensures, c .if2 .taken) r
+    let v = c .before .before in
+    let r = v .before .before .radius-at .ensures in
+    rw (lt-leb _ _ (rw r at (v .before .if1 .left)), ← v .value-at .ensures, ← c .before .lives .ensures, c .if2 .taken) r
 
 returns-3 : tie.Need-returns-3
 unfolding wider
 returns-3 c =
-    let r = c .before .before .before .radius-at .ensures in
-    rw (lt-leb _ _ (rw r at (c .before .before .if1 .left)), ← c .before .lives .ensures, c .if2 .left)
+    let v = c .before .before in
+    let r = v .before .before .radius-at .ensures in
+    rw (lt-leb _ _ (rw r at (v .before .if1 .left)), ← v .value-at .ensures, ← c .before .lives .ensures, c .if2 .left)
 
 pub wider-spec : {M : Type 1} → statement M
-wider-spec = tie.close (tie.spec radius-at-requires returns lives-requires returns-2 returns-3)
+wider-spec = tie.close (tie.spec radius-at-requires returns value-at-requires lives-requires returns-2 returns-3)

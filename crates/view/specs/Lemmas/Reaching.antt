@@ -13,9 +13,10 @@ use lib.Signed.{mag}
 use borrow.Author.Tests.{leb-true, leb-false, le-leb}
 use Rattle.marks.specs.Marks.{xAt, yAt, shifted, usedAt}
 use Rattle.elimination.specs.Records.{valueAt}
+use Rattle.zoom.specs.Living.{livesAt}
 use Rattle.index.specs.Index.{coordinate}
 use Rattle.index.specs.Lemmas.Count.{by-cases, and-left, and-right}
-use Rattle.view.specs.Shown.{Rectangle, livesAt, above, gapSquared, distanceSquared, reaches, shown}
+use Rattle.view.specs.Shown.{Rectangle, above, gapSquared, distanceSquared, reaches, shown}
 use Rattle.view.specs.Search.{wider, widestLiving, moved, boundsOf, Within}
 use Rattle.view.specs.Lemmas.Places.{above-sub, shifted-from, from-above}
 

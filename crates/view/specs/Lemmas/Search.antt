@@ -10,6 +10,7 @@ use lib.ListN.{length}
 use lib.Dec.{eqb}
 use borrow.Author.Tests.{ltb-true, lt-ltb, eqb-false}
 use Rattle.elimination.specs.Records.{valueAt}
+use Rattle.zoom.specs.Living.{zoomSquared, livesAt}
 use Rattle.index.specs.Count.{count, non, both, below}
 use Rattle.index.specs.Index.{beats, coordinate, axisKey}
 use Rattle.index.specs.Valid.{valid, isTree}
@@ -18,7 +19,6 @@ use Rattle.index.specs.Check.{AllMarked}
 use Rattle.index.specs.Laws.{block-halves, none-later, none-left, none-right}
 use Rattle.index.specs.Lemmas.Count.{by-cases, and-left, and-right, count-le, count-split, both-le}
 use Rattle.index.specs.Lemmas.Blocks.{block-all}
-use Rattle.view.specs.Shown.{zoomSquared, livesAt}
 use Rattle.view.specs.declared.Bounds.{Bounds}
 use Rattle.view.specs.Search.{boundOn, Within, isBeyond, sizeToSearch, BitsSet, Searchable}
 use Rattle.view.specs.Lemmas.Bits.{set-nothing, set-none, set-then}

@@ -17,9 +17,9 @@ use lib.Ieee.Order.{le-of-values}
 use lib.Ieee.Scale.{round-same}
 use lib.Ieee.Casts.{toUnsigned-cut}
 use lib.Ieee.Positive.{num, den, den-pos, positive, positive-of-value, value→cross, first-pos, le→cross, between, mul-at}
-use Rattle.view.specs.Zoom.{Is64}
+use Rattle.zoom.specs.Zoom.{Is64}
 
--- ---- the code's numbers: 1/64, 1024, 64, 1 and 0
+-- ---- the code's numbers: 1/64, 1024 and 64
 abbrev pub lo : Float
 lo = fin false 1 (negsuc 5)
 
@@ -28,12 +28,6 @@ hi = fin false 1 (pos 10)
 
 abbrev pub by : Float
 by = fin false 1 (pos 6)
-
-abbrev pub one : Float
-one = fin false 1 (pos 0)
-
-abbrev pub none : Float
-none = fin false 0 (pos 0)
 
 -- ---- m * 2 ^ e times a power of two, where nothing overflows, is not rounded
 shift : ℤ → ℕ → ℕ

@@ -1,12 +1,12 @@
--- `text::root_step`: the definition's own test; the square of a number below 2³² fits. Assumes nothing.
+-- `zoom::root_step`: the definition's own test; the square of a number below 2³² fits. Assumes nothing.
 use Prim.Native.Nat.{_+_, _*_, _≤_}
 use native.Mathlib.Omega.{arith}
 use native.Mathlib.Nat.{mul-le-mul}
 use borrow.Author.Tests.{le-leb, lt-leb}
-use Rattle.text.specs.Text.{rootStep}
+use Rattle.zoom.specs.Printed.{rootStep}
 use borrow.Author.Needs.{needs}
-use Rattle.text.proofs.root_step.Statement.{statement}
-use Rattle.text.proofs.root_step.Tie as tie
+use Rattle.zoom.proofs.root_step.Statement.{statement}
+use Rattle.zoom.proofs.root_step.Tie as tie
 
 mul-more : tie.Need-mul-more
 mul-more c = search needs

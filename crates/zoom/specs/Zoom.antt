@@ -4,10 +4,10 @@ use mathlib.Core.Bool.{true, false, cond, _&&_}
 use lib.Dec.{leb, eqb}
 use lib.Ieee.{Float, nan, inf, fin, up, down}
 use lib.Ieee.Exact.{HasValue}
-use Rattle.view.specs.declared.Zoom.{Zoom}
-use Rattle.view.specs.declared.Zoom.the-variants.{Stop, Wheel}
-use Rattle.view.specs.declared.Scale.{Scale}
-use Rattle.view.specs.declared.Scale.the-variants.{Taken, Refused}
+use Rattle.zoom.specs.declared.Zoom.{Zoom}
+use Rattle.zoom.specs.declared.Zoom.the-variants.{Stop, Wheel}
+use Rattle.zoom.specs.declared.Scale.{Scale}
+use Rattle.zoom.specs.declared.Scale.the-variants.{Taken, Refused}
 
 -- "Stop s, 0 to 16, means 64z = 2 to the power s."
 unfoldable pub stopScale : ℕ → Scale

@@ -1,10 +1,11 @@
--- `view::scale_of`: by the zoom's two cases; a stop up to 16 shifts without loss. Assumes nothing.
+-- `zoom::scale_of`: by the zoom's two cases; a stop up to 16 shifts without loss. Assumes nothing.
 use mathlib.Core.Path.{sym, ap, _∙_}
 use borrow.Author.Needs.{needs}
-use Rattle.view.proofs.scale_of.Statement.{statement}
-use Rattle.view.proofs.scale_of.Tie as tie
-use Rattle.view.specs.Zoom.{scaleOf}
-use Rattle.view.specs.ZoomLaws.{stop-shifted, stop-refused}
+use Rattle.zoom.proofs.scale_of.Statement.{statement}
+use Rattle.zoom.proofs.scale_of.Tie as tie
+use Rattle.zoom.specs.Zoom.{scaleOf}
+use Rattle.zoom.specs.Laws.{stop-refused}
+use Rattle.zoom.specs.Lemmas.Wheels.{stop-shifted}
 
 enum-known-zoom : tie.Need-enum-known-zoom
 enum-known-zoom c = search needs

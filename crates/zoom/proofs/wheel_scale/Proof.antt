@@ -1,13 +1,13 @@
--- `view::wheel_scale`: in range the product is exact; where a test fails, no k is 64 times w. Assumes nothing.
+-- `zoom::wheel_scale`: in range the product is exact; where a test fails, no k is 64 times w. Assumes nothing.
 use mathlib.Core.Path.{_≡_, sym, subst}
 use mathlib.Core.Bool.{Bool, false}
 use lib.Dec.{T}
 use lib.Ieee.{ofBits}
 use denote.Floats as F
-use Rattle.view.proofs.Wheel.{asked, small, taken, passes}
-use Rattle.view.proofs.wheel_scale.Statement.{statement}
-use Rattle.view.proofs.wheel_scale.Tie as tie
-use Rattle.view.specs.ZoomLaws.{wheel-is, wheel-none}
+use Rattle.zoom.proofs.Wheel.{asked, small, taken, passes}
+use Rattle.zoom.proofs.wheel_scale.Statement.{statement}
+use Rattle.zoom.proofs.wheel_scale.Tie as tie
+use Rattle.zoom.specs.Lemmas.Wheels.{wheel-is, wheel-none}
 
 fails : (b : Bool) → b ≡ false → T b → ⊥
 fails b e t = subst T e t

@@ -1,8 +1,8 @@
--- `text::zoom_down`: the quotient fits, and its root is the zoom. Assumes nothing.
-use Rattle.text.specs.Text.{zoomDown}
+-- `zoom::zoom_down`: the quotient fits, and its root is the zoom. Assumes nothing.
+use Rattle.zoom.specs.Printed.{zoomDown}
 use borrow.Author.Needs.{needs}
-use Rattle.text.proofs.zoom_down.Statement.{statement}
-use Rattle.text.proofs.zoom_down.Tie as tie
+use Rattle.zoom.proofs.zoom_down.Statement.{statement}
+use Rattle.zoom.proofs.zoom_down.Tie as tie
 
 mul-root-of : tie.Need-mul-root-of
 mul-root-of c = search needs

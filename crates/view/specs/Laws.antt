@@ -1,18 +1,23 @@
--- That the distance of Shown is one: a disk reaches the rectangle exactly when it holds a place of it. Assumes nothing.
+-- That the distance of Shown is one: a disk reaches the rectangle exactly when it holds a place of it. And what asking a zoom answers.
+-- Assumes nothing.
 use Prim.Native.Nat.{ℕ, suc, _+_, _-_, _*_, _<_, _≤_}
 use native.Mathlib.Omega.{arith}
 use native.Mathlib.Nat.{mul-le-mul}
-use mathlib.Core.Path.{_≡_}
+use mathlib.Core.Path.{_≡_, refl}
 use mathlib.Core.Bool.{true, false}
-use mathlib.Core.List.{List}
+use mathlib.Core.List.{List, [], _∷_}
 use mathlib.Core.Logic.{_↔_}
 use lib.IntN.{ℤ, pos, negsuc, _-ℤ_, natAbs}
 use lib.Signed.{mag, leZ}
 use borrow.Author.Tests.{leb-true, le-leb}
 use Rattle.marks.specs.Marks.{xAt, yAt, usedAt, square}
+use Rattle.zoom.specs.declared.Scale.{Scale}
+use Rattle.zoom.specs.declared.Scale.the-variants.{Taken, Refused}
+use Rattle.zoom.specs.Zoom.{scaleNumber}
+use Rattle.contents.specs.Asking.{_asks_, answer}
 use Rattle.index.specs.Lemmas.Count.{by-cases, and-left, and-right}
 use Rattle.view.specs.Shown.{Rectangle, above, gapSquared, distanceSquared, reaches}
-use Rattle.view.specs.Questions.{question11}
+use Rattle.view.specs.Questions.{question11, isTaken}
 use Rattle.view.specs.Lemmas.Places.{from, from-above, from-abs, from-le, from-lt}
 
 -- ---- what is said
@@ -131,3 +136,11 @@ module _ (s : List ℕ) (k : ℕ) (e : Rectangle) (m : ℕ) where
   -- "its disk at z reaches the rectangle, touching included"
   pub reaches-iff : question11 e ≡ true → (reaches s k e m ≡ true) ↔ Held s k e m
   reaches-iff order = (reaches-held order, held-reaches)
+
+-- ---- the zoom
+
+-- Asking question 12 of a zoom answers its number.
+pub zoom-answer : (r : Scale) → answer ((12 asks isTaken r) ∷ []) ≡ scaleNumber r
+unfolding answer
+zoom-answer (Taken k) = refl
+zoom-answer Refused = refl

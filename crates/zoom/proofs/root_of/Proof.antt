@@ -1,11 +1,11 @@
--- `text::root_of`: after each turn r is the root of the bits of v passed so far. Assumes nothing.
+-- `zoom::root_of`: after each turn r is the root of the bits of v passed so far. Assumes nothing.
 use mathlib.Core.Path.{_≡_, _∙_}
 use Prim.Native.Nat.{_-_, _*_, _/_, _^_, _≤_}
 use native.Mathlib.Omega.{arith}
-use Rattle.text.specs.Text.{root}
-use Rattle.text.specs.Laws.{root-none, root-half, root-turn, root-all}
-use Rattle.text.proofs.root_of.Statement.{statement}
-use Rattle.text.proofs.root_of.Tie as tie
+use Rattle.zoom.specs.Printed.{root}
+use Rattle.zoom.specs.Lemmas.Roots.{root-none, root-half, root-turn, root-all}
+use Rattle.zoom.proofs.root_of.Statement.{statement}
+use Rattle.zoom.proofs.root_of.Tie as tie
 
 abbrev Inv-loop : tie.InvT-loop
 Inv-loop v r₀ left₀ r left = (left ≤ 32) × (r ≡ root (32 - left) (v / 2 ^ (2 * left)))
