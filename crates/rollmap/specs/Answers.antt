@@ -5,7 +5,7 @@ use mathlib.Core.List.{List}
 use lib.IntN.{ℤ}
 use lib.ListN.{length}
 use Rattle.contents.specs.declared.Extent as Sheet
-use Rattle.view.specs.Shown.{Rectangle}
+use Rattle.view.specs.declared.Rectangle.{Rectangle}
 use Rattle.rollmap.specs.declared.Answer.{Answer}
 use Rattle.rollmap.specs.declared.Extent.{Extent}
 use Rattle.rollmap.specs.Jobs.{Outcome, after}

@@ -19,7 +19,8 @@ use Rattle.bitmap.specs.Facts.{Shows}
 use Rattle.zoom.specs.declared.Zoom.{Zoom}
 use Rattle.zoom.specs.Zoom.{scaleOf, scale}
 use Rattle.zoom.specs.Living.{livesAt}
-use Rattle.view.specs.Shown.{Rectangle, reaches}
+use Rattle.view.specs.declared.Rectangle.{Rectangle}
+use Rattle.view.specs.Shown.{reaches}
 use Rattle.view.specs.Questions.{viewQuestions}
 use Rattle.rollmap.specs.declared.Answer.{Answer}
 use Rattle.rollmap.specs.Jobs.{after, ScheduledHere, viewJob}

@@ -17,7 +17,8 @@ use Rattle.logs.specs.Questions.{logQuestions, marksQuestions}
 use Rattle.sheet.specs.Questions.{sheetCount, checkQuestions, check, assembleQuestions}
 use Rattle.zoom.specs.declared.Zoom.{Zoom}
 use Rattle.zoom.specs.Zoom.{scaleOf, scale}
-use Rattle.view.specs.Shown.{Rectangle, shown}
+use Rattle.view.specs.declared.Rectangle.{Rectangle}
+use Rattle.view.specs.Shown.{shown}
 use Rattle.bitmap.specs.Map.{mapBytes, countShown, bitAt, walk}
 use Rattle.view.specs.Questions.{viewQuestions, walkQuestions}
 

@@ -8,7 +8,8 @@ use Rattle.index.specs.Index.{indexOf, indexBytes}
 use Rattle.contents.specs.Contents.{split, marksPart, schedulePart}
 use Rattle.contents.specs.Asking.{_asks_}
 use Rattle.sheet.specs.Questions.{sheetCount}
-use Rattle.view.specs.Shown.{Rectangle, shown}
+use Rattle.view.specs.declared.Rectangle.{Rectangle}
+use Rattle.view.specs.Shown.{shown}
 use Rattle.bitmap.specs.Map.{mapSize, mapBytes, countShown}
 use Rattle.rollmap.specs.Jobs.{Outcome, outcome}
 

@@ -19,7 +19,7 @@ use Rattle.bitmap.specs.Map.{mapSize, mapBytes, countShown}
 use Rattle.zoom.specs.declared.Zoom.the-variants.{Stop, Wheel}
 use Rattle.zoom.specs.Zoom.{scaleOf}
 use Rattle.zoom.specs.Laws.{stop-wheel, stop-refused}
-use Rattle.view.specs.Shown.{Rectangle}
+use Rattle.view.specs.declared.Rectangle.{Rectangle}
 use Rattle.view.specs.Questions.{question10, question11, isTaken, viewQuestions}
 use Rattle.rollmap.specs.declared.Answer.{Answer}
 use Rattle.rollmap.specs.Jobs.{shownIn, viewJob}

@@ -27,7 +27,8 @@ use Rattle.bitmap.specs.Laws.{map-shows, map-length, shown-set, shown-same}
 use Rattle.zoom.specs.declared.Zoom.{Zoom}
 use Rattle.zoom.specs.Zoom.{scaleOf, scale}
 use Rattle.zoom.specs.Living.{zoomSquared, livesAt}
-use Rattle.view.specs.Shown.{Rectangle, shown}
+use Rattle.view.specs.declared.Rectangle.{Rectangle}
+use Rattle.view.specs.Shown.{shown}
 use Rattle.view.specs.Questions.{viewQuestions, isMap, walkQuestions}
 use Rattle.rollmap.specs.declared.Answer.{Answer}
 use Rattle.rollmap.specs.Jobs.{Outcome, outcome, after, newBodies, scheduled, hasRoom, scheduleQuestions, scheduleJob, ScheduledHere, LeftByScheduling}

@@ -1,6 +1,6 @@
 // The public library, for C and Rust.
 use sheet::Assembled;
-use view::Edges;
+use view::Rectangle;
 use zoom::Scale;
 use zoom::Zoom;
 ghost use mathlib.Core.Path.{_≡_};
@@ -13,7 +13,6 @@ ghost use Rattle.bodies.specs.Fitting.{MarksRight};
 ghost use Rattle.sheet.specs.Questions.{check};
 ghost use Rattle.sheet.specs.Layout.{opened, placeOf, Located};
 ghost use Rattle.zoom.specs.declared.Zoom.the-variants.{Stop, Wheel};
-ghost use Rattle.view.specs.View.{rectangle};
 ghost use Rattle.view.specs.Questions.{question11, isMap};
 ghost use Rattle.rollmap.specs.Jobs.{checkJob, newBodies, hasRoom, scheduleJob, assembleJob, fillJob, logToMarksJob, marksToLogJob, viewJob, walkJob, isShownJob};
 ghost use Rattle.rollmap.specs.Answers.{refusal, answerOf, extentOf, edges, Gives, Lent};
@@ -221,16 +220,16 @@ pub extern "C" fn rollmap_marks_to_log(marks: &[u8], out: &mut [u8]) -> Answer
 // ---- viewing
 
 // 11. Is x0 ≤ x1 and y0 ≤ y1?
-fn is_rectangle(e: Edges) -> bool
-    ensures { λ r. ⌜ r ≡ question11 (rectangle e) ⌝ }
+fn is_rectangle(e: Rectangle) -> bool
+    ensures { λ r. ⌜ r ≡ question11 e ⌝ }
 {
     (e.x0 <= e.x1) & (e.y0 <= e.y1)
 }
 
 // The view of an accepted sheet of three parts at z = k/64: question 13, and then the map and the count.
-fn view_at(sheet: &[u8], edges: Edges, k: u32, map: &mut [u8]) -> Answer
+fn view_at(sheet: &[u8], rectangle: Rectangle, k: u32, map: &mut [u8]) -> Answer
     requires { ⌜ (check (now sheet) ≡ 0) × (countAt (now sheet) ≡ 3) × (k ≤ 65536) ⌝ }
-    ensures { λ r. ⌜ Gives (viewAt (now (sheet .entry)) (rectangle edges) k (length (now (map .entry)))) (now (map .entry)) r (now (map .exit)) ⌝ }
+    ensures { λ r. ⌜ Gives (viewAt (now (sheet .entry)) rectangle k (length (now (map .entry)))) (now (map .entry)) r (now (map .exit)) ⌝ }
 {
     let marks = contents::body(sheet, 0);
     let n = marks.len() / 11;
@@ -241,13 +240,13 @@ fn view_at(sheet: &[u8], edges: Edges, k: u32, map: &mut [u8]) -> Answer
     let index = contents::body(sheet, 2);
     Answer {
         number: 0,
-        value: view::show(marks, schedule, index, n, edges, k, map),
+        value: view::show(marks, schedule, index, n, rectangle, k, map),
     }
 }
 
 // Writes the map of a view, and answers how many marks it shows: questions 1 to 13.
-fn view(sheet: &[u8], edges: Edges, zoom: Zoom, map: &mut [u8]) -> Answer
-    ensures { λ r. ⌜ Gives (viewJob (now (sheet .entry)) (rectangle edges) zoom (length (now (map .entry)))) (now (map .entry)) r (now (map .exit)) ⌝ }
+fn view(sheet: &[u8], rectangle: Rectangle, zoom: Zoom, map: &mut [u8]) -> Answer
+    ensures { λ r. ⌜ Gives (viewJob (now (sheet .entry)) rectangle zoom (length (now (map .entry)))) (now (map .entry)) r (now (map .exit)) ⌝ }
 {
     let number = sheet::check(sheet);
     if number != 0 {
@@ -256,12 +255,12 @@ fn view(sheet: &[u8], edges: Edges, zoom: Zoom, map: &mut [u8]) -> Answer
     if contents::count_at(sheet) < 3 {
         return refused(10);
     }
-    if !is_rectangle(edges) {
+    if !is_rectangle(rectangle) {
         return refused(11);
     }
     match zoom::scale_of(zoom) {
         Scale::Refused => refused(12),
-        Scale::Taken(k) => view_at(sheet, edges, k, map),
+        Scale::Taken(k) => view_at(sheet, rectangle, k, map),
     }
 }
 
@@ -279,7 +278,7 @@ pub extern "C" fn rollmap_view_stop(
     ensures { λ r. ⌜ Gives (viewJob (now (sheet .entry)) (edges x0 x1 y0 y1) (Stop stop) (length (now (map .entry)))) (now (map .entry)) r (now (map .exit)) ⌝ }
     ensures { λ r. ⌜ MeetsView (now (sheet .entry)) (edges x0 x1 y0 y1) (Stop stop) r (now (map .exit)) × MeetsStop (now (sheet .entry)) (edges x0 x1 y0 y1) stop (now (map .entry)) r (now (map .exit)) ⌝ }
 {
-    view(sheet, Edges { x0, x1, y0, y1 }, Zoom::Stop(stop), map)
+    view(sheet, Rectangle { x0, x1, y0, y1 }, Zoom::Stop(stop), map)
 }
 
 // The view at a wheel value; of a sheet scheduled here it meets demand 3.
@@ -296,7 +295,7 @@ pub extern "C" fn rollmap_view_wheel(
     ensures { λ r. ⌜ Gives (viewJob (now (sheet .entry)) (edges x0 x1 y0 y1) (Wheel wheel) (length (now (map .entry)))) (now (map .entry)) r (now (map .exit)) ⌝ }
     ensures { λ r. ⌜ MeetsView (now (sheet .entry)) (edges x0 x1 y0 y1) (Wheel wheel) r (now (map .exit)) ⌝ }
 {
-    view(sheet, Edges { x0, x1, y0, y1 }, Zoom::Wheel(wheel), map)
+    view(sheet, Rectangle { x0, x1, y0, y1 }, Zoom::Wheel(wheel), map)
 }
 
 // ---- reading a map

@@ -16,7 +16,8 @@ use Rattle.zoom.specs.declared.Scale.the-variants.{Taken, Refused}
 use Rattle.zoom.specs.Zoom.{scaleNumber}
 use Rattle.contents.specs.Asking.{_asks_, answer}
 use Rattle.index.specs.Lemmas.Count.{by-cases, and-left, and-right}
-use Rattle.view.specs.Shown.{Rectangle, above, gapSquared, distanceSquared, reaches}
+use Rattle.view.specs.declared.Rectangle.{Rectangle}
+use Rattle.view.specs.Shown.{above, gapSquared, distanceSquared, reaches}
 use Rattle.view.specs.Questions.{question11, isTaken}
 use Rattle.view.specs.Lemmas.Places.{from, from-above, from-abs, from-le, from-lt}
 

@@ -11,7 +11,7 @@ use Rattle.zoom.specs.Zoom.{scaleOf, scaleNumber}
 use Rattle.contents.specs.Contents.{split, has}
 use Rattle.contents.specs.Asking.{Question, _asks_}
 use Rattle.sheet.specs.Questions.{checkQuestions, sheetCount}
-use Rattle.view.specs.Shown.{Rectangle}
+use Rattle.view.specs.declared.Rectangle.{Rectangle}
 use Rattle.bitmap.specs.Map.{mapSize}
 
 -- 10. "Are parts 2 and 3 there?"

@@ -16,7 +16,7 @@ use Rattle.index.specs.Valid.{isTree}
 use Rattle.index.specs.Blocks.{entryAt, block}
 use Rattle.index.specs.Check.{Whole, AllBelow}
 use Rattle.bitmap.specs.Map.{mapSize, bitAt}
-use Rattle.view.specs.Shown.{Rectangle}
+use Rattle.view.specs.declared.Rectangle.{Rectangle}
 use Rattle.view.specs.declared.Bounds.{Bounds}
 
 -- ---- the bounds

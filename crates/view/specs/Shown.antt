@@ -7,13 +7,7 @@ use lib.IntN.{ℤ, pos, negsuc, _-ℤ_}
 use Rattle.marks.specs.Marks.{xAt, yAt, usedAt}
 use Rattle.elimination.specs.Records.{valueAt}
 use Rattle.zoom.specs.Living.{livesAt}
-
--- "the edges x0, x1, y0, y1": a view's rectangle
-pub record Rectangle : Type 0 where
-  pub x0 : ℤ
-  pub x1 : ℤ
-  pub y0 : ℤ
-  pub y1 : ℤ
+use Rattle.view.specs.declared.Rectangle.{Rectangle}
 
 -- how far one place lies above another, from their difference: 0 where it does not
 abbrev pub above : ℤ → ℕ

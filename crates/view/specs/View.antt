@@ -7,12 +7,6 @@ use lib.ListN.{length, drop}
 use Rattle.index.specs.Index.{isIndex}
 use Rattle.index.specs.Check.{Whole}
 use Rattle.bitmap.specs.Map.{mapSize, mapBytes, countShown}
-use Rattle.view.specs.Shown.{Rectangle}
-use Rattle.view.specs.declared.Edges.{Edges}
-
--- the edges as the code holds them
-abbrev pub rectangle : Edges → Rectangle
-rectangle e = record { x0 = e .x0; x1 = e .x1; y0 = e .y0; y1 = e .y1 }
 
 -- What the caller must ensure: the parts are those of a sheet that questions 7 and 9 accept, and the map has room.
 pub record Viewable (s p t map : List ℕ) (n : ℕ) : Type 0 where

@@ -8,13 +8,13 @@ ghost use lib.IntN.{_-ℤ_};
 ghost use Rattle.index.specs.Blocks.{entryAt, block};
 ghost use Rattle.index.specs.Check.{AllMarked};
 ghost use Rattle.view.specs.Shown.{above, gapSquared, reaches, shown};
-ghost use Rattle.view.specs.View.{rectangle, Viewable, Viewed};
+ghost use Rattle.view.specs.View.{Viewable, Viewed};
 ghost use Rattle.view.specs.Search.{wider, widestLiving, moved, boundsOf, boundOn, isBeyond, sizeToSearch, BitsSet, Searchable};
 
 // ---- who is shown
 
 // "the edges x0, x1, y0, y1": a view's rectangle.
-pub struct Edges {
+pub struct Rectangle {
     pub x0: i16,
     pub x1: i16,
     pub y0: i16,
@@ -44,12 +44,12 @@ fn gap_squared(low: i16, high: i16, place: i16) -> u64
 
 // Does mark m's disk at z = k/64 reach the rectangle, touching included? Both products fit 64 bits. Where the point lies inside the radius
 // is not read: in a view of all places no mark's is.
-pub fn reaches(marks: &[u8], view: Edges, k: u32, m: usize) -> bool
+pub fn reaches(marks: &[u8], rectangle: Rectangle, k: u32, m: usize) -> bool
     requires { ⌜ (11 * m + 11 ≤ length (now marks)) × (k ≤ 65536) ⌝ }
-    ensures { λ r. ⌜ r ≡ reaches (now (marks .entry)) k (rectangle view) m ⌝ }
+    ensures { λ r. ⌜ r ≡ reaches (now (marks .entry)) k rectangle m ⌝ }
 {
-    let x = gap_squared(view.x0, view.x1, marks::place_x(marks, m));
-    let y = gap_squared(view.y0, view.y1, marks::place_y(marks, m));
+    let x = gap_squared(rectangle.x0, rectangle.x1, marks::place_x(marks, m));
+    let y = gap_squared(rectangle.y0, rectangle.y1, marks::place_y(marks, m));
     let squared = x + y;
     if squared == 0 {
         return true;
@@ -60,11 +60,11 @@ pub fn reaches(marks: &[u8], view: Edges, k: u32, m: usize) -> bool
 }
 
 // Sets mark m's bit if its disk at z reaches the rectangle.
-fn visit(marks: &[u8], view: Edges, k: u32, m: usize, map: &mut [u8])
+fn visit(marks: &[u8], rectangle: Rectangle, k: u32, m: usize, map: &mut [u8])
     requires { ⌜ (11 * m + 11 ≤ length (now marks)) × (k ≤ 65536) × (m / 8 < length (now map)) ⌝ }
-    ensures { λ _. ⌜ BitsSet (reaches (now (marks .entry)) k (rectangle view)) (m ∷ []) (now (map .entry)) (now (map .exit)) ⌝ }
+    ensures { λ _. ⌜ BitsSet (reaches (now (marks .entry)) k rectangle) (m ∷ []) (now (map .entry)) (now (map .exit)) ⌝ }
 {
-    if reaches(marks, view, k, m) {
+    if reaches(marks, rectangle, k, m) {
         bitmap::set_bit(map, m);
     }
 }
@@ -127,16 +127,16 @@ fn moved(edge: i16, low: bool, by: u64) -> u64
 }
 
 // The rectangle widened by what a disk of the radius `widest` takes up at z = k/64, rounded down: distances on an axis are whole.
-fn bounds_of(view: Edges, k: u32, widest: u16) -> Bounds
+fn bounds_of(rectangle: Rectangle, k: u32, widest: u16) -> Bounds
     requires { ⌜ k ≤ 65536 ⌝ }
-    ensures { λ r. ⌜ r ≡ boundsOf (rectangle view) k widest ⌝ }
+    ensures { λ r. ⌜ r ≡ boundsOf rectangle k widest ⌝ }
 {
     let by = k as u64 * widest as u64 / 64;
     Bounds {
-        x0: moved(view.x0, true, by),
-        x1: moved(view.x1, false, by),
-        y0: moved(view.y0, true, by),
-        y1: moved(view.y1, false, by),
+        x0: moved(rectangle.x0, true, by),
+        x1: moved(rectangle.x1, false, by),
+        y0: moved(rectangle.y0, true, by),
+        y1: moved(rectangle.y1, false, by),
     }
 }
 
@@ -195,7 +195,7 @@ fn search(
     marks: &[u8],
     schedule: &[u8],
     index: &[u8],
-    view: Edges,
+    rectangle: Rectangle,
     bounds: Bounds,
     k: u32,
     map: &mut [u8],
@@ -203,8 +203,8 @@ fn search(
     size: usize,
     axis: bool,
 )
-    requires { ⌜ Searchable (shown (now marks) (now schedule) k (rectangle view)) (now marks) (now schedule) (now index) (now map) bounds k lo size axis ⌝ }
-    ensures { λ _. ⌜ BitsSet (shown (now (marks .entry)) (now (schedule .entry)) k (rectangle view)) (block (entryAt (now (index .entry))) lo size) (now (map .entry)) (now (map .exit)) ⌝ }
+    requires { ⌜ Searchable (shown (now marks) (now schedule) k rectangle) (now marks) (now schedule) (now index) (now map) bounds k lo size axis ⌝ }
+    ensures { λ _. ⌜ BitsSet (shown (now (marks .entry)) (now (schedule .entry)) k rectangle) (block (entryAt (now (index .entry))) lo size) (now (map .entry)) (now (map .exit)) ⌝ }
 {
     if size == 0 {
         return;
@@ -213,20 +213,31 @@ fn search(
     if !zoom::lives(elimination::value_at(schedule, root), k) {
         return;
     }
-    visit(marks, view, k, root, map);
+    visit(marks, rectangle, k, root, map);
     // Of the others the first half is the larger: half of `size`, rounded down, since `size` counts the root too.
     let first = size / 2;
     let second = size - 1 - first;
     let p = lo + 1;
     let q = p + first;
     let left = size_to_search(marks, index, bounds, axis, true, q, second, first);
-    search(marks, schedule, index, view, bounds, k, map, p, left, !axis);
+    search(
+        marks,
+        schedule,
+        index,
+        rectangle,
+        bounds,
+        k,
+        map,
+        p,
+        left,
+        !axis,
+    );
     let right = size_to_search(marks, index, bounds, axis, false, p, first, second);
     search(
         marks,
         schedule,
         index,
-        view,
+        rectangle,
         bounds,
         k,
         map,
@@ -242,16 +253,27 @@ pub fn show(
     schedule: &[u8],
     index: &[u8],
     n: usize,
-    view: Edges,
+    rectangle: Rectangle,
     k: u32,
     map: &mut [u8],
 ) -> u32
     requires { ⌜ Viewable (now marks) (now schedule) (now index) (now map) n × (k ≤ 65536) ⌝ }
-    ensures { λ r. ⌜ Viewed (shown (now (marks .entry)) (now (schedule .entry)) k (rectangle view)) n (now (map .entry)) (now (map .exit)) r ⌝ }
+    ensures { λ r. ⌜ Viewed (shown (now (marks .entry)) (now (schedule .entry)) k rectangle) n (now (map .entry)) (now (map .exit)) r ⌝ }
 {
     let size = (n + 7) / 8;
     bitmap::clear(map, size);
-    let bounds = bounds_of(view, k, widest_living(marks, schedule, k, n));
-    search(marks, schedule, index, view, bounds, k, map, 0, n, true);
+    let bounds = bounds_of(rectangle, k, widest_living(marks, schedule, k, n));
+    search(
+        marks,
+        schedule,
+        index,
+        rectangle,
+        bounds,
+        k,
+        map,
+        0,
+        n,
+        true,
+    );
     bitmap::count(map, size) as u32
 }

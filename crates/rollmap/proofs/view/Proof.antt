@@ -10,7 +10,6 @@ use Rattle.contents.specs.Lemmas.Tests.{said-no, said-yes}
 use Rattle.sheet.specs.Questions.{check}
 use Rattle.sheet.specs.Laws.{accepted-iff}
 use Rattle.zoom.specs.Laws.{scale-most}
-use Rattle.view.specs.View.{rectangle}
 use Rattle.view.specs.Questions.{question11}
 use Rattle.rollmap.specs.Lemmas.Viewing.{view-refused, view-no-parts, view-no-rectangle, view-no-zoom, view-taken}
 use Rattle.rollmap.proofs.view.Statement.{statement}
@@ -25,7 +24,7 @@ three : (c : tie.Else2) → 3 ≤ countAt (now (c .before .before .before .befor
 three c = rw (c .before .count-at .ensures) at (c .if2 .left)
 
 -- and the edges are in order
-right : (c : tie.Else3) → question11 (rectangle (c .before .before .before .before .before .before .before .before .args .edges)) ≡ true
+right : (c : tie.Else3) → question11 (c .before .before .before .before .before .before .before .before .args .rectangle) ≡ true
 right c = said-yes (c .before .is-rectangle .ensures) (c .if3 .left)
 
 check-requires : tie.Need-check-requires

@@ -18,7 +18,8 @@ use Rattle.bitmap.specs.Laws.{map-length}
 use Rattle.zoom.specs.declared.Zoom.{Zoom}
 use Rattle.zoom.specs.declared.Scale.the-variants.{Taken, Refused}
 use Rattle.zoom.specs.Zoom.{scaleOf}
-use Rattle.view.specs.Shown.{Rectangle, shown}
+use Rattle.view.specs.declared.Rectangle.{Rectangle}
+use Rattle.view.specs.Shown.{shown}
 use Rattle.view.specs.View.{Viewable, Viewed}
 use Rattle.view.specs.Questions.{question10, question11, isTaken, viewQuestions}
 use Rattle.rollmap.specs.declared.Answer.{Answer}

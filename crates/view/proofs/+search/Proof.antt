@@ -10,7 +10,6 @@ use borrow.Author.Tests.{not-true, not-false}
 use denote.Ref.{now}
 use borrow.Fn.Kinds.{In}
 use borrow.Fn.PlainCycle.{Measures, is, falls, and}
-use Rattle.view.specs.View.{rectangle}
 use Rattle.view.specs.Lemmas.Reaching.{living-shown}
 use Rattle.view.specs.Lemmas.Bits.{set-nothing, set-same}
 use Rattle.view.specs.Lemmas.Search.{root-fits, all-marked, block-none, half-call, block-set}
@@ -136,7 +135,7 @@ module _ (t : ℕ) where
       let a = start e .args in
       let l = v .before .before .before in
       let alive = sym (rw (l .before .value-at .ensures) at (l .lives .ensures)) ∙ not-false _ (v .before .before .if2 .left) in
-      let same = living-shown (now (a .marks)) (now (a .schedule)) (a .k) (rectangle (a .view)) _ alive in
+      let same = living-shown (now (a .marks)) (now (a .schedule)) (a .k) (a .rectangle) _ alive in
       block-set (start e .pre .1) (some e) (e .entry .ensures .0) (set-same _ same (v .visit .ensures))
       (w .before .before .size-to-search .ensures) (w .search .ensures)
       (c .before .before .before .before .size-to-search2 .ensures) (c .before .before .search2 .ensures)

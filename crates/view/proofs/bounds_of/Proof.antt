@@ -35,7 +35,7 @@ returns c =
     let y0 = c .before .before in
     let x1 = y0 .before .before in
     let x0 = x1 .before .before in
-    let e = x0 .before .before .args .view in
+    let e = x0 .before .before .args .rectangle in
     let told = x0 .before .struct-told .given in
     rw (
       rw (toZ-ofZ {z = e .x0} (sfits-of (told .0 .1))) at (x0 .moved .ensures),

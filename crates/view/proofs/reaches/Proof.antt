@@ -10,7 +10,6 @@ use mir.Syntax.{w16}
 use denote.Ref.{now}
 use Rattle.marks.specs.Marks.{xAt, yAt}
 use Rattle.view.specs.Shown.{gapSquared}
-use Rattle.view.specs.View.{rectangle}
 use Rattle.view.specs.Lemmas.Reaching.{reached, reached-inside}
 use Rattle.view.proofs.reaches.Statement.{statement}
 use Rattle.view.proofs.reaches.Tie as tie
@@ -30,9 +29,9 @@ module _ (g : tie.After-gap-squared2) where
   abbrev marks-bytes : List ℕ
   marks-bytes = now (start .args .marks)
 
-  x-gap : y-read .before .gap-squared .result ≡ gapSquared (start .args .view .x0) (start .args .view .x1) (xAt marks-bytes (start .args .m))
+  x-gap : y-read .before .gap-squared .result ≡ gapSquared (start .args .rectangle .x0) (start .args .rectangle .x1) (xAt marks-bytes (start .args .m))
   x-gap =
-      let e = start .args .view in
+      let e = start .args .rectangle in
       let told = y-read .before .before .before .struct-told .given in
       rw (
         toZ-ofZ {z = e .x0} (sfits-of (told .0 .1)),
@@ -40,9 +39,9 @@ module _ (g : tie.After-gap-squared2) where
         toZ-ofZ {w = w16} {z = x-read .place-x .result} (sfits-of (x-read .place-x .ok)) ∙ x-read .place-x .ensures,
       ) at (y-read .before .gap-squared .ensures .0)
 
-  y-gap : g .gap-squared2 .result ≡ gapSquared (start .args .view .y0) (start .args .view .y1) (yAt marks-bytes (start .args .m))
+  y-gap : g .gap-squared2 .result ≡ gapSquared (start .args .rectangle .y0) (start .args .rectangle .y1) (yAt marks-bytes (start .args .m))
   y-gap =
-      let e = start .args .view in
+      let e = start .args .rectangle in
       let told = y-read .before .before .before .struct-told .given in
       rw (
         toZ-ofZ {z = e .y0} (sfits-of (told .1 .1 .0 .1)),
@@ -71,7 +70,7 @@ returns : tie.Need-returns
 returns c =
     let g = c .before in
     let a = start g .args in
-    reached-inside (marks-bytes g) (a .k) (rectangle (a .view)) (a .m) (x-gap g) (y-gap g) (c .if1 .taken)
+    reached-inside (marks-bytes g) (a .k) (a .rectangle) (a .m) (x-gap g) (y-gap g) (c .if1 .taken)
 
 radius-at-requires : tie.Need-radius-at-requires
 radius-at-requires c κs = search needs
@@ -102,7 +101,7 @@ returns-2 : tie.Need-returns-2
 returns-2 c =
     let g = c .before .before in
     let a = start g .args in
-    reached (marks-bytes g) (a .k) (rectangle (a .view)) (a .m) (x-gap g) (y-gap g) (c .radius-at .ensures)
+    reached (marks-bytes g) (a .k) (a .rectangle) (a .m) (x-gap g) (y-gap g) (c .radius-at .ensures)
 
 pub reaches-spec : {M : Type 1} → statement M
 reaches-spec =

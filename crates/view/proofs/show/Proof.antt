@@ -3,7 +3,6 @@ use native.Mathlib.Omega.{arith}
 use denote.Ref.{now}
 use borrow.Author.Needs.{needs}
 use Rattle.view.specs.Shown.{shown}
-use Rattle.view.specs.View.{rectangle}
 use Rattle.view.specs.Lemmas.Views.{whole-searchable, viewed, count-fits}
 use Rattle.view.proofs.show.Statement.{statement}
 use Rattle.view.proofs.show.Tie as tie
@@ -25,7 +24,7 @@ search-requires c κs =
     let w = c .before .before in
     let d = w .before .before .before in
     let a = d .before .before .before .before .before .before in
-    whole-searchable (a .pre .0) (a .args .k) (rectangle (a .args .view)) (d .clear .ensures .long) (a .pre .1)
+    whole-searchable (a .pre .0) (a .args .k) (a .args .rectangle) (d .clear .ensures .long) (a .pre .1)
     (rw (w .widest-living .ensures) at (c .before .bounds-of .ensures))
 
 count-requires : tie.Need-count-requires
@@ -45,7 +44,7 @@ returns c =
     let d = f .before .before .before .before .before .before in
     let a = d .before .before .before .before .before .before in
     let v = a .args in
-    viewed (a .pre .0) {shown = shown (now (v .marks)) (now (v .schedule)) (v .k) (rectangle (v .view))} (d .clear .ensures) (f .search .ensures)
+    viewed (a .pre .0) {shown = shown (now (v .marks)) (now (v .schedule)) (v .k) (v .rectangle)} (d .clear .ensures) (f .search .ensures)
     (λ i. c .before .before .slice-known3 .given i .fits) (c .count .ensures)
 
 pub show-spec : {M : Type 1} → statement M

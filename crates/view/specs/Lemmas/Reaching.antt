@@ -16,7 +16,8 @@ use Rattle.elimination.specs.Records.{valueAt}
 use Rattle.zoom.specs.Living.{livesAt}
 use Rattle.index.specs.Index.{coordinate}
 use Rattle.index.specs.Lemmas.Count.{by-cases, and-left, and-right}
-use Rattle.view.specs.Shown.{Rectangle, above, gapSquared, distanceSquared, reaches, shown}
+use Rattle.view.specs.declared.Rectangle.{Rectangle}
+use Rattle.view.specs.Shown.{above, gapSquared, distanceSquared, reaches, shown}
 use Rattle.view.specs.Search.{wider, widestLiving, moved, boundsOf, Within}
 use Rattle.view.specs.Lemmas.Places.{above-sub, shifted-from, from-above}
 

@@ -20,7 +20,8 @@ use Rattle.bitmap.specs.Laws.{map-is, cleared-bit, count-shown}
 use Rattle.bitmap.specs.Lemmas.Counts.{count-le as bits-le}
 use Rattle.view.specs.View.{Viewable, Viewed}
 use Rattle.view.specs.declared.Bounds.{Bounds}
-use Rattle.view.specs.Shown.{Rectangle, shown}
+use Rattle.view.specs.declared.Rectangle.{Rectangle}
+use Rattle.view.specs.Shown.{shown}
 use Rattle.view.specs.Search.{widestLiving, boundsOf, inByte, BitsSet, Searchable}
 use Rattle.view.specs.Lemmas.Reaching.{shown-lives, shown-within}
 
