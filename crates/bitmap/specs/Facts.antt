@@ -5,7 +5,8 @@ use mathlib.Core.Bool.{Bool}
 use mathlib.Core.List.{List}
 use mathlib.Core.Logic.{_≢_}
 use lib.ListN.{length, getD}
-use Rattle.bitmap.specs.Map.{mapSize, bit, bitAt}
+use Rattle.lists.specs.Tests.{bit}
+use Rattle.bitmap.specs.Map.{mapSize, bitAt}
 
 -- ---- maps
 

@@ -6,8 +6,9 @@ use mathlib.Core.List.{List, _++_}
 use native.Mathlib.Omega.{arith}
 use lib.Dec.{eqb}
 use lib.ListN.{length, getD, drop}
+use Rattle.lists.specs.Tests.{bit}
 use Rattle.numbers.specs.Little.{Bytes}
-use Rattle.bitmap.specs.Map.{mapSize, bit, mapBytes, countShown, shownFrom, bitAt, isSet, nextSet, walk}
+use Rattle.bitmap.specs.Map.{mapSize, mapBytes, countShown, shownFrom, bitAt, isSet, nextSet, walk}
 use Rattle.bitmap.specs.Facts.{Shows, Cleared, Walked, countBits}
 use Rattle.bitmap.specs.Lemmas.Bits.{bit-zero}
 use Rattle.bitmap.specs.Lemmas.Counts as Counts

@@ -1,19 +1,16 @@
 -- 01, "The view and its map": the map of one bit a mark, the count, and the walk.
 use Prim.Native.Nat.{ℕ, zero, suc, _+_, _-_, _*_, _/_, _%_, _^_}
-use mathlib.Core.Bool.{Bool, true, false, cond, _&&_}
+use mathlib.Core.Bool.{Bool, cond, _&&_}
 use mathlib.Core.List.{List, [], _∷_, _++_}
 use lib.ListN.{getD}
 use lib.Dec.{ltb, eqb}
+use Rattle.lists.specs.Tests.{bit}
 
 -- ---- the bytes that a view writes; `shown m` says whether mark m is shown
 
 -- "bytes after the first ⌈n/8⌉ aren't touched"
 abbrev pub mapSize : ℕ → ℕ
 mapSize n = (n + 7) / 8
-
-abbrev pub bit : Bool → ℕ
-bit true = 1
-bit false = 0
 
 -- "mark m is bit m mod 8 of byte m / 8": the first `width` bits of the byte whose first mark is `from`
 unfoldable pub mapByte : (ℕ → Bool) → ℕ → ℕ → ℕ

@@ -4,13 +4,14 @@ use mathlib.Core.Bool.{Bool, _&&_, _||_}
 use mathlib.Core.List.{List, [], _∷_, _++_}
 use lib.ListN.{length}
 use lib.Dec.{ltb, leb, eqb}
+use Rattle.lists.specs.Tests.{every}
 use Rattle.fractions.specs.declared.Fraction.{Fraction}
 use Rattle.fractions.specs.Order.{later}
 use Rattle.marks.specs.Marks.{kindAt, radiusAt, isKind, isRadius, outranks, touching}
 use Rattle.elimination.specs.Records.{eliminatorAt, fractionAt, isNever, valueAt}
 use Rattle.index.specs.Index.{isIndex}
 use Rattle.contents.specs.Contents.{has, marksPart, schedulePart, indexPart}
-use Rattle.contents.specs.Asking.{Question, _asks_, inTurn, every, ifThere}
+use Rattle.contents.specs.Asking.{Question, _asks_, inTurn, ifThere}
 
 -- ---- of part 1, `s`
 

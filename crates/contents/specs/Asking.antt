@@ -1,6 +1,6 @@
 -- 01, "Questions put in turn".
 use Prim.Native.Nat.{ℕ, zero, suc}
-use mathlib.Core.Bool.{Bool, true, cond, _&&_}
+use mathlib.Core.Bool.{Bool, true, cond}
 use mathlib.Core.List.{List, [], _∷_, _++_}
 
 -- a question's number, and whether the answer is 'yes'
@@ -21,11 +21,6 @@ answer (q ∷ rest) = cond (q .holds) (answer rest) (q .number)
 unfoldable pub inTurn : (ℕ → List Question) → ℕ → List Question
 inTurn ask zero = []
 inTurn ask (suc n) = inTurn ask n ++ ask n
-
--- `test` holds of every number below n
-unfoldable pub every : (ℕ → Bool) → ℕ → Bool
-every test zero = true
-every test (suc n) = every test n && test n
 
 -- a question about something that may be missing
 abbrev pub ifThere : Bool → Bool → Bool

@@ -12,7 +12,7 @@ use Rattle.contents.specs.Contents.{countAt, contentsSize, split, chain,
 use Rattle.contents.specs.Asking.{Question, answer}
 use Rattle.contents.specs.Questions.{contentsQuestions}
 use Rattle.contents.specs.Laid.{Laid}
-use Rattle.contents.specs.Written.{contentsOf, over}
+use Rattle.contents.specs.Written.{contentsOf}
 use Rattle.contents.specs.Lemmas.Asked as Asked
 use Rattle.contents.specs.Lemmas.Asked.{Numbered}
 use Rattle.contents.specs.Lemmas.Laid as Laying
@@ -74,15 +74,8 @@ contents-length = Entries.contents-length
 pub join-length : (bodies : List (List ℕ)) → length (join bodies) ≡ contentsSize (length bodies) + length (chain bodies)
 join-length = Entries.join-length
 
--- one run of stores after another is the run of both
-pub sets-append : (l : List ℕ) (i : ℕ) (v w : List ℕ) → sets l i (v ++ w) ≡ sets (sets l i v) (i + length v) w
-sets-append = Writing.sets-append
-
--- and so of three
+-- three bodies, one after the other
 pub bodies-sets : (l : List ℕ) {l₁ l₂ l₃ : List ℕ} (a b c : List ℕ) (at : ℕ) {i j : ℕ}
     → (i ≡ at + length a) × (l₁ ≡ sets l at a) → (j ≡ i + length b) × (l₂ ≡ sets l₁ i b) → l₃ ≡ sets l₂ j c
     → l₃ ≡ sets l at (a ++ (b ++ c))
 bodies-sets = Writing.bodies-sets
-
-pub over-sets : (w buffer : List ℕ) → length w ≤ length buffer → sets buffer 0 w ≡ over w buffer
-over-sets = Writing.over-sets

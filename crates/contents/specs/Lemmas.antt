@@ -1,5 +1,4 @@
 -- The lemmas behind Laws, in the order in which they build on one another.
-pub mod Tests
 pub mod Asked
 pub mod Turns
 pub mod Parts

@@ -4,8 +4,9 @@ use mathlib.Core.Bool.{Bool, _&&_}
 use mathlib.Core.List.{List, [], _∷_}
 use lib.ListN.{length}
 use lib.Dec.{leb, eqb}
+use Rattle.lists.specs.Tests.{every}
 use Rattle.contents.specs.Contents.{countAt, codeAt, offsetAt, startAt, contentsSize}
-use Rattle.contents.specs.Asking.{Question, _asks_, every}
+use Rattle.contents.specs.Asking.{Question, _asks_}
 
 -- "1 to 3 parts"
 abbrev pub isCount : ℕ → Bool

@@ -1,7 +1,7 @@
--- Writing a sheet: the contents, which depend on the bodies' sizes alone, the bodies behind them, and what is kept of the buffer.
+-- Writing a sheet: the contents, which depend on the bodies' sizes alone, and the bodies behind them.
 use Prim.Native.Nat.{ℕ, suc, _+_}
 use mathlib.Core.List.{List, [], _∷_, _++_}
-use lib.ListN.{length, take, drop}
+use lib.ListN.{length, take}
 use Rattle.numbers.specs.Little.{leBytes}
 use Rattle.contents.specs.Contents.{contentsSize}
 
@@ -20,7 +20,3 @@ contentsOf sizes = leBytes 2 (length sizes) ++ entriesOf 1 (contentsSize (length
 -- the contents of k parts, and then three bodies
 abbrev pub partsOf : ℕ → List ℕ → List ℕ → List ℕ → List ℕ
 partsOf k a b c = contentsOf (take k (length a ∷ length b ∷ length c ∷ [])) ++ (a ++ (b ++ c))
-
--- "Bytes past a written result stay untouched": `w` at the start of a buffer.
-unfoldable pub over : List ℕ → List ℕ → List ℕ
-over w buffer = w ++ drop (length w) buffer

@@ -1,19 +1,13 @@
 -- Numbers written one after the other. Assumes nothing.
-use Prim.Native.Nat.{ℕ, suc, _+_}
+use Prim.Native.Nat.{ℕ, _+_}
 use mathlib.Core.Path.{_≡_, refl, sym, ap₂, _∙_}
-use mathlib.Core.List.{List, [], _∷_, _++_}
+use mathlib.Core.List.{List, _++_}
 use native.Mathlib.Omega.{arith}
-use native.Mathlib.Nat.{add-zero}
-use lib.ListN.{length, set}
 use lib.Seq.{sets}
+use Rattle.lists.specs.StoreLaws.{sets-append}
 use Rattle.numbers.specs.Little.{leBytes}
 use Rattle.numbers.specs.Laws.{le-length}
 use Rattle.elimination.specs.Records.{recordBytes}
-
-sets-append : (s : List ℕ) (i : ℕ) (u v : List ℕ) → sets s i (u ++ v) ≡ sets (sets s i u) (i + length u) v
-sets-append s i [] v = rw (add-zero i)
-sets-append s i (a ∷ u) v =
-    let e : suc i + length u ≡ i + length (a ∷ u) = omega arith in sets-append (set s i a) (suc i) u v ∙ rw e
 
 -- a number, and the rest behind it
 pub write-then : (w v : ℕ) (s : List ℕ) (at : ℕ) (rest : List ℕ) → sets s at (leBytes w v ++ rest) ≡ sets (sets s at (leBytes w v)) (at + w) rest

@@ -9,8 +9,8 @@ use native.Mathlib.Decide.{ℕ-discrete}
 use borrow.Author.Tests.{ltb-true, ltb-false}
 use lib.Dec.{ltb}
 use lib.IntN.{ℤ, pos, negsuc, natAbs, subℕ, _-ℤ_}
+use Rattle.lists.specs.StoreLaws.{kept-wide, kept-then}
 use Rattle.marks.specs.Marks.{shifted, square, touchingOf}
-use Rattle.sorting.specs.Frame.{kept-wide, kept-then}
 use Rattle.grid.specs.Table.{entry, radiusAt, Boxed}
 use Rattle.grid.specs.Steps.{Put, Grown, Widened, gap, AwayFrom, Apart, Bound}
 use Rattle.grid.proofs.Entries.{entry-other}

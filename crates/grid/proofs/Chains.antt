@@ -9,7 +9,9 @@ use borrow.Author.Count.{below-more}
 use borrow.Author.Tests.{eq-eqb, ne-eqb}
 use lib.ListN.{length}
 use lib.IntN.{ℤ}
-use Rattle.sorting.specs.Frame.{Kept, kept-wide, kept-then, number-kept}
+use Rattle.lists.specs.Stores.{Kept}
+use Rattle.lists.specs.StoreLaws.{kept-wide, kept-then}
+use Rattle.numbers.specs.Laws.{number-kept}
 use Rattle.marks.specs.Marks.{shifted}
 use Rattle.grid.specs.Table.{entry, headAt, countAt, linkAt, Ready, Chained, assign, Boxed}
 use Rattle.grid.specs.Steps.{Put, Grown, Widened, Linked, Added}

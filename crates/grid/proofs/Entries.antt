@@ -8,9 +8,10 @@ use native.Mathlib.Decide.{decLt}
 use borrow.Author.Count.{below-more}
 use lib.ListN.{length}
 use lib.Seq.{sets}
+use Rattle.lists.specs.Stores.{Clear}
+use Rattle.lists.specs.StoreLaws.{kept-none, kept-wide, kept-then}
 use Rattle.numbers.specs.Little.{leBytes}
-use Rattle.numbers.specs.Laws.{read-back-sets}
-use Rattle.sorting.specs.Frame.{Clear, kept-none, kept-wide, kept-then, kept-write, number-kept}
+use Rattle.numbers.specs.Laws.{read-back-sets, kept-write, number-kept}
 use Rattle.grid.specs.Table.{entry}
 use Rattle.grid.specs.Steps.{Put, Cleared}
 

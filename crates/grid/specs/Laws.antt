@@ -4,7 +4,8 @@ use mathlib.Core.Path.{_≡_, sym, _∙_}
 use mathlib.Core.List.{List}
 use native.Mathlib.Omega.{arith}
 use lib.ListN.{length}
-use Rattle.sorting.specs.Frame.{Kept, number-kept}
+use Rattle.lists.specs.Stores.{Kept}
+use Rattle.numbers.specs.Laws.{number-kept}
 use Rattle.grid.specs.Table.{entry, Ready, Chained, Boxed}
 use Rattle.grid.specs.Steps.{Cleared}
 

@@ -3,10 +3,10 @@ use Prim.Native.Nat.{ℕ, _+_, _-_, _*_, _<_, _≤_}
 use mathlib.Core.Path.{_≡_}
 use mathlib.Core.List.{List}
 use lib.IntN.{ℤ}
+use Rattle.lists.specs.Stores.{Kept}
 use Rattle.fractions.specs.declared.Fraction.{Fraction}
 use Rattle.fractions.specs.Order.{AtMost, Small}
 use Rattle.marks.specs.Marks.{touchingOf}
-use Rattle.sorting.specs.Frame.{Kept}
 use Rattle.grid.specs.Table.{entry, Ready, Chained, assign, Boxed, Inside}
 
 -- v is w with x as the entry i

@@ -2,13 +2,10 @@
 -- permutation of the other, where every test counts the same in both. So the laws on members and on order are laws on sums.
 use Prim.Native.Nat.{ℕ, _+_, _≤_}
 use mathlib.Core.Path.{_≡_}
-use mathlib.Core.Bool.{Bool, true, false, not, _&&_}
+use mathlib.Core.Bool.{Bool, not, _&&_}
 use mathlib.Core.List.{List, [], _∷_}
 use lib.Dec.{eqb, ltb}
-
-abbrev pub bit : Bool → ℕ
-bit true = 1
-bit false = 0
+use Rattle.lists.specs.Tests.{bit}
 
 abbrev pub count : (ℕ → Bool) → List ℕ → ℕ
 count p [] = 0

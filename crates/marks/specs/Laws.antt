@@ -13,6 +13,7 @@ use lib.IntN.{ℤ, pos, negsuc, negℤ, natAbs, subℕ, _+ℤ_, _-ℤ_, +ℤ-com
 use lib.Signed.{mag}
 use mir.Syntax.{w16}
 use mir.Val.{SFits}
+use Rattle.lists.specs.TestLaws.{or-and}
 use Rattle.numbers.specs.Little.{leAt, signed, Bytes}
 use Rattle.numbers.specs.Laws.{le-bound, signed-fits}
 use Rattle.fractions.specs.Order.{Small}
@@ -175,12 +176,6 @@ touching-small s a b k p q =
 pub rank-distinct : (s : List ℕ) (a b : ℕ) → a < 4096 → b < 4096 → rankKey s a ≡ rankKey s b → a ≡ b
 unfolding rankKey
 rank-distinct s a b p q e = omega arith
-
-or-and : {A : Type 0} (x y z : Bool) → x || (y && z) ≡ true → (x ≡ true → A) → (y ≡ true → z ≡ true → A) → A
-or-and true y z e f g = f refl
-or-and false true true e f g = g refl refl
-or-and false true false e f g = absurd (false≢true e)
-or-and false false z e f g = absurd (false≢true e)
 
 -- over the priorities x and y of a and b
 module _ (x y a b : ℕ) (hx : x < 65536) (hy : y < 65536) (ha : a < 4096) (hb : b < 4096) where

@@ -6,6 +6,7 @@ use mathlib.Core.List.{List, [], _∷_, _++_, map}
 use lib.ListN.{length}
 use lib.IntN.{ℤ, pos, negsuc}
 use lib.Ieee.{binary32, ofBits}
+use Rattle.lists.specs.Tests.{every, bit}
 use Rattle.numbers.specs.Little.{leAt, leBytes}
 use Rattle.fractions.specs.Order.{less, same, later, level}
 use Rattle.marks.specs.Marks.{kindGroup, houseRadius, oldRadius, houseOf, isKind, isRadius, usedRadius, square, touchingOf, touching, outranks, rankKey}
@@ -14,7 +15,7 @@ use Rattle.elimination.specs.Records.{eliminatorAt, numAt, denAt, isNever, valu
 use Rattle.index.specs.Tree.{treeOf}
 use Rattle.index.specs.Index.{beats, coordinate, axisKey, indexOf, indexBytes, sameBytes, isIndex}
 use Rattle.contents.specs.Contents.{startAt, split, entries, chain, join, marksPart, schedulePart, indexPart}
-use Rattle.contents.specs.Asking.{answer, inTurn, every}
+use Rattle.contents.specs.Asking.{answer, inTurn}
 use Rattle.contents.specs.Questions.{question1, question2, question3}
 use Rattle.rows.specs.Rows as Rows
 use Rattle.bodies.specs.Questions.{question4, markQuestions, part1Questions, question7, namesRight, recordRight, question8, question9, bodyQuestions}
@@ -30,7 +31,7 @@ use Rattle.zoom.specs.Living.{livesAt}
 use Rattle.zoom.specs.Printed.{rootStep, root, zoomDown}
 use Rattle.view.specs.declared.Rectangle.{Rectangle}
 use Rattle.view.specs.Shown.{gapSquared, distanceSquared, reaches, shown}
-use Rattle.bitmap.specs.Map.{bit, mapByte, mapPart, mapBytes, countShown}
+use Rattle.bitmap.specs.Map.{mapByte, mapPart, mapBytes, countShown}
 use Rattle.view.specs.Questions as Viewing
 use Rattle.rollmap.specs.Jobs.{outcome, checkJob, scheduled, assembleJob, fillJob, logToMarksJob, marksToLogJob, shownIn, viewJob}
 use Rattle.text.specs.Text.{digits}

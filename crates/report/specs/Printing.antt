@@ -5,12 +5,12 @@ use mathlib.Core.Bool.{false, cond}
 use mathlib.Core.List.{List, []}
 use lib.Dec.{eqb}
 use lib.ListN.{length}
+use Rattle.lists.specs.Stores.{over}
 use Rattle.fractions.specs.Order.{Small}
 use Rattle.elimination.specs.Process.{Removal, stays, gone}
 use Rattle.elimination.specs.Records.{eliminatorAt, denAt, fractionAt, isNever, scheduleOf}
 use Rattle.contents.specs.Contents.{split, marksPart}
 use Rattle.contents.specs.Asking.{answer}
-use Rattle.contents.specs.Written.{over}
 use Rattle.sheet.specs.Questions.{sheetCount}
 use Rattle.report.specs.Text.{printQuestions, printed}
 

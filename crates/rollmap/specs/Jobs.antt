@@ -3,8 +3,9 @@ use Prim.Native.Nat.{ℕ, zero, suc, _+_, _*_}
 use mathlib.Core.Path.{_≡_}
 use mathlib.Core.Bool.{Bool, cond, _&&_}
 use mathlib.Core.List.{List, [], _∷_, _++_}
-use lib.ListN.{length, take, drop}
+use lib.ListN.{length, take}
 use lib.Dec.{ltb, leb, eqb}
+use Rattle.lists.specs.Stores.{over}
 use Rattle.numbers.specs.Little.{Bytes}
 use Rattle.elimination.specs.Records.{scheduleOf}
 use Rattle.index.specs.Index.{indexOf, indexBytes}
@@ -38,7 +39,7 @@ outcome questions value written =
 
 -- "Bytes past a written result stay untouched": what the buffer holds after the call.
 unfoldable pub after : Outcome → List ℕ → List ℕ
-after o buffer = o .written ++ drop (length (o .written)) buffer
+after o buffer = over (o .written) buffer
 
 -- ---- checking
 

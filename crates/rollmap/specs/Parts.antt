@@ -4,9 +4,9 @@ use Prim.Native.Nat.{ℕ, _≤_}
 use mathlib.Core.Path.{_≡_}
 use mathlib.Core.List.{List}
 use lib.ListN.{length, take}
+use Rattle.lists.specs.Stores.{over}
 use Rattle.numbers.specs.Little.{Bytes}
 use Rattle.contents.specs.Contents.{countAt, split}
-use Rattle.contents.specs.Written.{over}
 use Rattle.sheet.specs.Questions.{check}
 use Rattle.rollmap.specs.declared.Answer.{Answer}
 

@@ -9,6 +9,9 @@ use borrow.Author.Tests.{le-leb, lt-ltb}
 use lib.Dec.{leb}
 use lib.ListN.{length, take, drop, length-append}
 use lib.Seq.{take-append-seam}
+use Rattle.lists.specs.Stores.{over}
+use Rattle.lists.specs.TestLaws.{both-iff}
+use Rattle.lists.specs.Tests.{bit}
 use Rattle.numbers.specs.Little.{Bytes}
 use Rattle.fractions.specs.declared.Value.{Value}
 use Rattle.fractions.specs.Order.{Equal}
@@ -16,12 +19,10 @@ use Rattle.elimination.specs.Records.{scheduleOf}
 use Rattle.elimination.specs.Schedule.{AllowedMarks, schedule-iff, schedule-later}
 use Rattle.contents.specs.Contents.{countAt, split, join, marksPart, schedulePart, given}
 use Rattle.contents.specs.Asking.{Question, answer}
-use Rattle.contents.specs.Written.{over}
 use Rattle.contents.specs.Laws.{append-iff, split-join, given-length}
-use Rattle.contents.specs.Lemmas.Tests.{both-iff}
 use Rattle.sheet.specs.Questions.{sheetCount, checkQuestions, check, assembleQuestions}
 use Rattle.sheet.specs.Laws.{check-numbered, accepted-iff, assemble-iff, fitting-writable, join-accepted, join-split, assemble-again}
-use Rattle.bitmap.specs.Map.{mapSize, bit, mapBytes, countShown, shownFrom, isSet}
+use Rattle.bitmap.specs.Map.{mapSize, mapBytes, countShown, shownFrom, isSet}
 use Rattle.bitmap.specs.Facts.{Shows}
 use Rattle.bitmap.specs.Laws.{map-shows, map-length, shown-set, shown-same}
 use Rattle.zoom.specs.declared.Zoom.{Zoom}
@@ -86,7 +87,7 @@ module _ (g : List ℕ) (work : ℕ) (held : List ℕ) (answered : (scheduleJob 
   schedule-accepts = append-iff (checkQuestions g) _ (check-numbered g) .0 yes-to-all .0
 
   pub schedule-leaves : take ((scheduleJob g work (length held)) .value) (after (scheduleJob g work (length held)) held) ≡ scheduled g
-  unfolding scheduleJob after
+  unfolding scheduleJob after over
   schedule-leaves =
       rw (outcome-yes questions (length (scheduled g)) (scheduled g) yes-to-all) (take-append-seam (scheduled g) (drop (length (scheduled g)) held))
 
@@ -219,7 +220,7 @@ module _ (s : List ℕ) (here : ScheduledHere s) where
       viewed = rw taken
 
       pub view-living : ShowsLiving s e zoom list (after (viewJob s e zoom (length buffer)) buffer) ((viewJob s e zoom (length buffer)) .value)
-      unfolding after
+      unfolding after over
       view-living =
           let w = map-shows (shownIn s e zoom) (sheetCount s) (drop (length (mapBytes (shownIn s e zoom) (sheetCount s))) buffer) in
           rw viewed
@@ -245,7 +246,7 @@ module _ (s : List ℕ) (e : Rectangle) (zoom : Zoom) (buffer : List ℕ) (taken
   map = after (viewJob s e zoom (length buffer)) buffer
 
   map-is : map ≡ mapBytes (shownIn s e zoom) (sheetCount s) ++ drop (length (mapBytes (shownIn s e zoom) (sheetCount s))) buffer
-  unfolding viewJob outcome after
+  unfolding viewJob outcome after over
   map-is = rw taken
 
   shows : Shows (shownIn s e zoom) (sheetCount s) map

@@ -8,9 +8,9 @@ use native.Mathlib.Numerals.{add-one}
 use native.Mathlib.Omega.{arith}
 use lib.ListN.{length, getD, take, drop, length-append, length-take, length-drop}
 use lib.Seq.{sets, take-append-le, drop-append-le, take-at, drop-at, take-all, take-add, take-take, drop-drop, length-take-le, getD-take, getD-drop}
+use Rattle.lists.specs.StoreLaws.{sets-append}
 use Rattle.numbers.specs.Little.{leAt, leBytes}
 use Rattle.numbers.specs.Laws.{le-length, le-drop, le-take, le-append, read-back}
-use Rattle.contents.specs.Laws.{sets-append}
 use Rattle.rows.specs.Rows.{rows}
 
 -- row i ends at or before row n

@@ -6,10 +6,11 @@ use native.Mathlib.Omega.{arith}
 use native.Mathlib.Decide.{decLt}
 use lib.ListN.{length, take, drop, length-append, length-take, length-drop}
 use lib.Seq.{sets, sets-eq, length-sets, length-take-le, take-at, drop-at, ext-getD, getD-take, getD-drop}
+use Rattle.lists.specs.Stores.{Clear, Kept}
+use Rattle.lists.specs.StoreLaws.{kept-sets}
 use Rattle.numbers.specs.Little.{leAt, leBytes, Bytes}
-use Rattle.numbers.specs.Laws.{le-length, le-bound, read-back-sets}
+use Rattle.numbers.specs.Laws.{le-length, le-bound, read-back-sets, number-kept}
 use Rattle.marks.specs.Marks.{usedAt}
-use Rattle.sorting.specs.Frame.{Clear, Kept, kept-sets, number-kept}
 use Rattle.elimination.specs.Records.{recordBytes}
 use Rattle.elimination.proofs.Bytes.{write-then, joined}
 use Rattle.scheduling.specs.Filling.{rowBytes}

@@ -7,8 +7,9 @@ use borrow.Author.Count.{below-more}
 use borrow.Author.Tests.{eq-eqb, ne-eqb}
 use lib.ListN.{length}
 use lib.IntN.{ℤ}
+use Rattle.lists.specs.Stores.{Kept}
 use Rattle.numbers.specs.Little.{leAt}
-use Rattle.sorting.specs.Frame.{Kept, number-kept}
+use Rattle.numbers.specs.Laws.{number-kept}
 use Rattle.grid.specs.Table.{assign, Inside}
 use Rattle.grid.specs.Steps.{Cleared, Added}
 use Rattle.grid.specs.Laws.{ready-none, chained-none, ready-kept, chained-kept, boxed-kept}

@@ -6,9 +6,11 @@ use native.Mathlib.Omega.{arith}
 use borrow.Author.Count.{below-more}
 use lib.ListN.{length}
 use lib.Seq.{sets}
+use Rattle.lists.specs.Stores.{Kept}
+use Rattle.lists.specs.StoreLaws.{kept-sets}
 use Rattle.numbers.specs.Little.{signed, Bytes}
+use Rattle.numbers.specs.Laws.{number-kept}
 use Rattle.marks.specs.Marks.{usedAt, touching, rankKey}
-use Rattle.sorting.specs.Frame.{Kept, kept-sets, number-kept}
 use Rattle.sorting.specs.Keys.{keyAt, KeyPut, KeysSorted}
 use Rattle.sorting.specs.After.{Ranks, sorted-ranks}
 use Rattle.elimination.specs.Records.{marksOf}

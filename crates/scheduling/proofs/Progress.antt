@@ -10,9 +10,11 @@ use borrow.Author.Tests.{eq-eqb, ne-eqb}
 use lib.ListN.{length}
 use lib.Seq.{sets}
 use lib.IntN.{ℤ}
+use Rattle.lists.specs.Stores.{Kept}
+use Rattle.lists.specs.StoreLaws.{kept-none}
 use Rattle.numbers.specs.Little.{leAt}
+use Rattle.numbers.specs.Laws.{number-kept}
 use Rattle.fractions.specs.Order.{Small}
-use Rattle.sorting.specs.Frame.{Kept, kept-none, number-kept}
 use Rattle.elimination.specs.declared.Record.{Record}
 use Rattle.elimination.specs.Marks.{Marks}
 use Rattle.elimination.specs.Process.{Removal, stays, put}

@@ -11,8 +11,9 @@ use borrow.Author.Tests.{eq-eqb, ne-eqb}
 use lib.Dec.{eqb}
 use lib.ListN.{length, take, take-append-drop}
 use lib.Seq.{sets, take-add}
+use Rattle.lists.specs.Stores.{Clear, Kept}
+use Rattle.lists.specs.StoreLaws.{kept-none, kept-wide, kept-then, kept-sets}
 use Rattle.fractions.specs.declared.Fraction.{Fraction}
-use Rattle.sorting.specs.Frame.{Clear, Kept, kept-none, kept-wide, kept-then, kept-sets}
 use Rattle.elimination.specs.Process.{Removal, stays, gone, process}
 use Rattle.elimination.specs.Records.{removalBytes, records}
 use Rattle.searching.specs.Rows.{rowNumber, rowEliminator, rowValue, StoredAt}

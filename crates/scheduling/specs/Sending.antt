@@ -6,7 +6,7 @@ use mathlib.Core.List.{List, _++_}
 use mathlib.Core.Logic.{_≢_}
 use lib.Dec.{eqb}
 use lib.ListN.{take, drop}
-use Rattle.sorting.specs.Frame.{Kept}
+use Rattle.lists.specs.Stores.{Kept}
 use Rattle.elimination.specs.Marks.{Marks}
 use Rattle.elimination.specs.Process.{process}
 use Rattle.elimination.specs.Records.{recordBytes, records}

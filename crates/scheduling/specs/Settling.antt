@@ -3,8 +3,8 @@ use Prim.Native.Nat.{ℕ, _+_, _*_, _<_, _≤_}
 use mathlib.Core.Path.{_≡_}
 use mathlib.Core.List.{List}
 use lib.ListN.{length}
+use Rattle.lists.specs.Stores.{Clear}
 use Rattle.numbers.specs.Little.{leAt}
-use Rattle.sorting.specs.Frame.{Clear}
 use Rattle.elimination.specs.Marks.{Marks, Proper}
 use Rattle.elimination.specs.Process.{process}
 use Rattle.elimination.specs.RankOrder.{Ranking}

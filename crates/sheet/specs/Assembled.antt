@@ -5,11 +5,11 @@ use mathlib.Core.Bool.{Bool, cond}
 use mathlib.Core.List.{List, []}
 use lib.Dec.{eqb, leb}
 use lib.ListN.{length}
+use Rattle.lists.specs.Stores.{over}
 use Rattle.sheet.specs.declared.Assembled.{Assembled}
 use Rattle.sheet.specs.declared.Assembled.the-variants.{Refused, Written}
 use Rattle.contents.specs.Contents.{join}
 use Rattle.contents.specs.Asking.{answer}
-use Rattle.contents.specs.Written.{over}
 use Rattle.sheet.specs.Questions.{assembleQuestions}
 
 -- a body where there is one, else nothing

@@ -10,12 +10,12 @@ use mathlib.Core.Logic.{_↔_}
 use lib.IntN.{ℤ, pos, negsuc, _-ℤ_, natAbs}
 use lib.Signed.{mag, leZ}
 use borrow.Author.Tests.{leb-true, le-leb}
+use Rattle.lists.specs.TestLaws.{by-cases, and-left, and-right}
 use Rattle.marks.specs.Marks.{xAt, yAt, usedAt, square}
 use Rattle.zoom.specs.declared.Scale.{Scale}
 use Rattle.zoom.specs.declared.Scale.the-variants.{Taken, Refused}
 use Rattle.zoom.specs.Zoom.{scaleNumber}
 use Rattle.contents.specs.Asking.{_asks_, answer}
-use Rattle.index.specs.Lemmas.Count.{by-cases, and-left, and-right}
 use Rattle.view.specs.declared.Rectangle.{Rectangle}
 use Rattle.view.specs.Shown.{above, gapSquared, distanceSquared, reaches}
 use Rattle.view.specs.Questions.{question11, isTaken}

@@ -10,8 +10,8 @@ use lib.Dec.{leb, eqb}
 use lib.Pow.{pow-mono, pow-pos}
 use lib.Ieee.{Float, binary32, ofBits}
 use lib.Ieee.Exact.{HasValue}
-use Rattle.contents.specs.Asking.{every}
-use Rattle.contents.specs.Lemmas.Tests.{every-at}
+use Rattle.lists.specs.Tests.{every}
+use Rattle.lists.specs.TestLaws.{every-at}
 use Rattle.fractions.specs.declared.Fraction.{Fraction}
 use Rattle.zoom.specs.Zoom.{stopScale, wheelScale, scaleOf, Is64}
 use Rattle.zoom.specs.Printed.{root, zoomDown, LargestZoom}

@@ -5,7 +5,8 @@ use mathlib.Core.Bool.{Bool}
 use mathlib.Core.List.{List}
 use native.Mathlib.Nat.{add-zero, add-suc}
 use native.Mathlib.Omega.{arith}
-use Rattle.bitmap.specs.Map.{mapSize, bit, bitAt, countShown}
+use Rattle.lists.specs.Tests.{bit}
+use Rattle.bitmap.specs.Map.{mapSize, bitAt, countShown}
 use Rattle.bitmap.specs.Facts.{Shows, countBits}
 
 pub count-same : (f g : ℕ → ℕ) (n : ℕ) → ((i : ℕ) → i < n → f i ≡ g i) → countBits f n ≡ countBits g n

@@ -11,16 +11,14 @@ use borrow.Author.Tests.{lt-ltb, le-ltb}
 use lib.Dec.{ltb}
 use lib.ListN.{length, getD, drop, length-append, length-drop, List·getD-append}
 use lib.Seq.{ext-getD, getD-at, getD-append-add, getD-drop}
+use Rattle.lists.specs.Tests.{bit}
+use Rattle.lists.specs.TestLaws.{bit-small}
 use Rattle.numbers.specs.Little.{Bytes}
-use Rattle.bitmap.specs.Map.{mapSize, bit, mapByte, mapPart, mapBytes, bitAt}
+use Rattle.bitmap.specs.Map.{mapSize, mapByte, mapPart, mapBytes, bitAt}
 use Rattle.bitmap.specs.Facts.{bitOf, Shows}
 use Rattle.bitmap.specs.Lemmas.Bits.{bit-low, bit-high, bits-same}
 
 -- ---- one byte
-
-bit-le : (b : Bool) → bit b ≤ 1
-bit-le true = omega arith
-bit-le false = omega arith
 
 byte-small : (shown : ℕ → Bool) (from width : ℕ) → mapByte shown from width < 2 ^ width
 unfolding mapByte
@@ -44,7 +42,7 @@ byte-bit shown from (suc width) i h =
     let f : i ≡ width = omega arith in
     ap (bitOf (lo + hi * 2 ^ width)) e
     ∙ bit-high width lo hi 0 (byte-small shown from width)
-    ∙ omega (arith, bit-le (shown (from + width)))
+    ∙ omega (arith, bit-small (shown (from + width)))
     ∙ ap (λ (x : ℕ). bit (shown (from + x))) (sym f))
 
 -- ---- the bytes of a map

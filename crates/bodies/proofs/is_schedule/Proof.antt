@@ -3,8 +3,8 @@ use Prim.Native.Nat.{_-_, _≤_}
 use mathlib.Core.Path.{_≡_, refl, sym}
 use mathlib.Core.Bool.{true}
 use native.Mathlib.Omega.{arith}
-use Rattle.contents.specs.Asking.{every}
-use Rattle.contents.specs.Lemmas.Tests.{said-no, said-yes, every-more, every-not}
+use Rattle.lists.specs.Tests.{every}
+use Rattle.lists.specs.TestLaws.{said-no, said-yes, every-more, every-not}
 use Rattle.bodies.specs.Questions.{recordRight, question8}
 use Rattle.bodies.proofs.is_schedule.Statement.{statement}
 use Rattle.bodies.proofs.is_schedule.Tie as tie

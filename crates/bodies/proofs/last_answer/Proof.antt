@@ -7,8 +7,8 @@ use lib.Dec.{leb}
 use lib.ListN.{length}
 use borrow.Author.Needs.{needs}
 use denote.Ref.{now}
+use Rattle.lists.specs.TestLaws.{said-no, said-yes}
 use Rattle.contents.specs.Asking.{ifThere}
-use Rattle.contents.specs.Lemmas.Tests.{said-no, said-yes}
 use Rattle.contents.specs.Lemmas.Asked.{none-asked, asked-yes, asked-no}
 use Rattle.bodies.specs.Questions.{question8}
 use Rattle.bodies.specs.Stages.{sizesRight}

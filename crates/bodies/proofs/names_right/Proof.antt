@@ -2,7 +2,7 @@
 use native.Mathlib.Omega.{arith}
 use borrow.Author.Needs.{needs}
 use borrow.Author.Tests.{lt-ltb, le-ltb}
-use Rattle.contents.specs.Lemmas.Tests.{said-no, said-yes}
+use Rattle.lists.specs.TestLaws.{said-no, said-yes}
 use Rattle.bodies.specs.Questions.{namesRight}
 use Rattle.bodies.proofs.names_right.Statement.{statement}
 use Rattle.bodies.proofs.names_right.Tie as tie

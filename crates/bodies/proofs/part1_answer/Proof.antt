@@ -1,7 +1,7 @@
 -- `bodies::part1_answer` meets its contract: 4 is asked before 5 and 6. Assumes nothing.
 use mathlib.Core.Path.{sym, _∙_}
 use borrow.Author.Needs.{needs}
-use Rattle.contents.specs.Lemmas.Tests.{said-no, said-yes}
+use Rattle.lists.specs.TestLaws.{said-no, said-yes}
 use Rattle.contents.specs.Lemmas.Asked.{asked-yes, asked-no}
 use Rattle.bodies.specs.Questions.{part1Questions}
 use Rattle.bodies.proofs.part1_answer.Statement.{statement}

@@ -3,7 +3,7 @@ use mathlib.Core.Path.{sym, _∙_}
 use native.Mathlib.Omega.{arith}
 use borrow.Author.Needs.{needs}
 use denote.Ref.{now}
-use Rattle.contents.specs.Lemmas.Tests.{said-no, said-yes}
+use Rattle.lists.specs.TestLaws.{said-no, said-yes}
 use Rattle.bodies.specs.Questions.{recordRight}
 use Rattle.bodies.specs.Lemmas.Records.{named}
 use Rattle.bodies.proofs.record_right.Statement.{statement}

@@ -8,13 +8,13 @@ use native.Mathlib.Omega.{arith}
 use lib.Dec.{leb, eqb}
 use lib.ListN.{length}
 use borrow.Author.Tests.{leb-true, leb-false, eqb-true, le-leb, eq-eqb}
+use Rattle.lists.specs.TestLaws.{both-iff}
 use Rattle.marks.specs.Marks.{kindAt, radiusAt, isKind, isRadius}
 use Rattle.marks.specs.Laws.{kind-iff, used-bound}
 use Rattle.index.specs.Index.{isIndex}
 use Rattle.contents.specs.Contents.{marksPart, schedulePart, indexPart, given}
 use Rattle.contents.specs.Asking.{answer, ifThere}
 use Rattle.contents.specs.Questions.{isCount}
-use Rattle.contents.specs.Lemmas.Tests.{both-iff}
 use Rattle.contents.specs.Lemmas.Asked.{none-asked, asked-iff, append-iff}
 use Rattle.contents.specs.Lemmas.Turns.{turn-at, turn-of}
 use Rattle.contents.specs.Lemmas.Laid.{count-cases}

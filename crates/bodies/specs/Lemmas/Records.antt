@@ -1,18 +1,18 @@
 -- What question 8 says of one record: each test of its definition as a statement.
 use Prim.Native.Nat.{ℕ, _<_}
 use mathlib.Core.Path.{_≡_}
-use mathlib.Core.Bool.{Bool, true, false, _||_}
+use mathlib.Core.Bool.{true}
 use mathlib.Core.List.{List}
-use mathlib.Core.Logic.{_⊎_, inl, inr}
+use mathlib.Core.Logic.{inl, inr}
 use native.Mathlib.Omega.{arith}
 use lib.Dec.{ltb, eqb}
 use borrow.Author.Tests.{ltb-true, eqb-true}
+use Rattle.lists.specs.TestLaws.{both-iff, either, every-at}
 use Rattle.numbers.specs.Little.{Bytes}
 use Rattle.fractions.specs.Order.{Small}
 use Rattle.marks.specs.Marks.{outranks, touching}
 use Rattle.marks.specs.Laws.{touching-small}
 use Rattle.elimination.specs.Records.{eliminatorAt, numAt, denAt, fractionAt, isNever}
-use Rattle.contents.specs.Lemmas.Tests.{both-iff, every-at}
 use Rattle.bodies.specs.Questions.{exactly, namesRight, recordRight, question8}
 use Rattle.bodies.specs.Fitting.{MarksRight}
 
@@ -37,10 +37,6 @@ named s p n m e =
       num-is = eqb-true (numAt p m) (t .num) (c .0);
       den-is = eqb-true (denAt p m) (t .den) (c .1);
     }
-
-either : (a b : Bool) → a || b ≡ true → (a ≡ true) ⊎ (b ≡ true)
-either true b e = inl e
-either false b e = inr e
 
 -- Both numbers of a record that passed are those of 'never' or of a pair, so they are small.
 pub record-small : (s p : List ℕ) (n m : ℕ) → Bytes s → MarksRight s n → question8 s p n ≡ true → m < n → Small (fractionAt p m)

@@ -8,10 +8,10 @@ use native.Mathlib.Numerals.{add-one}
 use lib.Dec.{eqb}
 use borrow.Author.Tests.{eq-eqb, ne-eqb}
 use denote.Ref.{now}
+use Rattle.lists.specs.Tests.{every}
+use Rattle.lists.specs.TestLaws.{every-more, every-not}
 use Rattle.contents.specs.Contents.{countAt, offsetAt, startAt}
-use Rattle.contents.specs.Asking.{every}
 use Rattle.contents.specs.Questions.{question3}
-use Rattle.contents.specs.Lemmas.Tests.{every-more, every-not}
 use Rattle.contents.proofs.bodies_join.Statement.{statement}
 use Rattle.contents.proofs.bodies_join.Tie as tie
 

@@ -1,7 +1,7 @@
 -- `contents::contents_answer` meets its contract: the first of three tests that fails gives the number. Assumes nothing.
 use borrow.Author.Needs.{needs}
 use mathlib.Core.Path.{sym, _∙_}
-use Rattle.contents.specs.Lemmas.Tests.{said-no, said-yes}
+use Rattle.lists.specs.TestLaws.{said-no, said-yes}
 use Rattle.contents.specs.Lemmas.Asked.{none-asked, asked-yes, asked-no}
 use Rattle.contents.specs.Lemmas.Laid.{whole-iff}
 use Rattle.contents.proofs.contents_answer.Statement.{statement}

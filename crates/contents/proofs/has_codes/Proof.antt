@@ -7,10 +7,10 @@ use mathlib.Core.Bool.{true}
 use lib.Dec.{eqb}
 use borrow.Author.Tests.{eq-eqb, ne-eqb}
 use denote.Ref.{now}
+use Rattle.lists.specs.Tests.{every}
+use Rattle.lists.specs.TestLaws.{every-more, every-not}
 use Rattle.contents.specs.Contents.{countAt, codeAt}
-use Rattle.contents.specs.Asking.{every}
 use Rattle.contents.specs.Questions.{question2}
-use Rattle.contents.specs.Lemmas.Tests.{every-more, every-not}
 use Rattle.contents.proofs.has_codes.Statement.{statement}
 use Rattle.contents.proofs.has_codes.Tie as tie
 

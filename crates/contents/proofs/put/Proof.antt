@@ -7,7 +7,7 @@ use native.Mathlib.Omega.{arith}
 use lib.ListN.{length, drop, length-set, drop-of-length-le}
 use lib.Seq.{sets}
 use denote.Ref.{now}
-use Rattle.contents.specs.Lemmas.Writing.{sets-turn}
+use Rattle.lists.specs.StoreLaws.{sets-turn}
 use Rattle.contents.proofs.put.Statement.{statement}
 use Rattle.contents.proofs.put.Tie as tie
 

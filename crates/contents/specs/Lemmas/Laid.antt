@@ -8,11 +8,12 @@ use native.Mathlib.Omega.{arith}
 use lib.Dec.{leb, eqb}
 use lib.ListN.{length}
 use borrow.Author.Tests.{leb-true, eqb-true, le-leb, eq-eqb}
+use Rattle.lists.specs.Tests.{every}
+use Rattle.lists.specs.TestLaws.{both-iff, every-of, every-at}
 use Rattle.contents.specs.Contents.{countAt, codeAt, offsetAt, startAt}
-use Rattle.contents.specs.Asking.{Question, _asks_, answer, every}
+use Rattle.contents.specs.Asking.{Question, _asks_, answer}
 use Rattle.contents.specs.Questions.{isCount, question1, question2, question3}
 use Rattle.contents.specs.Laid.{Whole, Laid}
-use Rattle.contents.specs.Lemmas.Tests.{both-iff, every-of, every-at}
 use Rattle.contents.specs.Lemmas.Asked.{asked-iff}
 
 pub count-iff : (k : ℕ) → (isCount k ≡ true) ↔ ((1 ≤ k) × (k ≤ 3))

@@ -1,31 +1,19 @@
--- Writing a sheet front to back: one run of stores after another is the run of both.
+-- Writing a sheet front to back.
 use Prim.Native.Nat.{ℕ, zero, suc, _+_, _*_, _<_, _≤_}
 use mathlib.Core.Path.{_≡_}
 use mathlib.Core.List.{List, [], _∷_, _++_}
-use native.Mathlib.Nat.{add-zero, zero-add}
+use native.Mathlib.Nat.{zero-add}
 use native.Mathlib.Decide.{decLt}
 use native.Mathlib.Numerals.{add-one}
 use native.Mathlib.Omega.{arith}
-use lib.ListN.{length, getD, set, take, drop, length-append, length-take, List·getD-eq-default}
-use lib.Seq.{sets, sets-eq, drop-cons, getD-take}
+use lib.ListN.{length, getD, take, drop, length-append, length-take, List·getD-eq-default}
+use lib.Seq.{sets, drop-cons, getD-take}
+use Rattle.lists.specs.StoreLaws.{sets-append}
 use Rattle.numbers.specs.Little.{leBytes}
 use Rattle.numbers.specs.Laws.{le-length}
 use Rattle.contents.specs.Contents.{contentsSize}
-use Rattle.contents.specs.Written.{entry, entriesOf, contentsOf, over}
+use Rattle.contents.specs.Written.{entry, entriesOf, contentsOf}
 use Rattle.contents.specs.Lemmas.Entries.{contents-length}
-
-pub sets-append : (l : List ℕ) (i : ℕ) (v w : List ℕ) → sets l i (v ++ w) ≡ sets (sets l i v) (i + length v) w
-sets-append l i [] w = rw (add-zero i)
-sets-append l i (a ∷ v) w =
-    let e : i + suc (length v) ≡ suc i + length v = omega arith in
-    rw e (sets-append (set l i a) (suc i) v w)
-
--- One turn of a loop that stores the elements of v from index i on: the rest of v still makes the whole.
-pub sets-turn : (l : List ℕ) (i j : ℕ) (v : List ℕ) → j < length v
-    → sets (set l (i + j) (getD v j 0)) (i + (j + 1)) (drop (j + 1) v) ≡ sets l (i + j) (drop j v)
-sets-turn l i j v h =
-    let e : i + (j + 1) ≡ suc (i + j) = omega arith in
-    rw (e, add-one j, drop-cons v j 0 h)
 
 pub entry-length : (code offset size : ℕ) → length (entry code offset size) ≡ 10
 entry-length code offset size = simp (length-append, le-length)
@@ -83,8 +71,3 @@ take-below k l most h i =
           (let short : length (take k l) ≤ i = rw length-take (omega arith) in
           rw (List·getD-eq-default (take k l) 0 short) (omega (arith, h 0)))
     ]
-
--- what stands behind the sheet is kept
-pub over-sets : (w buffer : List ℕ) → length w ≤ length buffer → sets buffer 0 w ≡ over w buffer
-unfolding over
-over-sets w buffer h = rw (← zero-add (length w)) (sets-eq w buffer 0 (rw zero-add h))

@@ -7,6 +7,7 @@ use mathlib.Core.Bool.{Bool, true, false, _&&_, _||_, true≢false, false≢true
 use mathlib.Core.Logic.{inl, inr}
 use lib.Dec.{ltb, eqb}
 use borrow.Author.Tests.{ltb-true, ltb-false, eqb-false}
+use Rattle.lists.specs.TestLaws.{by-cases}
 use Rattle.fractions.specs.declared.Fraction.{Fraction}
 use Rattle.fractions.specs.declared.Value.{Value}
 use Rattle.fractions.specs.declared.Value.the-variants.{Never, At}
@@ -15,7 +16,6 @@ use Rattle.fractions.specs.Laws.{order, atMost-trans, less-atMost, less-iff, sa
 use Rattle.elimination.specs.Records.{denAt, valueAt}
 use Rattle.index.specs.Index.{beats}
 use Rattle.index.specs.Valid.{Order}
-use Rattle.index.specs.Lemmas.Count.{by-cases}
 
 -- ---- removed no later
 

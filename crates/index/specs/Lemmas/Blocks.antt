@@ -9,11 +9,11 @@ use mathlib.Core.List.{List, [], _∷_, _++_}
 use lib.ListN.{length, getD, take, drop, take-append-drop}
 use lib.Dec.{eqb}
 use borrow.Author.Tests.{eqb-true, eqb-false}
+use Rattle.lists.specs.TestLaws.{by-cases, bit-not-true, bit-not-zero}
 use Rattle.index.specs.Count.{count, non}
 use Rattle.index.specs.Tree.{half, first, second}
 use Rattle.index.specs.Valid.{heads}
 use Rattle.index.specs.Blocks.{block, leftOf, rightOf}
-use Rattle.index.specs.Lemmas.Count.{by-cases, bit-not-true, bit-not-zero}
 
 -- all but the root
 abbrev pub othersOf : (ℕ → ℕ) → ℕ → ℕ → List ℕ

@@ -2,67 +2,15 @@
 use Prim.Native.Nat.{ℕ, suc, _+_, _≤_}
 use native.Mathlib.Omega.{arith}
 use mathlib.Core.Path.{_≡_, refl, sym, ap, _∙_}
-use mathlib.Core.Bool.{Bool, true, false, not, cond, _&&_, false≢true}
+use mathlib.Core.Bool.{Bool, true, false, not, cond, _&&_}
 use mathlib.Core.List.{List, [], _∷_, _++_}
 use lib.ListN.{length, take, drop, take-append-drop}
 use lib.Dec.{eqb}
 use borrow.Author.Tests.{eqb-true, eq-eqb}
-use Rattle.index.specs.Count.{bit, count, _≈_, times, non, both}
+use Rattle.lists.specs.Tests.{bit}
+use Rattle.lists.specs.TestLaws.{by-cases, and-left, and-right, and-both, bit-true, bit-false, bit-not, bit-le, bit-split}
+use Rattle.index.specs.Count.{count, _≈_, times, non, both}
 use Rattle.index.specs.Tree.{without}
-
--- ---- tests
-
-pub by-cases : {A : Type 0} (b : Bool) → (b ≡ true → A) → (b ≡ false → A) → A
-by-cases true f g = f refl
-by-cases false f g = g refl
-
--- two tests that pass together are one
-pub same-test : (b c : Bool) → (b ≡ true → c ≡ true) → (c ≡ true → b ≡ true) → b ≡ c
-same-test true c f g = sym (f refl)
-same-test false true f g = g refl
-same-test false false f g = refl
-
-pub and-left : (b c : Bool) → b && c ≡ true → b ≡ true
-and-left true c h = refl
-and-left false c h = h
-
-pub and-right : (b c : Bool) → b && c ≡ true → c ≡ true
-and-right true c h = h
-and-right false c h = absurd (false≢true h)
-
-pub and-both : {b c : Bool} → b ≡ true → c ≡ true → b && c ≡ true
-and-both {b} {c} p q = ap (λ (z : Bool). z && c) p ∙ q
-
-pub bit-true : {b : Bool} → b ≡ true → bit b ≡ 1
-bit-true e = ap bit e
-
-pub bit-false : {b : Bool} → b ≡ false → bit b ≡ 0
-bit-false e = ap bit e
-
-pub bit-not-true : {b : Bool} → b ≡ true → bit (not b) ≡ 0
-bit-not-true e = ap (λ (b : Bool). bit (not b)) e
-
-bit-not : (b : Bool) → bit b + bit (not b) ≡ 1
-bit-not true = refl
-bit-not false = refl
-
-pub bit-zero : (b : Bool) → bit b ≡ 0 → b ≡ false
-bit-zero true h = absurd (omega arith)
-bit-zero false h = refl
-
-pub bit-not-zero : (b : Bool) → bit (not b) ≡ 0 → b ≡ true
-bit-not-zero true h = refl
-bit-not-zero false h = absurd (omega arith)
-
-bit-le : (b c : Bool) → (b ≡ true → c ≡ true) → bit b ≤ bit c
-bit-le true c h = omega (arith, ap bit (h refl))
-bit-le false c h = omega arith
-
-bit-split : (b c : Bool) → bit c ≡ bit (b && c) + bit (not b && c)
-bit-split true true = refl
-bit-split true false = refl
-bit-split false true = refl
-bit-split false false = refl
 
 -- ---- counts
 

@@ -8,6 +8,7 @@ use mathlib.Core.List.{List, [], _∷_, _++_}
 use lib.ListN.{length, take-append-drop}
 use lib.Dec.{leb, ltb}
 use borrow.Author.Tests.{le-leb, lt-ltb, ltb-true}
+use Rattle.lists.specs.TestLaws.{bit-not-zero}
 use Rattle.numbers.specs.Little.{Bytes}
 use Rattle.numbers.specs.Laws.{le-bound}
 use Rattle.index.specs.Count.{count, non, below, under}
@@ -18,7 +19,7 @@ use Rattle.index.specs.Blocks.{entryAt, block, leftOf, rightOf}
 use Rattle.index.specs.Check.{keyBound, spanOf, findingOf, joinSpans, side, joinFindings, Ready}
 use Rattle.index.specs.declared.Span.{Span}
 use Rattle.index.specs.declared.Finding.{Finding}
-use Rattle.index.specs.Lemmas.Count.{bit-not-zero, count-le, count-not}
+use Rattle.index.specs.Lemmas.Count.{count-le, count-not}
 use Rattle.index.specs.Lemmas.Sorting.{under-top}
 use Rattle.index.specs.Lemmas.Trees.{count-halves, tree-step}
 use Rattle.index.specs.Lemmas.Blocks.{othersOf, block-root, block-left, block-right, block-all}

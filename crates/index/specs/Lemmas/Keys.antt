@@ -8,11 +8,11 @@ use lib.Dec.{ltb, leb}
 use lib.IntN.{ℤ, pos, negsuc}
 use lib.Signed.{mag, leZ}
 use borrow.Author.Tests.{ltb-true, leb-true, leb-false, le-leb, lt-leb}
+use Rattle.lists.specs.TestLaws.{by-cases}
 use Rattle.numbers.specs.Little.{leAt, signed}
 use Rattle.marks.specs.Marks.{shifted}
 use Rattle.index.specs.Index.{coordinate, axisKey}
 use Rattle.index.specs.Check.{keyBound}
-use Rattle.index.specs.Lemmas.Count.{by-cases}
 
 shifted-small : (u : ℕ) → shifted (signed 2 u) < 65536
 shifted-small u = by-cases (ltb u 32768) (λ e. rw e (omega (arith, ltb-true u 32768 e))) (λ e. rw e (omega arith))

@@ -7,9 +7,9 @@ use mathlib.Core.List.{List, [], _∷_}
 use lib.ListN.{length, length-append}
 use lib.Dec.{eqb, ltb}
 use borrow.Author.Tests.{ltb-true, ltb-false, eqb-true, eqb-false, lt-ltb, le-ltb, ne-eqb, not-true}
+use Rattle.lists.specs.TestLaws.{by-cases, and-left, and-right, bit-true, bit-false, bit-not-true, bit-not-zero}
 use Rattle.index.specs.Count.{count, _≈_, times, Distinct, non, both, below, keyed}
 use Rattle.index.specs.Tree.{upTo, without}
-use Rattle.index.specs.Lemmas.Count.{by-cases, and-left, and-right, bit-true, bit-false, bit-not-true, bit-not-zero}
 use Rattle.index.specs.Lemmas.Count.{count-append, count-le, times-le, without-count, without-length, without-le, without-alike}
 
 -- what is neither n nor below n is not below n + 1

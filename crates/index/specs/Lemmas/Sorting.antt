@@ -8,10 +8,10 @@ use mathlib.Core.List.{List, [], _∷_}
 use lib.ListN.{take, drop}
 use lib.Dec.{ltb, leb}
 use borrow.Author.Tests.{ltb-true, ltb-false, leb-true, leb-false, lt-ltb, le-ltb, le-leb, eq-eqb}
+use Rattle.lists.specs.TestLaws.{by-cases, bit-true, bit-false, bit-not-true, bit-zero, bit-not-zero}
 use Rattle.index.specs.Count.{count, _≈_, non, under, keyed}
 use Rattle.index.specs.Tree.{insert, sort}
 use Rattle.index.specs.Valid.{top, low, apart, Split}
-use Rattle.index.specs.Lemmas.Count.{by-cases, bit-true, bit-false, bit-not-true, bit-zero, bit-not-zero}
 use Rattle.index.specs.Lemmas.Count.{count-cut, count-le, count-not, times-self}
 
 -- each key is below all later ones

@@ -9,10 +9,11 @@ use lib.ListN.{length, length-append}
 use lib.Seq.{take-at, drop-at}
 use lib.Dec.{eqb}
 use borrow.Author.Tests.{eqb-false, eq-eqb, ne-eqb, not-true}
+use Rattle.lists.specs.TestLaws.{by-cases, and-right, and-both, bit-false, bit-not-zero}
 use Rattle.index.specs.Count.{count, _≈_, times, non, both, below, under, keyed}
 use Rattle.index.specs.Tree.{upTo, half, first, second, sort, without, best, treeOf}
 use Rattle.index.specs.Valid.{Order, heads, valid, isTree, Split}
-use Rattle.index.specs.Lemmas.Count.{by-cases, and-right, and-both, bit-false, bit-not-zero, count-append, count-le}
+use Rattle.index.specs.Lemmas.Count.{count-append, count-le}
 use Rattle.index.specs.Lemmas.Count.{times-le, times-self, alike-length, without-count, without-alike}
 use Rattle.index.specs.Lemmas.Numbers.{all-numbers, upTo-length, upTo-once}
 use Rattle.index.specs.Lemmas.Sorting.{sort-alike, sort-rising, rising-split}

@@ -6,6 +6,7 @@ use mathlib.Core.Bool.{true, false}
 use mathlib.Core.List.{List}
 use lib.ListN.{length}
 use borrow.Author.Tests.{ltb-true, lt-ltb}
+use Rattle.lists.specs.TestLaws.{by-cases, same-test}
 use Rattle.numbers.specs.Little.{Bytes}
 use Rattle.index.specs.Count.{count, _≈_, non, below}
 use Rattle.index.specs.Tree.{upTo}
@@ -14,7 +15,7 @@ use Rattle.index.specs.Valid.{isTree}
 use Rattle.index.specs.Blocks.{entryAt, block}
 use Rattle.index.specs.Check.{findingOf, Ready, Whole, AllBelow}
 use Rattle.index.specs.declared.Finding.{Finding}
-use Rattle.index.specs.Lemmas.Count.{by-cases, same-test, alike-length}
+use Rattle.index.specs.Lemmas.Count.{alike-length}
 use Rattle.index.specs.Lemmas.Numbers.{upTo-length, upTo-below}
 use Rattle.index.specs.Lemmas.TreeOf.{Made, tree-made, tree-is}
 use Rattle.index.specs.Lemmas.Beats.{beats-order}

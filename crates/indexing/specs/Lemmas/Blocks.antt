@@ -8,11 +8,12 @@ use mathlib.Core.Logic.{_≢_}
 use mathlib.Core.List.{_∷_}
 use lib.Dec.{eqb}
 use borrow.Author.Tests.{eqb-true, eqb-false}
-use Rattle.sorting.specs.Sorted.{bit as rowBit, count as rowCount}
+use Rattle.lists.specs.Tests.{bit as rowBit, bit}
+use Rattle.lists.specs.TestLaws.{by-cases}
+use Rattle.sorting.specs.Sorted.{count as rowCount}
 use Rattle.sorting.specs.Rows.{row}
-use Rattle.index.specs.Count.{bit, count}
+use Rattle.index.specs.Count.{count}
 use Rattle.index.specs.Blocks.{block}
-use Rattle.index.specs.Lemmas.Count.{by-cases}
 
 -- ---- equal places
 

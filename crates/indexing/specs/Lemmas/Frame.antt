@@ -5,7 +5,9 @@ use mathlib.Core.Path.{_≡_, sym, _∙_}
 use mathlib.Core.List.{List}
 use lib.ListN.{take, drop, length-take, length-drop}
 use lib.Seq.{ext-getD, getD-take, getD-drop}
-use Rattle.sorting.specs.Frame.{Clear, Kept, kept-none, kept-wide, kept-then, number-kept}
+use Rattle.lists.specs.Stores.{Clear, Kept}
+use Rattle.lists.specs.StoreLaws.{kept-none, kept-wide, kept-then}
+use Rattle.numbers.specs.Laws.{number-kept}
 use Rattle.index.specs.Blocks.{block}
 use Rattle.indexing.specs.Tail.{scheduleIn, memberAt}
 use Rattle.indexing.specs.Steps.{Elsewhere}

@@ -8,11 +8,11 @@ use lib.ListN.{length, take, drop, take-append-drop, length-take, length-drop, L
 use lib.Seq.{drop-drop, getD-take, getD-drop}
 use lib.Dec.{ltb}
 use borrow.Author.Tests.{ltb-true, ltb-false}
+use Rattle.lists.specs.TestLaws.{by-cases}
 use Rattle.numbers.specs.Little.{Bytes}
 use Rattle.numbers.specs.Laws.{le-take, le-drop}
 use Rattle.index.specs.Index.{indexOf, indexBytes}
 use Rattle.index.specs.Blocks.{entryAt, block}
-use Rattle.index.specs.Lemmas.Count.{by-cases}
 use Rattle.index.specs.Lemmas.Blocks.{block-length}
 use Rattle.index.specs.Lemmas.Bytes.{bytes-back}
 use Rattle.index.specs.Lemmas.Whole.{index-only}

@@ -1,6 +1,6 @@
 -- `logs::log_answer`: 4, and then record by record. Assumes nothing.
 use mathlib.Core.Path.{sym, _∙_}
-use Rattle.contents.specs.Lemmas.Tests.{said-no, said-yes}
+use Rattle.lists.specs.TestLaws.{said-no, said-yes}
 use Rattle.contents.specs.Lemmas.Asked.{asked-yes, asked-no}
 use Rattle.logs.specs.Questions.{logChecks}
 use borrow.Author.Needs.{needs}

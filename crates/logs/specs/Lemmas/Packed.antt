@@ -9,8 +9,8 @@ use lib.Dec.{leb, eqb, eqb·suc-zero}
 use lib.IntN.{ℤ, pos, negsuc, negℤ, natAbs}
 use lib.Signed.{mag}
 use borrow.Author.Tests.{leb-true, eqb-true, lt-ltb, le-ltb, le-leb, lt-leb, eq-eqb}
+use Rattle.lists.specs.TestLaws.{both-iff}
 use Rattle.numbers.specs.Little.{signed}
-use Rattle.contents.specs.Lemmas.Tests.{both-iff}
 use Rattle.logs.specs.Packed.{magnitude, isMinus, withSign, packedValue, areDigits, isLast, isPacked, isPlace, packedOf, packed}
 use Rattle.logs.specs.Log.{coordinateAt, placeBits}
 use Rattle.logs.specs.Questions.{packedAt}

@@ -8,8 +8,8 @@ use native.Mathlib.Omega.{arith}
 use lib.Dec.{eqb}
 use lib.ListN.{length}
 use borrow.Author.Tests.{leb-true, eqb-true, le-leb, eq-eqb}
+use Rattle.lists.specs.TestLaws.{both-iff}
 use Rattle.contents.specs.Asking.{answer}
-use Rattle.contents.specs.Lemmas.Tests.{both-iff}
 use Rattle.contents.specs.Lemmas.Asked.{Numbered, asked-iff, append-yes, append-no}
 use Rattle.contents.specs.Lemmas.Turns.{turn-numbered, turn-at, turn-of}
 use Rattle.bodies.specs.Questions.{fieldQuestions}

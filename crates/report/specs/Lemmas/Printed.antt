@@ -6,6 +6,8 @@ use native.Mathlib.Omega.{arith}
 use borrow.Author.Tests.{le-leb, lt-leb, leb-true, ne-eqb}
 use lib.Dec.{leb}
 use lib.ListN.{length, drop}
+use Rattle.lists.specs.Stores.{over}
+use Rattle.lists.specs.StoreLaws.{over-sets}
 use Rattle.numbers.specs.Little.{Bytes}
 use Rattle.text.specs.Text.{decimal, Wrote}
 use Rattle.text.specs.Laws.{wrote-length}
@@ -15,9 +17,8 @@ use Rattle.elimination.specs.Schedule.{AllowedMarks, schedule-length}
 use Rattle.contents.specs.Contents.{split, marksPart}
 use Rattle.contents.specs.Asking.{Question, _asks_, answer}
 use Rattle.contents.specs.Laid.{Laid}
-use Rattle.contents.specs.Written.{over}
 use Rattle.contents.specs.Lemmas.Asked.{none-asked, asked-yes, asked-no, asked-iff}
-use Rattle.contents.specs.Laws.{append-yes, append-no, append-iff, over-sets}
+use Rattle.contents.specs.Laws.{append-yes, append-no, append-iff}
 use Rattle.bodies.specs.Questions.{markCount}
 use Rattle.sheet.specs.Questions.{sheetCount, checkQuestions, check}
 use Rattle.sheet.specs.Laws.{check-numbered, accepted-iff}

@@ -1,12 +1,13 @@
 -- The schedule that was worked out for the marks says, record by record, what the process makes of them. Assumes nothing.
 use Prim.Native.Nat.{ℕ, _+_, _*_, _<_, _≤_}
 use mathlib.Core.Path.{_≡_, refl, sym, _∙_, subst}
-use mathlib.Core.Bool.{Bool, true, false, _&&_, true≢false}
+use mathlib.Core.Bool.{true, false, true≢false}
 use mathlib.Core.List.{List, _++_}
 use native.Mathlib.Omega.{arith}
 use borrow.Author.Tests.{ne-eqb}
 use lib.Dec.{eqb}
 use lib.ListN.{length, length-append}
+use Rattle.lists.specs.TestLaws.{and-no}
 use Rattle.numbers.specs.Laws.{le-append}
 use Rattle.fractions.specs.declared.Fraction.{Fraction}
 use Rattle.fractions.specs.Order.{Small}
@@ -28,11 +29,6 @@ reads-append p rest m h num den k r =
       denominator = le-append 4 p rest (14 * m + 10) (omega arith) ∙ r .denominator;
     }
 
-none-both : (a b : Bool) → a && (b && false) ≡ false
-none-both true true = refl
-none-both true false = refl
-none-both false b = refl
-
 -- record m reads as what becomes of mark m
 record Says (p : List ℕ) (m : ℕ) (r : Removal) : Type 0 where
   removal : removalAt p m ≡ r
@@ -48,7 +44,7 @@ says-gone : (p : List ℕ) (m h : ℕ) (f : Fraction) → Reads p m h (f .num) (
 unfolding removalAt isNever
 says-gone p m h f r small positive =
     let some : eqb (f .den) 0 ≡ false = ne-eqb (f .den) 0 (λ z. omega arith) in
-    let e : isNever p m ≡ false = rw (r .denominator, some) (none-both (eqb (eliminatorAt p m) 65535) (eqb (numAt p m) 0)) in
+    let e : isNever p m ≡ false = rw (r .denominator, some) (and-no (eqb (eliminatorAt p m) 65535) (and-no (eqb (numAt p m) 0) refl)) in
     record {
       removal = rw (e, r .eliminator, r .numerator, r .denominator);
       zoom = λ n. record { small = rw (r .numerator, r .denominator) small; positive = rw (r .denominator) positive };

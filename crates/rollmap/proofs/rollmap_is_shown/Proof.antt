@@ -1,7 +1,7 @@
 -- `rollmap::rollmap_is_shown`: question 13, and then the mark's bit, or 0 where there is no such mark. Assumes nothing.
 use native.Mathlib.Omega.{arith}
 use borrow.Author.Needs.{needs}
-use Rattle.contents.specs.Lemmas.Tests.{said-no, said-yes}
+use Rattle.lists.specs.TestLaws.{said-no, said-yes}
 use Rattle.rollmap.specs.Lemmas.Walking.{map-iff, shown-refused, shown-outside, shown-inside}
 use Rattle.rollmap.proofs.rollmap_is_shown.Statement.{statement}
 use Rattle.rollmap.proofs.rollmap_is_shown.Tie as tie

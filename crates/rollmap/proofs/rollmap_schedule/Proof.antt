@@ -6,8 +6,8 @@ use native.Mathlib.Omega.{arith}
 use lib.ListN.{length}
 use borrow.Author.Needs.{needs}
 use denote.Ref.{now}
+use Rattle.lists.specs.TestLaws.{said-no, said-yes}
 use Rattle.numbers.specs.Little.{Bytes}
-use Rattle.contents.specs.Lemmas.Tests.{said-no, said-yes}
 use Rattle.bodies.specs.Fitting.{MarksRight}
 use Rattle.sheet.specs.Questions.{check}
 use Rattle.sheet.specs.Laws.{accepted-iff}

@@ -5,8 +5,8 @@ use mathlib.Core.Bool.{true}
 use native.Mathlib.Omega.{arith}
 use borrow.Author.Needs.{needs}
 use denote.Ref.{now}
+use Rattle.lists.specs.TestLaws.{said-no, said-yes}
 use Rattle.contents.specs.Contents.{countAt}
-use Rattle.contents.specs.Lemmas.Tests.{said-no, said-yes}
 use Rattle.sheet.specs.Questions.{check}
 use Rattle.sheet.specs.Laws.{accepted-iff}
 use Rattle.zoom.specs.Laws.{scale-most}

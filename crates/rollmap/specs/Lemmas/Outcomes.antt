@@ -8,10 +8,10 @@ use borrow.Author.Tests.{ne-eqb, eqb-true}
 use lib.Dec.{eqb}
 use lib.ListN.{length, take, drop}
 use lib.Seq.{take-append-seam}
+use Rattle.lists.specs.Stores.{over}
 use Rattle.sheet.specs.declared.Assembled.{Assembled}
 use Rattle.contents.specs.Contents.{join, given}
 use Rattle.contents.specs.Asking.{Question, answer}
-use Rattle.contents.specs.Written.{over}
 use Rattle.sheet.specs.Questions.{checkQuestions, check, assembleQuestions}
 use Rattle.sheet.specs.Assembled.{numberOf, lengthOf, Assembling}
 use Rattle.rollmap.specs.Jobs.{Outcome, outcome, after, checkJob, assembleJob}
@@ -39,7 +39,7 @@ module _ (questions : List Question) (value : ℕ) (written : List ℕ) where
 
 -- a refused call has written nothing
 pub after-none : (number : ℕ) (buffer : List ℕ) → after (record { number = number; value = 0; written = [] }) buffer ≡ buffer
-unfolding after
+unfolding after over
 after-none number buffer = refl
 
 -- a call that answers 0
@@ -52,7 +52,7 @@ module _ (questions : List Question) (value : ℕ) (written before : List ℕ) {
   value-is = rw (outcome-yes questions value written all-yes) at (ap (λ (a : Answer). a .value) (gives .answered))
 
   pub bytes-are : left ≡ written ++ drop (length written) before
-  unfolding after
+  unfolding after over
   bytes-are = rw (outcome-yes questions value written all-yes) at (gives .bytes)
 
 -- a call that writes and answers how much, of which a caller keeps so many bytes

@@ -1,7 +1,7 @@
 -- What scheduling writes passes the questions: its records are right, and its index is the tree of its own schedule. Assumes nothing.
 use Prim.Native.Nat.{ℕ, zero, suc, _+_, _*_, _<_, _≤_}
 use mathlib.Core.Path.{_≡_, refl, sym, ap, _∙_, subst}
-use mathlib.Core.Bool.{Bool, true, false, _||_, true≢false}
+use mathlib.Core.Bool.{Bool, true, false, true≢false}
 use mathlib.Core.List.{List}
 use mathlib.Core.Logic.{_↔_}
 use native.Mathlib.Omega.{arith}
@@ -9,6 +9,7 @@ use native.Mathlib.Decide.{decLt}
 use borrow.Author.Tests.{lt-ltb, eq-eqb}
 use lib.ListN.{length, take, drop, length-take, List·getD-eq-default}
 use lib.Seq.{getD-take, getD-drop}
+use Rattle.lists.specs.TestLaws.{or-right, every-of}
 use Rattle.numbers.specs.Little.{Bytes}
 use Rattle.fractions.specs.declared.Fraction.{Fraction}
 use Rattle.fractions.specs.declared.Value.{Value}
@@ -27,7 +28,6 @@ use Rattle.index.specs.Lemmas.Bytes.{same-self, index-length}
 use Rattle.index.specs.Lemmas.Whole.{index-size}
 use Rattle.contents.specs.Contents.{offsetAt, lengthAt, split, marksPart}
 use Rattle.contents.specs.Lemmas.Parts.{split-at}
-use Rattle.contents.specs.Lemmas.Tests.{every-of}
 use Rattle.bodies.specs.Questions.{markCount, namesRight, recordRight, question8}
 use Rattle.bodies.specs.Fitting.{MarksRight, Fitting}
 use Rattle.sheet.specs.Questions.{sheetCount, check}
@@ -36,10 +36,6 @@ use Rattle.bitmap.specs.Map.{countShown}
 use Rattle.rollmap.specs.Jobs.{newSchedule, newIndex, newBodies}
 
 -- ---- tests, counts and bytes
-
-or-right : (a : Bool) {b : Bool} → b ≡ true → a || b ≡ true
-or-right true e = refl
-or-right false e = e
 
 -- two values that are both later than f, or neither, have the same test
 pub later-same : (v w : Value) (f : Fraction) → Later v f ↔ Later w f → later v (At f) ≡ later w (At f)

@@ -9,6 +9,9 @@ use borrow.Rule.Slice.PartMut.{midOf, putMid}
 use lib.Dec.{leb}
 use lib.ListN.{length, getD, take, drop, length-append, length-drop, drop-of-length-le}
 use lib.Seq.{sets, take-at, drop-at, drop-append-add, drop-drop, take-all}
+use Rattle.lists.specs.Stores.{over}
+use Rattle.lists.specs.TestLaws.{both-iff}
+use Rattle.lists.specs.StoreLaws.{sets-append, over-sets}
 use Rattle.elimination.specs.Records.{scheduleOf}
 use Rattle.elimination.specs.Schedule.{schedule-length}
 use Rattle.index.specs.Index.{indexOf, indexBytes}
@@ -17,9 +20,8 @@ use Rattle.index.specs.Lemmas.Whole.{index-size}
 use Rattle.indexing.specs.Tail.{withIndex}
 use Rattle.contents.specs.Contents.{split, chain, join, marksPart}
 use Rattle.contents.specs.Asking.{answer}
-use Rattle.contents.specs.Written.{contentsOf, over}
-use Rattle.contents.specs.Lemmas.Tests.{both-iff}
-use Rattle.contents.specs.Laws.{append-yes, append-no, join-contents, contents-length, sets-append, over-sets}
+use Rattle.contents.specs.Written.{contentsOf}
+use Rattle.contents.specs.Laws.{append-yes, append-no, join-contents, contents-length}
 use Rattle.bodies.specs.Questions.{markCount}
 use Rattle.sheet.specs.Questions.{sheetCount, checkQuestions, check}
 use Rattle.sheet.specs.Laws.{check-numbered, accepted-iff}

@@ -7,9 +7,9 @@ use native.Mathlib.Omega.{arith}
 use borrow.Author.Tests.{le-leb, lt-leb}
 use lib.Dec.{leb}
 use lib.ListN.{length}
+use Rattle.lists.specs.Stores.{over}
 use Rattle.contents.specs.Contents.{countAt, split, marksPart, schedulePart, indexPart}
 use Rattle.contents.specs.Asking.{Question, _asks_, answer}
-use Rattle.contents.specs.Written.{over}
 use Rattle.contents.specs.Laws.{append-yes, append-no, split-length}
 use Rattle.sheet.specs.Questions.{sheetCount, checkQuestions, check}
 use Rattle.sheet.specs.Laws.{check-numbered, accepted-iff}

@@ -9,8 +9,8 @@ use borrow.Author.Tests.{leb-true, le-leb, lt-ltb, le-ltb, ne-eqb}
 use mathlib.Core.Logic.{_↔_}
 use lib.Dec.{leb, eqb}
 use lib.ListN.{length}
+use Rattle.lists.specs.TestLaws.{both-iff}
 use Rattle.contents.specs.Asking.{answer}
-use Rattle.contents.specs.Lemmas.Tests.{both-iff}
 use Rattle.bitmap.specs.Map.{mapSize, bitAt, isSet, shownFrom, walk}
 use Rattle.bitmap.specs.Laws.{walked, walk-end, walk-here, walk-past}
 use Rattle.view.specs.Questions.{isMap, walkQuestions}

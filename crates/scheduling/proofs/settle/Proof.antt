@@ -1,6 +1,6 @@
 -- `scheduling::settle` meets its contract: what was found is read back from the row. Assumes nothing.
 use native.Mathlib.Omega.{arith}
-use Rattle.sorting.specs.Frame.{kept-none}
+use Rattle.lists.specs.StoreLaws.{kept-none}
 use Rattle.scheduling.proofs.Progress.{settles}
 use borrow.Author.Needs.{needs}
 use Rattle.scheduling.proofs.settle.Statement.{statement}

@@ -4,8 +4,8 @@ use mathlib.Core.Bool.{true}
 use native.Mathlib.Omega.{arith}
 use borrow.Author.Needs.{needs}
 use denote.Ref.{now}
+use Rattle.lists.specs.TestLaws.{said-no, said-yes}
 use Rattle.contents.specs.Questions.{isCount}
-use Rattle.contents.specs.Lemmas.Tests.{said-no, said-yes}
 use Rattle.sheet.specs.Lemmas.Assembling.{refused-count, refused-bodies, placed, given-writable}
 use Rattle.sheet.proofs.assemble.Statement.{statement}
 use Rattle.sheet.proofs.assemble.Tie as tie

@@ -8,15 +8,15 @@ use lib.Dec.{leb}
 use lib.ListN.{length}
 use lib.Seq.{sets}
 use borrow.Author.Tests.{le-leb, lt-leb, ne-eqb}
+use Rattle.lists.specs.Stores.{over}
+use Rattle.lists.specs.StoreLaws.{over-sets}
 use Rattle.sheet.specs.declared.Assembled.{Assembled}
 use Rattle.sheet.specs.declared.Assembled.the-variants.{Refused, Written}
 use Rattle.contents.specs.Contents.{join, Writable, given}
 use Rattle.contents.specs.Asking.{answer}
 use Rattle.contents.specs.Questions.{isCount}
-use Rattle.contents.specs.Written.{over}
 use Rattle.contents.specs.Lemmas.Asked.{none-asked, asked-yes, asked-no, append-yes, append-no}
 use Rattle.contents.specs.Lemmas.Laid.{count-iff}
-use Rattle.contents.specs.Lemmas.Writing.{over-sets}
 use Rattle.bodies.specs.Questions.{bodyQuestions}
 use Rattle.bodies.specs.Lemmas.Numbered.{bodies-numbered}
 use Rattle.bodies.specs.Lemmas.Fitting.{fitting-iff}

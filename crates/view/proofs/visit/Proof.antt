@@ -2,7 +2,7 @@
 use mathlib.Core.Path.{sym, _∙_}
 use native.Mathlib.Omega.{arith}
 use borrow.Author.Needs.{needs}
-use Rattle.index.specs.Lemmas.Count.{bit-false}
+use Rattle.lists.specs.TestLaws.{bit-false}
 use Rattle.view.specs.Lemmas.Bits.{set-nothing, set-none, set-one}
 use Rattle.view.proofs.visit.Statement.{statement}
 use Rattle.view.proofs.visit.Tie as tie

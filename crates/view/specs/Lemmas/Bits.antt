@@ -8,8 +8,9 @@ use mathlib.Core.Logic.{dite}
 use mathlib.Core.List.{List, [], _∷_, _++_}
 use lib.Dec.{eqb}
 use borrow.Author.Tests.{eqb-true, eqb-false}
+use Rattle.lists.specs.TestLaws.{by-cases, and-both, bit-true, bit-zero}
 use Rattle.index.specs.Count.{count, both}
-use Rattle.index.specs.Lemmas.Count.{by-cases, and-both, bit-true, bit-zero, count-append, both-le}
+use Rattle.index.specs.Lemmas.Count.{count-append, both-le}
 use Rattle.bitmap.specs.Facts.{BitSet}
 use Rattle.view.specs.Search.{timesShown, inByte, BitsSet}
 

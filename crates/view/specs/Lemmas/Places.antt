@@ -7,8 +7,8 @@ use lib.Dec.{ltb}
 use lib.IntN.{ℤ, pos, negsuc, subℕ, _-ℤ_, natAbs}
 use lib.Signed.{mag, leZ}
 use borrow.Author.Tests.{ltb-true, ltb-false, leb-true, leb-false}
+use Rattle.lists.specs.TestLaws.{by-cases}
 use Rattle.marks.specs.Marks.{shifted}
-use Rattle.index.specs.Lemmas.Count.{by-cases}
 use Rattle.view.specs.Shown.{above}
 
 pub above-sub : (a b : ℕ) → above (subℕ a b) ≡ a - b

@@ -11,11 +11,11 @@ use lib.Dec.{leb}
 use lib.IntN.{ℤ, pos, negsuc, _-ℤ_}
 use lib.Signed.{mag}
 use borrow.Author.Tests.{leb-true, leb-false, le-leb}
+use Rattle.lists.specs.TestLaws.{by-cases, and-left, and-right}
 use Rattle.marks.specs.Marks.{xAt, yAt, shifted, usedAt}
 use Rattle.elimination.specs.Records.{valueAt}
 use Rattle.zoom.specs.Living.{livesAt}
 use Rattle.index.specs.Index.{coordinate}
-use Rattle.index.specs.Lemmas.Count.{by-cases, and-left, and-right}
 use Rattle.view.specs.declared.Rectangle.{Rectangle}
 use Rattle.view.specs.Shown.{above, gapSquared, distanceSquared, reaches, shown}
 use Rattle.view.specs.Search.{wider, widestLiving, moved, boundsOf, Within}

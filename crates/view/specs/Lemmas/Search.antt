@@ -9,6 +9,7 @@ use mathlib.Core.List.{List, [], _∷_, _++_}
 use lib.ListN.{length}
 use lib.Dec.{eqb}
 use borrow.Author.Tests.{ltb-true, lt-ltb, eqb-false}
+use Rattle.lists.specs.TestLaws.{by-cases, and-left, and-right}
 use Rattle.elimination.specs.Records.{valueAt}
 use Rattle.zoom.specs.Living.{zoomSquared, livesAt}
 use Rattle.index.specs.Count.{count, non, both, below}
@@ -17,7 +18,7 @@ use Rattle.index.specs.Valid.{valid, isTree}
 use Rattle.index.specs.Blocks.{entryAt, block, leftOf, rightOf, Halves}
 use Rattle.index.specs.Check.{AllMarked}
 use Rattle.index.specs.Laws.{block-halves, none-later, none-left, none-right}
-use Rattle.index.specs.Lemmas.Count.{by-cases, and-left, and-right, count-le, count-split, both-le}
+use Rattle.index.specs.Lemmas.Count.{count-le, count-split, both-le}
 use Rattle.index.specs.Lemmas.Blocks.{block-all}
 use Rattle.view.specs.declared.Bounds.{Bounds}
 use Rattle.view.specs.Search.{boundOn, Within, isBeyond, sizeToSearch, BitsSet, Searchable}
