@@ -1,20 +1,23 @@
 -- What the project cites of bodies that fit one another. The proofs are in Lemmas. Assumes nothing.
-use Prim.Native.Nat.{ℕ, _<_, _≤_}
+use Prim.Native.Nat.{ℕ, _*_, _<_, _≤_}
 use mathlib.Core.Path.{_≡_, refl}
 use lib.Dec.{eqb}
+use lib.ListN.{length}
 use mathlib.Core.Bool.{true}
 use mathlib.Core.List.{List, [], _∷_}
 use mathlib.Core.Logic.{_↔_}
 use Rattle.numbers.specs.Little.{Bytes}
 use Rattle.fractions.specs.Order.{Small}
 use Rattle.elimination.specs.Records.{fractionAt}
+use Rattle.elimination.specs.Reel.{Reel}
 use Rattle.marks.specs.Marks.{houseOf, houseNumber, isKind}
+use Rattle.marks.specs.Good.{GoodMarks}
 use Rattle.marks.specs.declared.House.{House}
 use Rattle.marks.specs.declared.House.the-variants.{Radius, Refused}
 use Rattle.contents.specs.Asking.{_asks_, answer}
 use Rattle.contents.specs.Lemmas.Asked.{Numbered}
 use Rattle.bodies.specs.Questions.{markCount, fieldQuestions, part1Questions, question8, bodyQuestions}
-use Rattle.bodies.specs.Fitting.{MarksRight, Fitting}
+use Rattle.bodies.specs.Fitting.{Fitting}
 use Rattle.bodies.specs.Lemmas.Numbered as Numbering
 use Rattle.bodies.specs.Lemmas.Fitting as Fits
 use Rattle.bodies.specs.Lemmas.Records as Records
@@ -40,7 +43,7 @@ pub field-iff : (kind radius : ℕ) → (answer (fieldQuestions kind radius) ≡
 field-iff = Fits.field-iff
 
 -- to 4 to 6
-pub part1-iff : (s : List ℕ) → (answer (part1Questions s) ≡ 0) ↔ MarksRight s (markCount s)
+pub part1-iff : (s : List ℕ) → (answer (part1Questions s) ≡ 0) ↔ (GoodMarks s (markCount s) × (length s ≡ 11 * markCount s))
 part1-iff = Fits.part1-iff
 
 -- and to 4 to 9
@@ -48,5 +51,5 @@ pub fitting-iff : (bodies : List (List ℕ)) → (answer (bodyQuestions bodies) 
 fitting-iff = Fits.fitting-iff
 
 -- Both numbers of a schedule record that passed question 8 are small: their cross products fit 64 bits.
-pub record-small : (s p : List ℕ) (n m : ℕ) → Bytes s → MarksRight s n → question8 s p n ≡ true → m < n → Small (fractionAt p m)
+pub record-small : (r : Reel) (p : List ℕ) (m : ℕ) → Bytes (r .marks) → GoodMarks (r .marks) (r .count) → question8 r p ≡ true → m < r .count → Small (fractionAt p m)
 record-small = Records.record-small

@@ -9,6 +9,7 @@ use Rattle.fractions.specs.declared.Fraction.{Fraction}
 use Rattle.fractions.specs.Order.{later}
 use Rattle.marks.specs.Marks.{kindAt, radiusAt, isKind, isRadius, outranks, touching}
 use Rattle.elimination.specs.Records.{eliminatorAt, fractionAt, isNever, valueAt}
+use Rattle.elimination.specs.Reel.{Reel}
 use Rattle.index.specs.Index.{isIndex}
 use Rattle.contents.specs.Contents.{has, marksPart, schedulePart, indexPart}
 use Rattle.contents.specs.Asking.{Question, _asks_, inTurn, ifThere}
@@ -38,7 +39,11 @@ markQuestions s n = inTurn (oneMark s) n
 unfoldable pub part1Questions : List ℕ → List Question
 part1Questions s = (4 asks question4 s) ∷ markQuestions s (markCount s)
 
--- ---- of parts 2 and 3; `s` is part 1, `p` part 2 and `n` the number of marks
+-- the reel of part 1
+abbrev pub reelOf : List ℕ → Reel
+reelOf s = record { marks = s; count = markCount s }
+
+-- ---- of parts 2 and 3; `r` is the reel, `s` part 1, `p` part 2 and `n` the number of marks
 
 -- 7. "Are parts 2 and 3, if present, 14n and 2n bytes?"
 unfoldable pub question7 : List (List ℕ) → ℕ → Bool
@@ -50,17 +55,17 @@ abbrev pub exactly : Fraction → Fraction → Bool
 exactly f g = eqb (f .num) (g .num) && eqb (f .den) (g .den)
 
 -- "does it name a higher-ranked mark below n, with their touching value as its two unreduced numbers"
-unfoldable pub namesRight : List ℕ → List ℕ → ℕ → ℕ → Bool
-namesRight s p n m =
-    (ltb (eliminatorAt p m) n && outranks s (eliminatorAt p m) m) && exactly (fractionAt p m) (touching s (eliminatorAt p m) m)
+unfoldable pub namesRight : Reel → List ℕ → ℕ → Bool
+namesRight r p m =
+    (ltb (eliminatorAt p m) (r .count) && outranks (r .marks) (eliminatorAt p m) m) && exactly (fractionAt p m) (touching (r .marks) (eliminatorAt p m) m)
 
 -- "Is each schedule record the 'never' record, or else .., and is that mark removed later?"
-unfoldable pub recordRight : List ℕ → List ℕ → ℕ → ℕ → Bool
-recordRight s p n m = isNever p m || (namesRight s p n m && later (valueAt p (eliminatorAt p m)) (valueAt p m))
+unfoldable pub recordRight : Reel → List ℕ → ℕ → Bool
+recordRight r p m = isNever p m || (namesRight r p m && later (valueAt p (eliminatorAt p m)) (valueAt p m))
 
 -- 8.
-unfoldable pub question8 : List ℕ → List ℕ → ℕ → Bool
-question8 s p n = every (recordRight s p n) n
+unfoldable pub question8 : Reel → List ℕ → Bool
+question8 r p = every (recordRight r p) (r .count)
 
 -- 9. "Is part 3 the tree that parts 1 and 2 give?"
 unfoldable pub question9 : List ℕ → List ℕ → List ℕ → ℕ → Bool
@@ -76,6 +81,6 @@ bodyQuestions bodies =
     let n = markCount s in
     part1Questions s
     ++ ((7 asks question7 bodies n)
-    ∷ (8 asks ifThere (has bodies 2) (question8 s p n))
+    ∷ (8 asks ifThere (has bodies 2) (question8 (reelOf s) p))
     ∷ (9 asks ifThere (has bodies 3) (question9 s p (indexPart bodies) n))
     ∷ [])

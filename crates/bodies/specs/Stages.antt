@@ -18,7 +18,7 @@ sizesRight k p t n = ifThere (leb 2 k) (eqb p (14 * n)) && ifThere (leb 3 k) (eq
 abbrev pub lastQuestions : List ℕ → List ℕ → List ℕ → ℕ → ℕ → List Question
 lastQuestions s p t k n =
     (7 asks sizesRight k (length p) (length t) n)
-    ∷ (8 asks ifThere (leb 2 k) (question8 s p n))
+    ∷ (8 asks ifThere (leb 2 k) (question8 (record { marks = s; count = n }) p))
     ∷ (9 asks ifThere (leb 3 k) (isIndex s p t n))
     ∷ []
 

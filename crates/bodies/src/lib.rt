@@ -5,13 +5,13 @@ ghost use mathlib.Core.Path.{_≡_};
 ghost use mathlib.Core.Bool.{true};
 ghost use Prim.Native.Nat.{_+_, _*_, _<_, _≤_};
 ghost use lib.ListN.{length};
+ghost use Rattle.marks.specs.Good.{GoodMarks};
 ghost use Rattle.elimination.specs.Records.{eliminatorAt, fractionAt, isNever};
 ghost use Rattle.contents.specs.Contents.{given};
 ghost use Rattle.contents.specs.Asking.{answer};
 ghost use Rattle.contents.specs.Questions.{isCount};
 ghost use Rattle.bodies.specs.Questions.{question4, fieldQuestions, oneMark, markQuestions, part1Questions, exactly, namesRight, recordRight, question8, bodyQuestions};
 ghost use Rattle.bodies.specs.Stages.{sizesRight, lastQuestions};
-ghost use Rattle.bodies.specs.Fitting.{MarksRight};
 
 // ---- questions 4 to 6, of part 1
 
@@ -109,8 +109,8 @@ pub fn is_never(schedule: &[u8], m: usize) -> bool
 
 // Does mark m's record name a higher-ranked mark below n, with their touching value as it is, unreduced?
 fn names_right(marks: &[u8], schedule: &[u8], n: usize, m: usize) -> bool
-    requires { ⌜ MarksRight (now marks) n × (14 * n ≤ length (now schedule)) × (m < n) ⌝ }
-    ensures { λ r. ⌜ r ≡ namesRight (now (marks .entry)) (now (schedule .entry)) n m ⌝ }
+    requires { ⌜ GoodMarks (now marks) n × (14 * n ≤ length (now schedule)) × (m < n) ⌝ }
+    ensures { λ r. ⌜ r ≡ namesRight (record { marks = now (marks .entry); count = n }) (now (schedule .entry)) m ⌝ }
 {
     let by = eliminator_at(schedule, m);
     if n <= by {
@@ -124,8 +124,8 @@ fn names_right(marks: &[u8], schedule: &[u8], n: usize, m: usize) -> bool
 
 // Is mark m's record the 'never' record, or does it name a mark rightly that is removed later?
 fn record_right(marks: &[u8], schedule: &[u8], n: usize, m: usize) -> bool
-    requires { ⌜ MarksRight (now marks) n × (14 * n ≤ length (now schedule)) × (m < n) ⌝ }
-    ensures { λ r. ⌜ r ≡ recordRight (now (marks .entry)) (now (schedule .entry)) n m ⌝ }
+    requires { ⌜ GoodMarks (now marks) n × (14 * n ≤ length (now schedule)) × (m < n) ⌝ }
+    ensures { λ r. ⌜ r ≡ recordRight (record { marks = now (marks .entry); count = n }) (now (schedule .entry)) m ⌝ }
 {
     if is_never(schedule, m) {
         return true;
@@ -142,8 +142,8 @@ fn record_right(marks: &[u8], schedule: &[u8], n: usize, m: usize) -> bool
 
 // 8. Is each record right?
 pub fn is_schedule(marks: &[u8], schedule: &[u8], n: usize) -> bool
-    requires { ⌜ MarksRight (now marks) n × (14 * n ≤ length (now schedule)) ⌝ }
-    ensures { λ r. ⌜ r ≡ question8 (now (marks .entry)) (now (schedule .entry)) n ⌝ }
+    requires { ⌜ GoodMarks (now marks) n × (14 * n ≤ length (now schedule)) ⌝ }
+    ensures { λ r. ⌜ r ≡ question8 (record { marks = now (marks .entry); count = n }) (now (schedule .entry)) ⌝ }
 {
     let mut m = 0;
     while m < n {
@@ -176,7 +176,7 @@ fn has_sizes(count: usize, schedule: usize, index: usize, n: usize) -> bool
 
 // 7 to 9: the first 'no', or 0.
 fn last_answer(count: usize, marks: &[u8], schedule: &[u8], index: &[u8], n: usize) -> u32
-    requires { ⌜ MarksRight (now marks) n ⌝ }
+    requires { ⌜ GoodMarks (now marks) n ⌝ }
     ensures { λ r. ⌜ r ≡ answer (lastQuestions (now (marks .entry)) (now (schedule .entry)) (now (index .entry)) count n) ⌝ }
 {
     if !has_sizes(count, schedule.len(), index.len(), n) {

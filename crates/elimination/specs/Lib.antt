@@ -1,9 +1,10 @@
--- To be believed: what marks are, the two rules, the process, and the bytes of a schedule.
+-- To be believed: what marks are, the two rules, the process, the bytes of a schedule, and the reel, which decides it.
 -- To be used: Theorems, for a sheet's marks Sheet and Schedule, and for scheduling Settled and RankOrder.
 pub mod Marks
 pub mod Rules
 pub mod Process
 pub mod Records
+pub mod Reel
 pub mod Settled
 pub mod RankOrder
 pub mod Theorems

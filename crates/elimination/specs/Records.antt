@@ -7,9 +7,7 @@ use Rattle.numbers.specs.Little.{leAt, leBytes}
 use Rattle.fractions.specs.declared.Fraction.{Fraction}
 use Rattle.fractions.specs.declared.Value.{Value}
 use Rattle.fractions.specs.declared.Value.the-variants.{Never, At}
-use Rattle.marks.specs.Marks.{rankKey, touching}
-use Rattle.elimination.specs.Marks.{Marks}
-use Rattle.elimination.specs.Process.{Removal, stays, gone, process}
+use Rattle.elimination.specs.Process.{Removal, stays, gone}
 
 -- ---- reading: "14 bytes a mark: eliminator's number (2), numerator (8), denominator (4) of the removal value"
 
@@ -46,13 +44,3 @@ removalBytes (gone h f) = recordBytes h (f .num) (f .den)
 unfoldable pub records : (ℕ → Removal) → ℕ → List ℕ
 records s zero = []
 records s (suc n) = records s n ++ removalBytes (s n)
-
--- ---- the schedule of a sheet's marks
-
--- The first n marks of part 1, `s`: their ranks and touching values.
-abbrev pub marksOf : List ℕ → ℕ → Marks
-marksOf s n = record { count = n; key = rankKey s; value = touching s }
-
--- What scheduling writes as part 2.
-unfoldable pub scheduleOf : List ℕ → ℕ → List ℕ
-scheduleOf s n = records (process (marksOf s n)) n

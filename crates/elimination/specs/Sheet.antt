@@ -1,15 +1,14 @@
--- A sheet's marks as an instance of Marks: their ranks and touching values are proper.
-use Prim.Native.Nat.{ℕ, _≤_}
-use mathlib.Core.List.{List}
+-- A reel's marks as an instance of Marks: their ranks and touching values are proper.
+use Prim.Native.Nat.{_≤_}
 use native.Mathlib.Omega.{arith}
 use Rattle.marks.specs.Laws.{touching-positive, touching-symmetric, rank-distinct}
 use Rattle.elimination.specs.Marks.{Proper}
-use Rattle.elimination.specs.Records.{marksOf}
+use Rattle.elimination.specs.Reel.{Reel, marksOf}
 
-pub sheet-proper : (s : List ℕ) (n : ℕ) → n ≤ 4096 → Proper (marksOf s n)
-sheet-proper s n few =
+pub sheet-proper : (r : Reel) → r .count ≤ 4096 → Proper (marksOf r)
+sheet-proper r few =
     record {
-      distinct = λ i j hi hj. rank-distinct s i j (omega arith) (omega arith);
-      positive = touching-positive s;
-      symmetric = touching-symmetric s;
+      distinct = λ i j hi hj. rank-distinct (r .marks) i j (omega arith) (omega arith);
+      positive = touching-positive (r .marks);
+      symmetric = touching-symmetric (r .marks);
     }

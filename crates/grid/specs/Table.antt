@@ -2,7 +2,7 @@
 -- `w` is the lent buffer and `at` where the table begins in it; its entries have 2 bytes: for each cell its last row, the number of its rows,
 -- the four sides of its box and its largest radius; then for each row the row before it in its cell. A row is given by one more than its
 -- place, so that 0 means 'none'. Any row may be put into any cell.
-use Prim.Native.Nat.{ℕ, suc, _+_, _-_, _*_, _<_, _≤_}
+use Prim.Native.Nat.{ℕ, suc, _+_, _*_, _<_, _≤_}
 use mathlib.Core.Path.{_≡_}
 use mathlib.Core.Bool.{cond}
 use mathlib.Core.List.{List}

@@ -6,10 +6,10 @@ use mathlib.Core.List.{List, [], _∷_}
 use lib.IntN.{ℤ, natAbs}
 use lib.ListN.{length}
 use Rattle.numbers.specs.Little.{Bytes}
+use Rattle.marks.specs.Good.{GoodMarks}
 use Rattle.contents.specs.Asking.{answer}
 use Rattle.contents.specs.Lemmas.Asked.{Numbered}
 use Rattle.bodies.specs.Questions.{markCount, part1Questions}
-use Rattle.bodies.specs.Fitting.{MarksRight}
 use Rattle.bodies.specs.Laws.{part1-iff}
 use Rattle.logs.specs.Packed.{packedValue, isPacked, packed}
 use Rattle.logs.specs.Log.{recordCount, coordinateAt, marksOfLog, logOfMarks}
@@ -54,7 +54,7 @@ module _ (s : List ℕ) (accepted : answer (logChecks s) ≡ 0) where
 
   pub log-marks : answer (part1Questions (marksOfLog s)) ≡ 0
   unfolding marksOfLog
-  log-marks = part1-iff (marksOfLog s) .1 (rw (Back.marks-count s n log-right) (Back.marks-right s n log-right))
+  log-marks = part1-iff (marksOfLog s) .1 (rw (Back.marks-count s n log-right) (Back.marks-good s n log-right, Back.marks-long s n log-right))
 
   -- "Accepted logs come back byte for byte after both turns".
   pub log-again : logOfMarks (marksOfLog s) ≡ s
@@ -67,24 +67,24 @@ module _ (s : List ℕ) (bytes : Bytes s) (accepted : answer (part1Questions s) 
   abbrev marks : ℕ
   marks = markCount s
 
-  right : MarksRight s marks
-  right = part1-iff s .0 accepted
+  good : GoodMarks s marks
+  good = part1-iff s .0 accepted .0
 
   -- They have as many records, and the log of them passes 4, 15, 16, 5 and 6.
   pub log-count : recordCount (logOfMarks s) ≡ marks
   unfolding logOfMarks
-  log-count = Back.log-count s marks bytes right
+  log-count = Back.log-count s marks bytes good
 
   pub marks-log : answer (logChecks (logOfMarks s)) ≡ 0
   unfolding logOfMarks
-  marks-log = log-iff (logOfMarks s) .1 (rw (Back.log-count s marks bytes right) (Back.log-right s marks bytes right))
+  marks-log = log-iff (logOfMarks s) .1 (rw (Back.log-count s marks bytes good) (Back.log-right s marks bytes good))
 
   -- "and so do accepted marks".
   pub marks-again : marksOfLog (logOfMarks s) ≡ s
   unfolding logOfMarks marksOfLog
-  marks-again = rw (Back.log-count s marks bytes right) (Back.marks-are s marks bytes right)
+  marks-again = rw (Back.log-count s marks bytes good) (Back.marks-are s marks bytes good (part1-iff s .0 accepted .1))
 
 -- 13 bytes a record
 pub log-length : (s : List ℕ) → answer (part1Questions s) ≡ 0 → length (logOfMarks s) ≡ 13 * markCount s
 unfolding logOfMarks
-log-length s accepted = Back.log-long s (markCount s) (part1-iff s .0 accepted)
+log-length s accepted = Back.log-long s (markCount s) (part1-iff s .0 accepted .0)

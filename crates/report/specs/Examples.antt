@@ -11,7 +11,8 @@ use Rattle.numbers.specs.Little.{leAt, leBytes}
 use Rattle.fractions.specs.Order.{less, same, later, level}
 use Rattle.marks.specs.Marks.{kindGroup, houseRadius, oldRadius, houseOf, isKind, isRadius, usedRadius, square, touchingOf, touching, outranks, rankKey}
 use Rattle.elimination.specs.Process.{least, put, before, pair, next, run, process}
-use Rattle.elimination.specs.Records.{eliminatorAt, numAt, denAt, isNever, valueAt, records, scheduleOf}
+use Rattle.elimination.specs.Records.{eliminatorAt, numAt, denAt, isNever, valueAt, records}
+use Rattle.elimination.specs.Reel.{scheduleOf}
 use Rattle.index.specs.Tree.{treeOf}
 use Rattle.index.specs.Index.{beats, coordinate, axisKey, indexOf, indexBytes, sameBytes, isIndex}
 use Rattle.contents.specs.Contents.{startAt, split, entries, chain, join, marksPart, schedulePart, indexPart}

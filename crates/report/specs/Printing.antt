@@ -8,10 +8,11 @@ use lib.ListN.{length}
 use Rattle.lists.specs.Stores.{over}
 use Rattle.fractions.specs.Order.{Small}
 use Rattle.elimination.specs.Process.{Removal, stays, gone}
-use Rattle.elimination.specs.Records.{eliminatorAt, denAt, fractionAt, isNever, scheduleOf}
+use Rattle.elimination.specs.Records.{eliminatorAt, denAt, fractionAt, isNever}
+use Rattle.elimination.specs.Reel.{scheduleOf}
 use Rattle.contents.specs.Contents.{split, marksPart}
 use Rattle.contents.specs.Asking.{answer}
-use Rattle.sheet.specs.Questions.{sheetCount}
+use Rattle.bodies.specs.Questions.{reelOf}
 use Rattle.report.specs.Text.{printQuestions, printed}
 
 -- ---- a schedule's records
@@ -50,7 +51,7 @@ pub record Room (work schedule out : List ℕ) : Type 0 where
 
 -- the records that are worked out for a sheet: none where it is refused
 unfoldable pub workedOut : List ℕ → List ℕ
-workedOut s = cond (eqb (answer (printQuestions s)) 0) (scheduleOf (marksPart (split s)) (sheetCount s)) []
+workedOut s = cond (eqb (answer (printQuestions s)) 0) (scheduleOf (reelOf (marksPart (split s)))) []
 
 -- What printing the sheet `s` answers, `r`, and what it leaves in `out` and `schedule`; of `work`, its length, and that a refusal leaves it
 -- alone.

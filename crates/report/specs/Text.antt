@@ -9,9 +9,10 @@ use lib.Dec.{leb, eqb}
 use Rattle.text.specs.Text.{decimal}
 use Rattle.zoom.specs.Printed.{zoomDown}
 use Rattle.elimination.specs.Process.{Removal, stays, gone, process}
-use Rattle.elimination.specs.Records.{marksOf}
+use Rattle.elimination.specs.Reel.{marksOf}
 use Rattle.contents.specs.Contents.{split, marksPart}
 use Rattle.contents.specs.Asking.{Question, _asks_, answer}
+use Rattle.bodies.specs.Questions.{reelOf}
 use Rattle.sheet.specs.Questions.{sheetCount, checkQuestions}
 
 -- ---- texts as bytes
@@ -55,4 +56,4 @@ printQuestions s = (14 asks leb (length s) 65536) ∷ checkQuestions s ++ ((14 a
 unfoldable pub printed : List ℕ → List ℕ
 printed s =
     let number = answer (printQuestions s) in
-    cond (eqb number 0) (listing (process (marksOf (marksPart (split s)) (sheetCount s))) (sheetCount s)) (refusal number)
+    cond (eqb number 0) (listing (process (marksOf (reelOf (marksPart (split s))))) (sheetCount s)) (refusal number)

@@ -9,10 +9,12 @@ use lib.ListN.{length, take}
 use Rattle.fractions.specs.declared.Value.{Value}
 use Rattle.fractions.specs.Order.{Equal}
 use Rattle.elimination.specs.Marks.{Marks}
-use Rattle.elimination.specs.Records.{marksOf, valueAt}
+use Rattle.elimination.specs.Records.{valueAt}
+use Rattle.elimination.specs.Reel.{marksOf}
 use Rattle.elimination.specs.Rules.{FirstRule, SecondRule, AllSound}
 use Rattle.contents.specs.Contents.{split, marksPart, schedulePart}
 use Rattle.contents.specs.Asking.{answer}
+use Rattle.bodies.specs.Questions.{reelOf}
 use Rattle.sheet.specs.Questions.{sheetCount, check}
 use Rattle.bitmap.specs.Map.{countShown}
 use Rattle.bitmap.specs.Facts.{Shows}
@@ -29,7 +31,7 @@ use Rattle.rollmap.specs.Jobs.{after, ScheduledHere, viewJob}
 
 -- the marks of a sheet, as the process and the rules see them
 abbrev pub sheetMarks : List ℕ → Marks
-sheetMarks s = marksOf (marksPart (split s)) (sheetCount s)
+sheetMarks s = marksOf (reelOf (marksPart (split s)))
 
 -- "ours are those in the scheduled sheet's part 2": the removal value that it names for mark m
 abbrev pub sheetValue : List ℕ → ℕ → Value

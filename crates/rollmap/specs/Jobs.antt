@@ -7,11 +7,11 @@ use lib.ListN.{length, take}
 use lib.Dec.{ltb, leb, eqb}
 use Rattle.lists.specs.Stores.{over}
 use Rattle.numbers.specs.Little.{Bytes}
-use Rattle.elimination.specs.Records.{scheduleOf}
+use Rattle.elimination.specs.Reel.{scheduleOf}
 use Rattle.index.specs.Index.{indexOf, indexBytes}
 use Rattle.contents.specs.Contents.{split, join, marksPart, schedulePart, given}
 use Rattle.contents.specs.Asking.{Question, _asks_, answer}
-use Rattle.bodies.specs.Questions.{markCount}
+use Rattle.bodies.specs.Questions.{markCount, reelOf}
 use Rattle.filling.specs.Filling.{filled, fillQuestions}
 use Rattle.logs.specs.Log.{recordCount, marksOfLog, logOfMarks}
 use Rattle.logs.specs.Questions.{logQuestions, marksQuestions}
@@ -50,7 +50,7 @@ checkJob s = outcome (checkQuestions s) 0 []
 
 -- the parts that it writes for part 1, `s`: "a sheet of three parts, with the marks copied unchanged"
 abbrev pub newSchedule : List ℕ → List ℕ
-newSchedule s = scheduleOf s (markCount s)
+newSchedule s = scheduleOf (reelOf s)
 
 abbrev pub newIndex : List ℕ → List ℕ
 newIndex s = indexBytes (indexOf s (newSchedule s) (markCount s))

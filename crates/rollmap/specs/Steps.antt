@@ -3,7 +3,7 @@ use Prim.Native.Nat.{ℕ, _*_}
 use mathlib.Core.List.{List, [], _∷_, _++_}
 use lib.Dec.{leb}
 use lib.ListN.{drop}
-use Rattle.elimination.specs.Records.{scheduleOf}
+use Rattle.elimination.specs.Reel.{Reel, scheduleOf}
 use Rattle.index.specs.Index.{indexOf, indexBytes}
 use Rattle.contents.specs.Contents.{split, marksPart, schedulePart}
 use Rattle.contents.specs.Asking.{_asks_}
@@ -13,9 +13,10 @@ use Rattle.view.specs.Shown.{shown}
 use Rattle.bitmap.specs.Map.{mapSize, mapBytes, countShown}
 use Rattle.rollmap.specs.Jobs.{Outcome, outcome}
 
--- parts 2 and 3 of the n marks of part 1, `s`, at the start of a buffer
-unfoldable pub resultsOver : List ℕ → ℕ → List ℕ → List ℕ
-resultsOver s n buffer = scheduleOf s n ++ (indexBytes (indexOf s (scheduleOf s n) n) ++ drop (16 * n) buffer)
+-- parts 2 and 3 of a reel at the start of a buffer
+unfoldable pub resultsOver : Reel → List ℕ → List ℕ
+resultsOver r buffer =
+    scheduleOf r ++ (indexBytes (indexOf (r .marks) (scheduleOf r) (r .count)) ++ drop (16 * r .count) buffer)
 
 -- viewing an accepted sheet at a zoom that is taken: 13 is all that is left to ask
 unfoldable pub viewAt : List ℕ → Rectangle → ℕ → ℕ → Outcome

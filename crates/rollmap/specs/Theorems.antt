@@ -15,11 +15,13 @@ use Rattle.lists.specs.Tests.{bit}
 use Rattle.numbers.specs.Little.{Bytes}
 use Rattle.fractions.specs.declared.Value.{Value}
 use Rattle.fractions.specs.Order.{Equal}
-use Rattle.elimination.specs.Records.{scheduleOf}
-use Rattle.elimination.specs.Schedule.{AllowedMarks, schedule-iff, schedule-later}
+use Rattle.marks.specs.Good.{GoodMarks}
+use Rattle.elimination.specs.Reel.{scheduleOf}
+use Rattle.elimination.specs.Schedule.{schedule-iff, schedule-later}
 use Rattle.contents.specs.Contents.{countAt, split, join, marksPart, schedulePart, given}
 use Rattle.contents.specs.Asking.{Question, answer}
 use Rattle.contents.specs.Laws.{append-iff, split-join, given-length}
+use Rattle.bodies.specs.Questions.{reelOf}
 use Rattle.sheet.specs.Questions.{sheetCount, checkQuestions, check, assembleQuestions}
 use Rattle.sheet.specs.Laws.{check-numbered, accepted-iff, assemble-iff, fitting-writable, join-accepted, join-split, assemble-again}
 use Rattle.bitmap.specs.Map.{mapSize, mapBytes, countShown, shownFrom, isSet}
@@ -40,7 +42,7 @@ use Rattle.rollmap.specs.Demand3.{sheetValue, IsList, KeepsRules, shownB
 use Rattle.rollmap.specs.Lemmas.Outcomes.{outcome-yes, outcome-number, all-yes, kept}
 use Rattle.rollmap.specs.Lemmas.Walking.{map-iff, map-asked, map-taken, walks-all}
 use Rattle.rollmap.specs.Lemmas.Scheduling.{sheet-long, room-asked}
-use Rattle.rollmap.specs.Lemmas.Scheduled.{later-same, count-same, allowed, new-fitting, right, marks-bytes}
+use Rattle.rollmap.specs.Lemmas.Scheduled.{later-same, count-same, new-fitting, good, marks-long, marks-bytes}
 
 -- ---- demand 2: what scheduling writes, for an accepted sheet g
 
@@ -48,21 +50,20 @@ module _ (g : List ℕ) (bytes : Bytes g) (ok : check g ≡ 0) where
   -- It is accepted.
   pub scheduled-accepted : check (scheduled g) ≡ 0
   unfolding scheduled
-  scheduled-accepted = join-accepted (newBodies (marksPart (split g))) (omega arith) (omega arith) (new-fitting (marksPart (split g)) (right g bytes ok) (marks-bytes g bytes ok))
+  scheduled-accepted = join-accepted (newBodies (marksPart (split g))) (omega arith) (omega arith) (new-fitting (marksPart (split g)) (good g bytes ok) (marks-long g bytes ok) (marks-bytes g bytes ok))
 
   -- Its parts are these: part 1 is the given one, byte for byte.
   pub scheduled-parts : split (scheduled g) ≡ newBodies (marksPart (split g))
   unfolding scheduled
   scheduled-parts =
       split-join (newBodies (marksPart (split g)))
-      (fitting-writable (newBodies (marksPart (split g))) (omega arith) (omega arith) (new-fitting (marksPart (split g)) (right g bytes ok) (marks-bytes g bytes ok)))
+      (fitting-writable (newBodies (marksPart (split g))) (omega arith) (omega arith) (new-fitting (marksPart (split g)) (good g bytes ok) (marks-long g bytes ok) (marks-bytes g bytes ok)))
 
   -- "32 + 27n bytes for n marks"
   pub scheduled-length : length (scheduled g) ≡ 32 + 27 * sheetCount g
   unfolding scheduled
   scheduled-length =
-      let marks = right g bytes ok in
-      omega (arith, sheet-long (marksPart (split g)) (sheetCount g) (marks .few) (marks .long))
+      omega (arith, sheet-long (marksPart (split g)) (sheetCount g) (good g bytes ok .few) (marks-long g bytes ok))
 
   -- Scheduling it again gives the same bytes.
   pub scheduled-again : scheduled (scheduled g) ≡ scheduled g
@@ -189,22 +190,25 @@ module _ (s : List ℕ) (here : ScheduledHere s) where
   pub part1-kept : marksPart (split s) ≡ marksPart (split g)
   part1-kept = ap marksPart parts
 
-  fine : AllowedMarks (marksPart (split s)) (sheetCount s)
-  fine = rw parts (allowed (marksPart (split g)) (right g bytes accepted) (marks-bytes g bytes accepted))
+  part1-good : GoodMarks (marksPart (split s)) (sheetCount s)
+  part1-good = rw parts (good g bytes accepted)
 
-  schedule-is : schedulePart (split s) ≡ scheduleOf (marksPart (split s)) (sheetCount s)
+  part1-bytes : Bytes (marksPart (split s))
+  part1-bytes = rw parts (marks-bytes g bytes accepted)
+
+  schedule-is : schedulePart (split s) ≡ scheduleOf (reelOf (marksPart (split s)))
   schedule-is = rw parts
 
   module _ (list : ℕ → Value) (sound : IsList s list) where
     -- A list equals ours, mark by mark, exactly when it keeps both rules.
     pub same-iff : ((m : ℕ) → m < sheetCount s → Equal (sheetValue s m) (list m)) ↔ KeepsRules s list
-    same-iff = rw schedule-is (schedule-iff (marksPart (split s)) (sheetCount s) fine list sound)
+    same-iff = rw schedule-is (schedule-iff (reelOf (marksPart (split s))) part1-good part1-bytes list sound)
 
     -- And such a list has the same marks living at every zoom.
     pub lives-same : KeepsRules s list → (m k : ℕ) → m < sheetCount s → livesAt k (list m) ≡ livesAt k (sheetValue s m)
     unfolding livesAt
     lives-same rules m k h =
-        let e = rw (← schedule-is) at (schedule-later (marksPart (split s)) (sheetCount s) fine list sound rules m (zoomSquared k) h) in
+        let e = rw (← schedule-is) at (schedule-later (reelOf (marksPart (split s))) part1-good part1-bytes list sound rules m (zoomSquared k) h) in
         later-same (list m) (sheetValue s m) (zoomSquared k) e
 
     -- The view clause. `buffer` is what the lent map held.

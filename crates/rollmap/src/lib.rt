@@ -7,9 +7,9 @@ ghost use mathlib.Core.Path.{_≡_};
 ghost use Prim.Native.Nat.{_+_, _*_, _≤_};
 ghost use lib.ListN.{length};
 ghost use Rattle.lists.specs.Stores.{over};
+ghost use Rattle.marks.specs.Good.{GoodMarks};
 ghost use Rattle.scheduling.specs.Filling.{Schedulable};
 ghost use Rattle.contents.specs.Contents.{countAt, join, given};
-ghost use Rattle.bodies.specs.Fitting.{MarksRight};
 ghost use Rattle.sheet.specs.Questions.{check};
 ghost use Rattle.sheet.specs.Layout.{opened, placeOf, Located};
 ghost use Rattle.zoom.specs.declared.Zoom.the-variants.{Stop, Wheel};
@@ -96,7 +96,7 @@ pub extern "C" fn rollmap_assemble(
 // Writes part 2, the schedule of the n marks, at the start of `tail`, and part 3, their index, behind it.
 fn put_results(marks: &[u8], work: &mut [u8], tail: &mut [u8], n: usize)
     requires { ⌜ Schedulable (now marks) (now work) (now tail) n × (16 * n ≤ length (now tail)) ⌝ }
-    ensures { λ _. ⌜ now (tail .exit) ≡ resultsOver (now (marks .entry)) n (now (tail .entry)) ⌝ }
+    ensures { λ _. ⌜ now (tail .exit) ≡ resultsOver (record { marks = now (marks .entry); count = n }) (now (tail .entry)) ⌝ }
 {
     scheduling::schedule(marks, work, tail, n);
     indexing::build(marks, work, tail, n);
@@ -104,7 +104,8 @@ fn put_results(marks: &[u8], work: &mut [u8], tail: &mut [u8], n: usize)
 
 // Writes the scheduled sheet of the n marks that part 1 of an accepted sheet has.
 fn put_scheduled(marks: &[u8], work: &mut [u8], out: &mut [u8], n: usize)
-    requires { ⌜ MarksRight (now marks) n × (32 * n + 1024 ≤ length (now work)) × (27 * n + 32 ≤ length (now out)) ⌝ }
+    requires { ⌜ GoodMarks (now marks) n × (length (now marks) ≡ 11 * n) ⌝ }
+    requires { ⌜ (32 * n + 1024 ≤ length (now work)) × (27 * n + 32 ≤ length (now out)) ⌝ }
     ensures { λ _. ⌜ now (out .exit) ≡ over (join (newBodies (now (marks .entry)))) (now (out .entry)) ⌝ }
 {
     let sizes = [marks.len(), 14 * n, 2 * n];

@@ -13,7 +13,7 @@ use Rattle.numbers.specs.Laws.{number-kept}
 use Rattle.marks.specs.Marks.{usedAt, touching, rankKey}
 use Rattle.sorting.specs.Keys.{keyAt, KeyPut, KeysSorted}
 use Rattle.sorting.specs.After.{Ranks, sorted-ranks}
-use Rattle.elimination.specs.Records.{marksOf}
+use Rattle.elimination.specs.Reel.{marksOf}
 use Rattle.elimination.specs.Sheet.{sheet-proper}
 use Rattle.searching.specs.Rows.{rowNumber, rowRadius}
 use Rattle.scheduling.specs.Settling.{Ordered}
@@ -89,11 +89,11 @@ in-rank {s} {w} {v} {n} rs f =
     }
 
 module _ {s w : List ℕ} {n : ℕ} (o : InRank s w n) where
-  pub ordered : n ≤ 4096 → Ordered (marksOf s n) (rowNumber w) w n
+  pub ordered : n ≤ 4096 → Ordered (marksOf (record { marks = s; count = n })) (rowNumber w) w n
   unfolding touching
   ordered few =
       record {
-        proper = sheet-proper s n few;
+        proper = sheet-proper _ few;
         counted = refl;
         ranking = o .ranking;
         number = λ q h. refl;

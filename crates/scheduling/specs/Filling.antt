@@ -5,18 +5,17 @@ use mathlib.Core.List.{List, _++_}
 use lib.ListN.{length}
 use Rattle.numbers.specs.Little.{leAt, leBytes}
 use Rattle.marks.specs.Marks.{xAt, yAt, usedAt, rankKey}
+use Rattle.marks.specs.Good.{GoodMarks}
 use Rattle.sorting.specs.Keys.{keyAt}
 use Rattle.elimination.specs.RankOrder.{Ranking}
-use Rattle.elimination.specs.Records.{marksOf}
+use Rattle.elimination.specs.Reel.{marksOf}
 use Rattle.searching.specs.Rows.{rowNumber, rowX, rowY, rowRadius}
 
--- What `schedule` asks for: n whole marks of allowed radii, and room for its work and for their records.
+-- What `schedule` asks for: n good marks, and room for its work and for their records.
 pub record Schedulable (marks work out : List ℕ) (n : ℕ) : Type 0 where
-  pub few : n ≤ 4096
-  pub marks-there : 11 * n ≤ length marks
+  pub good : GoodMarks marks n
   pub work-room : 32 * n ≤ length work
   pub out-room : 14 * n ≤ length out
-  pub radii : (i : ℕ) → i < n → usedAt marks i ≤ 16383
 
 -- the keys of the marks before p stand in w, behind the room for n rows
 pub record Keyed (s : List ℕ) (n p : ℕ) (w₀ w : List ℕ) : Type 0 where
@@ -46,7 +45,7 @@ pub record Filled (s : List ℕ) (n p : ℕ) (w₀ w : List ℕ) : Type 0 where
 
 -- the rows of w are the marks of s in the order of rank
 pub record InRank (s w : List ℕ) (n : ℕ) : Type 0 where
-  pub ranking : Ranking (marksOf s n) (rowNumber w)
+  pub ranking : Ranking (marksOf (record { marks = s; count = n })) (rowNumber w)
   pub x-is : (q : ℕ) → q < n → rowX w q ≡ xAt s (rowNumber w q)
   pub y-is : (q : ℕ) → q < n → rowY w q ≡ yAt s (rowNumber w q)
   pub radius-is : (q : ℕ) → q < n → rowRadius w q ≡ usedAt s (rowNumber w q)

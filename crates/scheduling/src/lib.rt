@@ -11,7 +11,8 @@ ghost use Prim.Native.Nat.{ℕ, _+_, _*_, _<_, _≤_};
 ghost use lib.ListN.{length, drop};
 ghost use lib.Seq.{sets};
 ghost use Rattle.marks.specs.Marks.{usedAt};
-ghost use Rattle.elimination.specs.Records.{recordBytes, scheduleOf};
+ghost use Rattle.elimination.specs.Records.{recordBytes};
+ghost use Rattle.elimination.specs.Reel.{scheduleOf};
 ghost use Rattle.grid.specs.Plan.{Divides};
 ghost use Rattle.searching.specs.Rows.{rowNumber, rowRadius};
 ghost use Rattle.searching.specs.Cells.{Gridded};
@@ -208,7 +209,7 @@ fn put_rows(marks: &[u8], work: &mut [u8], n: usize)
 // `work`, where the sort has its spare places before, and the keys behind them, where the grid stands later.
 pub fn schedule(marks: &[u8], work: &mut [u8], out: &mut [u8], n: usize)
     requires { ⌜ Schedulable (now marks) (now work) (now out) n ⌝ }
-    ensures { λ _. ⌜ now (out .exit) ≡ scheduleOf (now (marks .entry)) n ++ drop (14 * n) (now (out .entry)) ⌝ }
+    ensures { λ _. ⌜ now (out .exit) ≡ scheduleOf (record { marks = now (marks .entry); count = n }) ++ drop (14 * n) (now (out .entry)) ⌝ }
 {
     put_keys(marks, work, n);
     sorting::sort(work, 24 * n, 0, n);

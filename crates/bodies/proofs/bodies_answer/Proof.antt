@@ -32,7 +32,7 @@ returns c =
     ∙ append-no (part1Questions _) _ (part1-numbered _) (omega (arith, c .before .part1-answer .ensures, c .if1 .taken)))
 
 last-answer-requires : tie.Need-last-answer-requires
-last-answer-requires c κs = part1-iff _ .0 (sym (c .before .part1-answer .ensures) ∙ c .if1 .left)
+last-answer-requires c κs = part1-iff _ .0 (sym (c .before .part1-answer .ensures) ∙ c .if1 .left) .0
 
 returns-2 : tie.Need-returns-2
 returns-2 c =

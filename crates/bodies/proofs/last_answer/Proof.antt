@@ -23,7 +23,7 @@ sized c = said-yes (c .before .has-sizes .ensures) (c .if1 .left)
 
 -- question 8 was passed
 scheduled : (c : tie.Else3) → let a = c .before .before .before .before .before .before .before .before .args in
-    ifThere (leb 2 (a .count)) (question8 (now (a .marks)) (now (a .schedule)) (a .n)) ≡ true
+    ifThere (leb 2 (a .count)) (question8 (record { marks = now (a .marks); count = a .n }) (now (a .schedule))) ≡ true
 scheduled c = present (c .before .before .if2 .left) (said-yes (c .before .is-schedule .ensures) (c .if3 .left))
 
 has-sizes-requires : tie.Need-has-sizes-requires

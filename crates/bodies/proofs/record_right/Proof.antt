@@ -30,7 +30,7 @@ eliminator-at-requires c κs = search needs
 value-at-requires : tie.Need-value-at-requires
 value-at-requires c κs =
     let a = c .before .before .before .before .before .before .before .args in
-    let right = named (now (a .marks)) (now (a .schedule)) (a .n) (a .m) (said-yes (c .before .before .names-right .ensures) (c .before .if2 .left)) in
+    let right = named (record { marks = now (a .marks); count = a .n }) (now (a .schedule)) (a .m) (said-yes (c .before .before .names-right .ensures) (c .before .if2 .left)) in
     omega (arith, right .below, c .eliminator-at .ensures)
 
 value-at-requires-2 : tie.Need-value-at-requires-2

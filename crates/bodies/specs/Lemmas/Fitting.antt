@@ -10,6 +10,7 @@ use lib.ListN.{length}
 use borrow.Author.Tests.{leb-true, leb-false, eqb-true, le-leb, eq-eqb}
 use Rattle.lists.specs.TestLaws.{both-iff}
 use Rattle.marks.specs.Marks.{kindAt, radiusAt, isKind, isRadius}
+use Rattle.marks.specs.Good.{GoodMark, GoodMarks}
 use Rattle.marks.specs.Laws.{kind-iff, used-bound}
 use Rattle.index.specs.Index.{isIndex}
 use Rattle.contents.specs.Contents.{marksPart, schedulePart, indexPart, given}
@@ -20,7 +21,7 @@ use Rattle.contents.specs.Lemmas.Turns.{turn-at, turn-of}
 use Rattle.contents.specs.Lemmas.Laid.{count-cases}
 use Rattle.bodies.specs.Questions.{question4, markCount, fieldQuestions, oneMark, markQuestions, part1Questions, question7, question8, question9, bodyQuestions}
 use Rattle.bodies.specs.Stages.{sizesRight, lastQuestions, body-stages}
-use Rattle.bodies.specs.Fitting.{MarkRight, MarksRight, Fit, Fitting}
+use Rattle.bodies.specs.Fitting.{Fit, Fitting}
 use Rattle.bodies.specs.Lemmas.Numbered.{one-numbered, part1-numbered}
 
 -- ---- 4 to 6
@@ -46,26 +47,28 @@ field-iff kind radius = (
       (kind-iff _ .1 (h .0), asked-iff 6 (isRadius radius) _ (omega arith) .1 (radius-iff _ .1 (h .1), none-asked))),
 )
 
-one-iff : (s : List ℕ) (m : ℕ) → (answer (oneMark s m) ≡ 0) ↔ MarkRight s m
+one-iff : (s : List ℕ) (m : ℕ) → (answer (oneMark s m) ≡ 0) ↔ GoodMark s m
 one-iff s m = (
   (λ e. let f = field-iff (kindAt s m) (radiusAt s m) .0 e in
       record { kind = f .0; radius = f .1; used = used-bound _ _ (radius-iff _ .1 (f .1)) }),
   (λ h. field-iff (kindAt s m) (radiusAt s m) .1 (h .kind, h .radius)),
 )
 
-pub part1-iff : (s : List ℕ) → (answer (part1Questions s) ≡ 0) ↔ MarksRight s (markCount s)
+pub part1-iff : (s : List ℕ) → (answer (part1Questions s) ≡ 0) ↔ (GoodMarks s (markCount s) × (length s ≡ 11 * markCount s))
 unfolding part1Questions markQuestions
 part1-iff s = (
   (λ e. let a = asked-iff 4 (question4 s) _ (omega arith) .0 e in
-      let size = size-iff s .0 (a .0) in
-      record {
-        few = size .0;
-        long = size .1;
-        each = λ m l. one-iff s m .0 (turn-at (oneMark s) (one-numbered s) (markCount s) (a .1) m l);
-      }),
+      let size = size-iff s .0 (a .0) in (
+        record {
+          few = size .0;
+          there = omega (arith, size .1);
+          each = λ m l. one-iff s m .0 (turn-at (oneMark s) (one-numbered s) (markCount s) (a .1) m l);
+        },
+        size .1,
+      )),
   (λ h. asked-iff 4 (question4 s) _ (omega arith) .1 (
-    size-iff s .1 (h .few, h .long),
-    turn-of (oneMark s) (one-numbered s) (markCount s) (λ m l. one-iff s m .1 (h .each m l)),
+    size-iff s .1 (h .0 .few, h .1),
+    turn-of (oneMark s) (one-numbered s) (markCount s) (λ m l. one-iff s m .1 (h .0 .each m l)),
   )),
 )
 
@@ -106,24 +109,25 @@ module _ (s p t : List ℕ) (k : ℕ) where
       let b = append-iff (part1Questions s) _ (part1-numbered s) .0 e in
       let c = asked-iff 7 (sizesRight k (length p) (length t) n) _ (omega arith) .0 (b .1) in
       let sizes = sizes-iff k (length p) (length t) n .0 (c .0) in
-      let d = asked-iff 8 (ifThere (leb 2 k) (question8 s p n)) _ (omega arith) .0 (c .1) in
+      let d = asked-iff 8 (ifThere (leb 2 k) (question8 (record { marks = s; count = n }) p)) _ (omega arith) .0 (c .1) in
       let f = asked-iff 9 (ifThere (leb 3 k) (isIndex s p t n)) _ (omega arith) .0 (d .1) in
       record {
-        marks = part1-iff s .0 (b .0);
+        marks = part1-iff s .0 (b .0) .0;
+        marks-long = part1-iff s .0 (b .0) .1;
         schedule-long = sizes .0;
         index-long = sizes .1;
-        schedule-right = there-iff 2 k (question8 s p n) .0 (d .0);
+        schedule-right = there-iff 2 k (question8 (record { marks = s; count = n }) p) .0 (d .0);
         index-right = there-iff 3 k (isIndex s p t n) .0 (f .0);
       }
 
   fit-back : Fit s p t k n → answer (part1Questions s ++ lastQuestions s p t k n) ≡ 0
   fit-back f =
       append-iff (part1Questions s) _ (part1-numbered s) .1 (
-        part1-iff s .1 (f .marks),
+        part1-iff s .1 (f .marks, f .marks-long),
         asked-iff 7 (sizesRight k (length p) (length t) n) _ (omega arith) .1 (
           sizes-iff k (length p) (length t) n .1 (f .schedule-long, f .index-long),
-          asked-iff 8 (ifThere (leb 2 k) (question8 s p n)) _ (omega arith) .1 (
-            there-iff 2 k (question8 s p n) .1 (f .schedule-right),
+          asked-iff 8 (ifThere (leb 2 k) (question8 (record { marks = s; count = n }) p)) _ (omega arith) .1 (
+            there-iff 2 k (question8 (record { marks = s; count = n }) p) .1 (f .schedule-right),
             asked-iff 9 (ifThere (leb 3 k) (isIndex s p t n)) _ (omega arith) .1
                 (there-iff 3 k (isIndex s p t n) .1 (f .index-right), none-asked),
           ),

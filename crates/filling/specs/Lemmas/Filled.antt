@@ -10,12 +10,12 @@ use native.Mathlib.Decide.{decLt}
 use Rattle.numbers.specs.Little.{leBytes}
 use Rattle.numbers.specs.Laws.{le-length}
 use Rattle.marks.specs.Marks.{radiusAt, kindAt, usedAt, oldRadius, isRadius, usedRadius}
+use Rattle.marks.specs.Good.{GoodMark, GoodMarks}
 use Rattle.marks.specs.Laws.{used-bound, old-positive, old-bound}
 use Rattle.contents.specs.Laws.{bodies-sets}
 use Rattle.rows.specs.Rows.{rows}
 use Rattle.rows.specs.Laws.{rows-length, rows-at, rows-whole, field-le, le-found, cut-length, Split, split, pieces}
 use Rattle.bodies.specs.Questions.{markCount}
-use Rattle.bodies.specs.Fitting.{MarkRight, MarksRight}
 use Rattle.filling.specs.Filling.{filledRadius, filledMark}
 
 -- ---- the radius that is written
@@ -51,12 +51,12 @@ mark-length s m h =
 
 -- ---- the marks s, of which there are n
 
-module _ (s : List ℕ) (n : ℕ) (right : MarksRight s n) where
+module _ (s : List ℕ) (n : ℕ) (good : GoodMarks s n) where
   abbrev full : List ℕ
   full = rows (filledMark s) n
 
   row-long : (i : ℕ) → i < n → length (filledMark s i) ≡ 11
-  row-long i l = mark-length s i (omega (arith, right .long))
+  row-long i l = mark-length s i (omega (arith, good .there))
 
   pub full-long : length full ≡ 11 * n
   full-long = rows-length (filledMark s) 11 n row-long
@@ -68,12 +68,12 @@ module _ (s : List ℕ) (n : ℕ) (right : MarksRight s n) where
     found : Split full (take 4 (drop (11 * i) s)) (leBytes 2 radius) (take 5 (drop (11 * i + 6) s)) 4 2 5 (11 * i)
     found =
         split full (take 4 (drop (11 * i) s)) (leBytes 2 radius) (take 5 (drop (11 * i + 6) s)) 4 2 5 (11 * i)
-        (cut-length s 4 (11 * i) (omega (arith, right .long))) (le-length 2 radius) (omega (arith, full-long))
+        (cut-length s 4 (11 * i) (omega (arith, good .there))) (le-length 2 radius) (omega (arith, full-long))
         (rows-at (filledMark s) 11 n i row-long l)
 
     pub radius-is : radiusAt full i ≡ radius
     radius-is =
-        le-found 2 full (11 * i + 4) radius (omega (arith, filled-bound (radiusAt s i) (kindAt s i) (right .each i l .radius))) (found .second)
+        le-found 2 full (11 * i + 4) radius (omega (arith, filled-bound (radiusAt s i) (kindAt s i) (good .each i l .radius))) (found .second)
 
     kind-is : kindAt full i ≡ kindAt s i
     kind-is =
@@ -89,10 +89,10 @@ module _ (s : List ℕ) (n : ℕ) (right : MarksRight s n) where
     unfolding usedRadius
     used-is = rw (ne-eqb (radiusAt full i) 0 (omega (arith, radius-some))) radius-is
 
-    mark-right : MarkRight full i
+    mark-good : GoodMark full i
     unfolding isRadius
-    mark-right =
-        let r = right .each i l in
+    mark-good =
+        let r = good .each i l in
         let small : radiusAt full i ≤ 16383 = rw radius-is (filled-bound (radiusAt s i) (kindAt s i) (r .radius)) in
         record { kind = rw kind-is (r .kind); radius = small; used = used-bound _ _ (le-leb _ 16383 small) }
 
@@ -104,8 +104,8 @@ module _ (s : List ℕ) (n : ℕ) (right : MarksRight s n) where
         ∙ ap (λ (w : List ℕ). take 4 (drop (11 * i) full) ++ (w ++ take 5 (drop (11 * i + 6) full))) (sym (found .second))
         ∙ pieces full (11 * i) 4 2 5
 
-  pub full-right : MarksRight full n
-  full-right = record { few = right .few; long = full-long; each = mark-right }
+  pub full-good : GoodMarks full n
+  full-good = record { few = good .few; there = omega (arith, full-long); each = mark-good }
 
   pub full-count : markCount full ≡ n
   full-count = omega (arith, full-long)

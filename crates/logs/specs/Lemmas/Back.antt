@@ -11,11 +11,11 @@ use borrow.Author.Tests.{le-leb}
 use Rattle.numbers.specs.Little.{leAt, leBytes, signed, Bytes}
 use Rattle.numbers.specs.Laws.{le-length, le-bound, write-back}
 use Rattle.marks.specs.Marks.{xAt, yAt, isRadius}
+use Rattle.marks.specs.Good.{GoodMark, GoodMarks}
 use Rattle.marks.specs.Laws.{used-bound}
 use Rattle.rows.specs.Rows.{rows}
 use Rattle.rows.specs.Laws.{rows-length, rows-at, rows-whole, field-le, field-get, le-found, Split, split, pieces}
 use Rattle.bodies.specs.Questions.{markCount}
-use Rattle.bodies.specs.Fitting.{MarkRight, MarksRight}
 use Rattle.logs.specs.Packed.{isPlace, packed}
 use Rattle.logs.specs.Log.{recordCount, coordinateAt, placeBits, markOfRecord, recordOfMark}
 use Rattle.logs.specs.Questions.{packedAt}
@@ -76,9 +76,9 @@ module _ (s : List ℕ) (n : ℕ) (right : LogRight s n) where
         (omega (arith, marks-long)) (rows-at (markOfRecord s) 11 n i row-long l)
 
     -- the fields behind the places are the record's own
-    mark-right : MarkRight marks i
+    mark-good : GoodMark marks i
     unfolding isRadius
-    mark-right =
+    mark-good =
         let r = right .each i l in
         let t : List ℕ = take 7 (drop (13 * i + 6) s) in
         let four : 13 * i + 6 + 0 ≡ 13 * i + 6 = omega arith in
@@ -107,8 +107,8 @@ module _ (s : List ℕ) (n : ℕ) (right : LogRight s n) where
     record-again : recordOfMark marks i ≡ take 13 (drop (13 * i) s)
     record-again = ap₂ _++_ x-again (ap₂ _++_ y-again (found .third)) ∙ pieces s (13 * i) 3 3 7
 
-  pub marks-right : MarksRight marks n
-  marks-right = record { few = right .few; long = marks-long; each = mark-right }
+  pub marks-good : GoodMarks marks n
+  marks-good = record { few = right .few; there = omega (arith, marks-long); each = mark-good }
 
   pub marks-count : markCount marks ≡ n
   marks-count = omega (arith, marks-long)
@@ -118,14 +118,14 @@ module _ (s : List ℕ) (n : ℕ) (right : LogRight s n) where
 
 -- ---- marks into logs and back
 
-module _ (s : List ℕ) (n : ℕ) (right : MarksRight s n) where
+module _ (s : List ℕ) (n : ℕ) (good : GoodMarks s n) where
   line-long : (i : ℕ) → i < n → length (recordOfMark s i) ≡ 13
-  line-long i l = record-length s i (omega (arith, right .long))
+  line-long i l = record-length s i (omega (arith, good .there))
 
   pub log-long : length (rows (recordOfMark s) n) ≡ 13 * n
   log-long = rows-length (recordOfMark s) 13 n line-long
 
-module _ (s : List ℕ) (n : ℕ) (bytes : Bytes s) (right : MarksRight s n) where
+module _ (s : List ℕ) (n : ℕ) (bytes : Bytes s) (good : GoodMarks s n) where
   abbrev log : List ℕ
   log = rows (recordOfMark s) n
 
@@ -133,7 +133,7 @@ module _ (s : List ℕ) (n : ℕ) (bytes : Bytes s) (right : MarksRight s n) whe
     line : Split log (packed (xAt s i)) (packed (yAt s i)) (take 7 (drop (11 * i + 4) s)) 3 3 7 (13 * i)
     line =
         split log (packed (xAt s i)) (packed (yAt s i)) (take 7 (drop (11 * i + 4) s)) 3 3 7 (13 * i) (packed-length _ _) (packed-length _ _)
-        (omega (arith, log-long s n right)) (rows-at (recordOfMark s) 13 n i (line-long s n right) l)
+        (omega (arith, log-long s n good)) (rows-at (recordOfMark s) 13 n i (line-long s n good) l)
 
     x-place : isPlace (xAt s i) ≡ true
     x-place = signed-place _ (le-bound 2 s (11 * i) bytes)
@@ -143,7 +143,7 @@ module _ (s : List ℕ) (n : ℕ) (bytes : Bytes s) (right : MarksRight s n) whe
 
     record-right : RecordRight log i
     record-right =
-        let r = right .each i l in
+        let r = good .each i l in
         let t : List ℕ = take 7 (drop (11 * i + 4) s) in
         let four : 13 * i + 6 + 0 ≡ 13 * i + 6 = omega arith in
         let five : 11 * i + 4 + 0 ≡ 11 * i + 4 = omega arith in
@@ -163,21 +163,21 @@ module _ (s : List ℕ) (n : ℕ) (bytes : Bytes s) (right : MarksRight s n) whe
     x-back : leBytes 2 (placeBits (coordinateAt log (13 * i))) ≡ take 2 (drop (11 * i) s)
     x-back =
         ap (λ (z : ℤ). leBytes 2 (placeBits z)) (place-found log (13 * i) (xAt s i) x-place (line .first))
-        ∙ ap (leBytes 2) (bits-signed _ (le-bound 2 s (11 * i) bytes)) ∙ write-back 2 s (11 * i) bytes (omega (arith, right .long))
+        ∙ ap (leBytes 2) (bits-signed _ (le-bound 2 s (11 * i) bytes)) ∙ write-back 2 s (11 * i) bytes (omega (arith, good .there))
 
     y-back : leBytes 2 (placeBits (coordinateAt log (13 * i + 3))) ≡ take 2 (drop (11 * i + 2) s)
     y-back =
         ap (λ (z : ℤ). leBytes 2 (placeBits z)) (place-found log (13 * i + 3) (yAt s i) y-place (line .second))
-        ∙ ap (leBytes 2) (bits-signed _ (le-bound 2 s (11 * i + 2) bytes)) ∙ write-back 2 s (11 * i + 2) bytes (omega (arith, right .long))
+        ∙ ap (leBytes 2) (bits-signed _ (le-bound 2 s (11 * i + 2) bytes)) ∙ write-back 2 s (11 * i + 2) bytes (omega (arith, good .there))
 
     mark-again : markOfRecord log i ≡ take 11 (drop (11 * i) s)
     mark-again = ap₂ _++_ x-back (ap₂ _++_ y-back (line .third)) ∙ pieces s (11 * i) 2 2 7
 
   pub log-right : LogRight log n
-  log-right = record { few = right .few; long = log-long s n right; each = record-right }
+  log-right = record { few = good .few; long = log-long s n good; each = record-right }
 
   pub log-count : recordCount log ≡ n
-  log-count = omega (arith, log-long s n right)
+  log-count = omega (arith, log-long s n good)
 
-  pub marks-are : rows (markOfRecord log) n ≡ s
-  marks-are = rows-whole (markOfRecord log) 11 s n (right .long) mark-again
+  pub marks-are : length s ≡ 11 * n → rows (markOfRecord log) n ≡ s
+  marks-are long = rows-whole (markOfRecord log) 11 s n long mark-again

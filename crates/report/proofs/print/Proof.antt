@@ -1,13 +1,15 @@
 -- `report::print` meets its contract: the first 'no' is printed, or else the schedule worked out afresh, which says what the process makes
 -- of the marks. Assumes nothing.
+use Prim.Native.Nat.{_≤_}
 use mathlib.Core.Path.{_≡_, sym, _∙_}
 use native.Mathlib.Omega.{arith}
 use denote.Ref.{now}
 use borrow.Author.Needs.{needs}
 use Rattle.numbers.specs.Little.{Bytes}
 use Rattle.contents.specs.Asking.{answer}
+use Rattle.bodies.specs.Questions.{markCount}
 use Rattle.report.specs.Text.{printQuestions}
-use Rattle.report.specs.Lemmas.Printed.{Taken, prints-refusal, taken-laid, taken, taken-printable, prints-listing}
+use Rattle.report.specs.Lemmas.Printed.{prints-refusal, taken-laid, part1-few, part1-good, taken-printable, prints-listing}
 use Rattle.report.proofs.print.Statement.{statement}
 use Rattle.report.proofs.print.Tie as tie
 
@@ -18,8 +20,8 @@ input-bytes c i = c .before .before .before .before .before .shared-slice-known 
 yes : (c : tie.Else1) → answer (printQuestions (now (c .before .before .before .before .before .before .args .input))) ≡ 0
 yes c = sym (c .before .print-answer .ensures) ∙ c .if1 .left
 
-marks-taken : (c : tie.After-body) → Taken (now (c .body .result))
-marks-taken c = taken _ (input-bytes (c .before)) (yes (c .before)) (c .body .ensures)
+marks-few : (c : tie.After-body) → markCount (now (c .body .result)) ≤ 2000
+marks-few c = part1-few _ (input-bytes (c .before)) (yes (c .before)) (c .body .ensures)
 
 print-answer-requires : tie.Need-print-answer-requires
 print-answer-requires c κs = search needs
@@ -49,13 +51,10 @@ schedule-requires : tie.Need-schedule-requires
 schedule-requires c κs =
     let k = c .before .before in
     let p = k .before .before .before .before .before .before .before .pre in
-    let t = marks-taken k in
     record {
-      few = t .allowed .few;
-      marks-there = omega (arith, t .long);
-      work-room = omega (arith, p .work-room, t .few);
-      out-room = omega (arith, p .schedule-room, t .few);
-      radii = t .allowed .radii;
+      good = part1-good _ (input-bytes (k .before)) (yes (k .before)) (k .body .ensures);
+      work-room = omega (arith, p .work-room, marks-few k);
+      out-room = omega (arith, p .schedule-room, marks-few k);
     }
 
 put-listing-requires : tie.Need-put-listing-requires
@@ -64,7 +63,7 @@ put-listing-requires c κs =
     let k = s .before .before .before in
     let p = k .before .before .before .before .before .before .before .pre in (
       taken-printable _ (input-bytes (k .before)) (yes (k .before)) (k .body .ensures) _ (s .schedule .ensures),
-      omega (arith, p .out-room, marks-taken k .few),
+      omega (arith, p .out-room, marks-few k),
     )
 
 same-length-2 : tie.Need-same-length-2

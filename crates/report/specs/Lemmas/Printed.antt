@@ -11,28 +11,23 @@ use Rattle.lists.specs.StoreLaws.{over-sets}
 use Rattle.numbers.specs.Little.{Bytes}
 use Rattle.text.specs.Text.{decimal, Wrote}
 use Rattle.text.specs.Laws.{wrote-length}
+use Rattle.marks.specs.Good.{GoodMarks}
 use Rattle.elimination.specs.Process.{process}
-use Rattle.elimination.specs.Records.{marksOf, scheduleOf}
-use Rattle.elimination.specs.Schedule.{AllowedMarks, schedule-length}
+use Rattle.elimination.specs.Reel.{marksOf, scheduleOf}
+use Rattle.elimination.specs.Schedule.{schedule-length}
 use Rattle.contents.specs.Contents.{split, marksPart}
 use Rattle.contents.specs.Asking.{Question, _asks_, answer}
 use Rattle.contents.specs.Laid.{Laid}
 use Rattle.contents.specs.Lemmas.Asked.{none-asked, asked-yes, asked-no, asked-iff}
 use Rattle.contents.specs.Laws.{append-yes, append-no, append-iff}
-use Rattle.bodies.specs.Questions.{markCount}
+use Rattle.bodies.specs.Questions.{markCount, reelOf}
 use Rattle.sheet.specs.Questions.{sheetCount, checkQuestions, check}
 use Rattle.sheet.specs.Laws.{check-numbered, accepted-iff}
-use Rattle.rollmap.specs.Lemmas.Scheduled.{allowed, right, marks-bytes}
+use Rattle.rollmap.specs.Lemmas.Scheduled.{good, marks-bytes}
 use Rattle.report.specs.Text.{text, line, listing, refusal, printQuestions, printed}
 use Rattle.report.specs.Printing.{removalAt, Printable, textRoom, workedOut, Prints}
 use Rattle.report.specs.Lemmas.Lines.{refusal-room, listing-room, listing-same}
 use Rattle.report.specs.Lemmas.Removals.{removal-process, schedule-printable}
-
--- what is known of part 1 where no question said 'no'
-pub record Taken (part : List ℕ) : Type 0 where
-  pub few : markCount part ≤ 2000
-  pub long : length part ≡ 11 * markCount part
-  pub allowed : AllowedMarks part (markCount part)
 
 module _ (s : List ℕ) where
   last : List Question
@@ -109,32 +104,35 @@ module _ (s : List ℕ) where
 
   -- then `part` is part 1
   module _ (bytes : Bytes s) (yes : answer (printQuestions s) ≡ 0) {part : List ℕ} (is : part ≡ marksPart (split s)) where
-    pub taken : Taken part
-    taken =
-        let ok : check s ≡ 0 = asked yes .0 in
-        let marks = right s bytes ok in
-        rw is (record { few = few yes; long = marks .long; allowed = allowed (marksPart (split s)) marks (marks-bytes s bytes ok) })
+    pub part1-few : markCount part ≤ 2000
+    part1-few = rw is (few yes)
 
-    module _ {p : List ℕ} (before : List ℕ) (schedule : p ≡ scheduleOf part (markCount part) ++ drop (14 * markCount part) before) where
+    pub part1-good : GoodMarks part (markCount part)
+    part1-good = rw is (good s bytes (asked yes .0))
+
+    part1-bytes : Bytes part
+    part1-bytes = rw is (marks-bytes s bytes (asked yes .0))
+
+    module _ {p : List ℕ} (before : List ℕ) (schedule : p ≡ scheduleOf (reelOf part) ++ drop (14 * markCount part) before) where
       rest : List ℕ
       rest = drop (14 * markCount part) before
 
       pub taken-printable : Printable p (markCount part)
       unfolding rest
-      taken-printable = rw schedule (schedule-printable part rest (markCount part) (taken .allowed))
+      taken-printable = rw schedule (schedule-printable (reelOf part) rest part1-good part1-bytes)
 
       same : listing (removalAt p) (markCount part) ≡ printed s
       unfolding printed rest
       same =
-          let e = listing-same (removalAt p) (process (marksOf part (markCount part))) (markCount part) (rw schedule (removal-process part rest (markCount part) (taken .allowed))) in
+          let e = listing-same (removalAt p) (process (marksOf (reelOf part))) (markCount part) (rw schedule (removal-process (reelOf part) rest part1-good part1-bytes)) in
           rw (yes, ← is) e
 
       worked-out : p ≡ over (workedOut s) before
       unfolding workedOut over
-      worked-out = rw (yes, ← is, schedule-length part (markCount part)) schedule
+      worked-out = rw (yes, ← is, schedule-length (reelOf part)) schedule
 
       pub prints-listing : (work work-after : List ℕ) {out out-after : List ℕ} {r : ℕ} → length work-after ≡ length work → textRoom 2000 ≤ length out
           → Wrote out out-after 0 (listing (removalAt p) (markCount part)) r → Prints s work before out r work-after p out-after
       prints-listing work work-after long room o =
-          let w = stands (listing (removalAt p) (markCount part)) (sym same) (omega (arith, listing-room (removalAt p) (markCount part), taken .few)) o in
+          let w = stands (listing (removalAt p) (markCount part)) (sym same) (omega (arith, listing-room (removalAt p) (markCount part), part1-few)) o in
           record { size = w .size; inside = w .inside; text = w .text; records = worked-out; long = long; refused = λ h. absurd (omega (arith, h, yes)) }

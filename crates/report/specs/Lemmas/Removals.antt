@@ -8,16 +8,19 @@ use borrow.Author.Tests.{ne-eqb}
 use lib.Dec.{eqb}
 use lib.ListN.{length, length-append}
 use Rattle.lists.specs.TestLaws.{and-no}
+use Rattle.numbers.specs.Little.{Bytes}
 use Rattle.numbers.specs.Laws.{le-append}
 use Rattle.fractions.specs.declared.Fraction.{Fraction}
 use Rattle.fractions.specs.Order.{Small}
+use Rattle.marks.specs.Good.{GoodMarks}
 use Rattle.marks.specs.Laws.{touching-small, touching-positive}
 use Rattle.elimination.specs.Process.{Removal, stays, gone, process}
-use Rattle.elimination.specs.Records.{eliminatorAt, numAt, isNever, marksOf, scheduleOf}
+use Rattle.elimination.specs.Records.{eliminatorAt, numAt, isNever}
+use Rattle.elimination.specs.Reel.{Reel, marksOf, scheduleOf}
 use Rattle.elimination.specs.Lemmas.Records.{Reads}
 use Rattle.elimination.specs.Sheet.{sheet-proper}
 use Rattle.elimination.specs.Theorems.{process-eliminator}
-use Rattle.elimination.specs.Schedule.{AllowedMarks, schedule-length, schedule-stays, schedule-gone}
+use Rattle.elimination.specs.Schedule.{schedule-length, schedule-stays, schedule-gone}
 use Rattle.report.specs.Printing.{removalAt, Zoomable, Printable}
 
 -- a record reads the same with more bytes behind the schedule
@@ -50,27 +53,29 @@ says-gone p m h f r small positive =
       zoom = λ n. record { small = rw (r .numerator, r .denominator) small; positive = rw (r .denominator) positive };
     }
 
-module _ (s rest : List ℕ) (n : ℕ) (ok : AllowedMarks s n) where
-  says : (m : ℕ) → m < n → Says (scheduleOf s n ++ rest) m (process (marksOf s n) m)
-  says m k = cases (process (marksOf s n) m) refl
+module _ (r : Reel) (rest : List ℕ) (good : GoodMarks (r .marks) (r .count)) (bytes : Bytes (r .marks)) where
+  open Reel r using (marks as s, count as n)
+
+  says : (m : ℕ) → m < n → Says (scheduleOf r ++ rest) m (process (marksOf r) m)
+  says m k = cases (process (marksOf r) m) refl
     where
-      inside : 14 * m + 14 ≤ length (scheduleOf s n)
-      inside = omega (arith, schedule-length s n)
+      inside : 14 * m + 14 ≤ length (scheduleOf r)
+      inside = omega (arith, schedule-length r)
 
-      cases : (r : Removal) → process (marksOf s n) m ≡ r → Says (scheduleOf s n ++ rest) m r
-      cases stays e = says-stays _ m (reads-append (scheduleOf s n) rest m 65535 0 0 inside (schedule-stays s n ok m k e))
+      cases : (x : Removal) → process (marksOf r) m ≡ x → Says (scheduleOf r ++ rest) m x
+      cases stays e = says-stays _ m (reads-append (scheduleOf r) rest m 65535 0 0 inside (schedule-stays r good bytes m k e))
       cases (gone h f) e =
-          let x = process-eliminator (marksOf s n) (sheet-proper s n (ok .few)) m h f k e in
-          let small : Small f = subst Small (sym (x .exact)) (touching-small s h m (ok .bytes) (ok .radii h (x .inside)) (ok .radii m k)) in
+          let x = process-eliminator (marksOf r) (sheet-proper r (good .few)) m h f k e in
+          let small : Small f = subst Small (sym (x .exact)) (touching-small s h m bytes (good .each h (x .inside) .used) (good .each m k .used)) in
           let positive : 0 < f .den = rw (x .exact) (touching-positive s h m) in
-          says-gone _ m h f (reads-append (scheduleOf s n) rest m h (f .num) (f .den) inside (schedule-gone s n ok m h f k e)) small positive
+          says-gone _ m h f (reads-append (scheduleOf r) rest m h (f .num) (f .den) inside (schedule-gone r good bytes m h f k e)) small positive
 
-  pub removal-process : (m : ℕ) → m < n → removalAt (scheduleOf s n ++ rest) m ≡ process (marksOf s n) m
+  pub removal-process : (m : ℕ) → m < n → removalAt (scheduleOf r ++ rest) m ≡ process (marksOf r) m
   removal-process m k = says m k .removal
 
-  pub schedule-printable : Printable (scheduleOf s n ++ rest) n
+  pub schedule-printable : Printable (scheduleOf r ++ rest) n
   schedule-printable =
       record {
-        long = omega (arith, length-append (scheduleOf s n) rest, schedule-length s n);
+        long = omega (arith, length-append (scheduleOf r) rest, schedule-length r);
         zooms = λ m k. says m k .zoom;
       }

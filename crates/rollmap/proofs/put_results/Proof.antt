@@ -11,8 +11,8 @@ build-requires : tie.Need-build-requires
 build-requires c κs =
     let p = c .before .before .before .before .before .before .before .before .before .before .before .before .pre in
     record {
-      few = p .0 .few;
-      marks-long = p .0 .marks-there;
+      few = p .0 .good .few;
+      marks-long = p .0 .good .there;
       work-long = search needs;
       tail-long = search needs;
     }
@@ -27,7 +27,7 @@ returns : tie.Need-returns
 returns c =
     let b = c .before .before .before .before in
     let s = b .before .before .before .before .before .before .before in
-    results-are _ _ _ (s .schedule .ensures) (b .build .ensures)
+    results-are _ _ (s .schedule .ensures) (b .build .ensures)
 
 pub put-results-spec : {M : Type 1} → statement M
 put-results-spec =

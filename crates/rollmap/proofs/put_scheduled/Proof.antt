@@ -22,12 +22,12 @@ put-contents-requires : tie.Need-put-contents-requires
 put-contents-requires c κs =
     let b = c .before .before .before .before .before in
     let p = b .pre in
-    ((omega arith, omega (arith, p .2)), size-small (b .args .marks .now) (b .args .n) (p .0 .few) (p .0 .long))
+    ((omega arith, omega (arith, p .1 .1)), size-small (b .args .marks .now) (b .args .n) (p .0 .0 .few) (p .0 .1))
 
 put-requires : tie.Need-put-requires
 put-requires c κs =
     let b = c .before .before .before .before .before .before .before .before .before in
-    omega (arith, b .pre .2, b .pre .0 .long, c .before .before .before .put-contents .ensures .0)
+    omega (arith, b .pre .1 .1, b .pre .0 .1, c .before .before .before .put-contents .ensures .0)
 
 sub-put-results : tie.Need-sub-put-results
 sub-put-results c = search needs
@@ -48,13 +48,11 @@ put-results-requires c κs =
     let from = o .put .ensures .0 in
     let start = d .put-contents .ensures .0 in (
       record {
-        few = p .0 .few;
-        marks-there = omega (arith, p .0 .long);
-        work-room = omega (arith, p .1);
-        out-room = omega (arith, rest, from, start, p .2, p .0 .long, c .before .before .before .out2 .given);
-        radii = λ i h. p .0 .each i h .used;
+        good = p .0 .0;
+        work-room = omega (arith, p .1 .0);
+        out-room = omega (arith, rest, from, start, p .1 .1, p .0 .1, c .before .before .before .out2 .given);
       },
-      omega (arith, rest, from, start, p .2, p .0 .long),
+      omega (arith, rest, from, start, p .1 .1, p .0 .1),
     )
 
 same-length : tie.Need-same-length
@@ -71,8 +69,8 @@ returns c =
     let b = d .before .before .before .before .before .before in
     let p = b .pre in
     let m = p .0 in
-    let h = begun (now (b .args .marks)) (b .args .n) (m .few) (m .long) (now (b .args .out)) (p .2) (d .put-contents .ensures .1) (rw (d .put-contents .ensures .0) at (o .put .ensures .1)) in
-    finished (now (b .args .marks)) (b .args .n) (m .few) (m .long) (now (b .args .out)) (p .2) (o .put .result) (length (o .put .last .0) - o .put .result) (omega (arith, m .long, o .put .ensures .0, d .put-contents .ensures .0)) refl h (r .put-results .ensures)
+    let h = begun (now (b .args .marks)) (b .args .n) (m .0 .few) (m .1) (now (b .args .out)) (p .1 .1) (d .put-contents .ensures .1) (rw (d .put-contents .ensures .0) at (o .put .ensures .1)) in
+    finished (now (b .args .marks)) (b .args .n) (m .0 .few) (m .1) (now (b .args .out)) (p .1 .1) (o .put .result) (length (o .put .last .0) - o .put .result) (omega (arith, m .1, o .put .ensures .0, d .put-contents .ensures .0)) refl h (r .put-results .ensures)
 
 pub put-scheduled-spec : {M : Type 1} → statement M
 put-scheduled-spec =

@@ -49,7 +49,7 @@ fill-requires : tie.Need-fill-requires
 fill-requires c κs = search needs
 
 cast-t11 : tie.Need-cast-t11
-cast-t11 c = omega (arith, part1-iff _ .0 (accepted (c .before .before .before .before .before)) .few)
+cast-t11 c = omega (arith, part1-iff _ .0 (accepted (c .before .before .before .before .before)) .0 .few)
 
 same-length : tie.Need-same-length
 same-length c = search needs

@@ -52,7 +52,7 @@ put-records-requires : tie.Need-put-records-requires
 put-records-requires c κs = search needs
 
 cast-t11 : tie.Need-cast-t11
-cast-t11 c = omega (arith, part1-iff _ .0 (accepted (c .before .before .before .before .before)) .few)
+cast-t11 c = omega (arith, part1-iff _ .0 (accepted (c .before .before .before .before .before)) .0 .few)
 
 same-length : tie.Need-same-length
 same-length c = search needs

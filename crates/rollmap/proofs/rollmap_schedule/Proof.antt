@@ -1,5 +1,5 @@
 -- `rollmap::rollmap_schedule`: each way out by the question that ended it, and else the sheet as it was written. Assumes nothing.
-use Prim.Native.Nat.{ℕ, _/_}
+use Prim.Native.Nat.{ℕ, _*_, _/_}
 use mathlib.Core.Path.{_≡_, refl, sym, _∙_}
 use mathlib.Core.List.{List}
 use native.Mathlib.Omega.{arith}
@@ -8,7 +8,7 @@ use borrow.Author.Needs.{needs}
 use denote.Ref.{now}
 use Rattle.lists.specs.TestLaws.{said-no, said-yes}
 use Rattle.numbers.specs.Little.{Bytes}
-use Rattle.bodies.specs.Fitting.{MarksRight}
+use Rattle.marks.specs.Good.{GoodMarks}
 use Rattle.sheet.specs.Questions.{check}
 use Rattle.sheet.specs.Laws.{accepted-iff}
 use Rattle.rollmap.specs.declared.Answer.{Answer}
@@ -25,8 +25,11 @@ accepted : (c : tie.Else1) → check (now (c .before .before .before .before .be
 accepted c = sym (c .before .check .ensures) ∙ c .if1 .left
 
 -- and part 1 holds these marks
-marks-right : (c : tie.After-body) → MarksRight (now (c .body .result)) (length (now (c .body .result)) / 11)
-marks-right c = rw (c .body .ensures) (accepted-iff _ .0 (accepted (c .before)) .fitting .marks)
+good : (c : tie.After-body) → GoodMarks (now (c .body .result)) (length (now (c .body .result)) / 11)
+good c = rw (c .body .ensures) (accepted-iff _ .0 (accepted (c .before)) .fitting .marks)
+
+long : (c : tie.After-body) → length (now (c .body .result)) ≡ 11 * (length (now (c .body .result)) / 11)
+long c = rw (c .body .ensures) (accepted-iff _ .0 (accepted (c .before)) .fitting .marks-long)
 
 -- what a way out gives, with demand 3 of it
 whole : {g : List ℕ} (work : ℕ) {before out w w′ : List ℕ} {r : Answer} → Bytes g → Gives (scheduleJob g work (length before)) before r out
@@ -50,7 +53,7 @@ body-requires : tie.Need-body-requires
 body-requires c κs = accepted-iff _ .0 (accepted c) .laid
 
 has-room-requires : tie.Need-has-room-requires
-has-room-requires c κs = marks-right c .few
+has-room-requires c κs = good c .few
 
 refused-requires-2 : tie.Need-refused-requires-2
 refused-requires-2 c κs = search needs
@@ -66,16 +69,16 @@ returns-2 c =
 put-scheduled-requires : tie.Need-put-scheduled-requires
 put-scheduled-requires c κs =
     let room = room-there _ _ _ (said-yes (c .before .before .before .has-room .ensures) (c .before .before .if2 .left)) in
-    (marks-right (c .before .before .before .before), room .0, room .1)
+    ((good (c .before .before .before .before), long (c .before .before .before .before)), room)
 
 mul-t8 : tie.Need-mul-t8
-mul-t8 c = omega (arith, marks-right (c .before .before .before .before .before .before .before .before .before) .few)
+mul-t8 c = omega (arith, good (c .before .before .before .before .before .before .before .before .before) .few)
 
 add-t9 : tie.Need-add-t9
-add-t9 c = omega (arith, marks-right (c .before .before .before .before .before .before .before .before .before) .few)
+add-t9 c = omega (arith, good (c .before .before .before .before .before .before .before .before .before) .few)
 
 cast-t16 : tie.Need-cast-t16
-cast-t16 c = omega (arith, marks-right (c .before .before .before .before .before .before .before .before .before) .few)
+cast-t16 c = omega (arith, good (c .before .before .before .before .before .before .before .before .before) .few)
 
 same-length : tie.Need-same-length
 same-length c = search needs

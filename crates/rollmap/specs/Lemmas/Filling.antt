@@ -30,7 +30,8 @@ outcome-same q q′ value w e = rw e
 alone : (w : List ℕ) → answer (part1Questions w) ≡ 0 → Fitting (w ∷ [])
 alone w ok =
     record {
-      marks = part1-iff w .0 ok;
+      marks = part1-iff w .0 ok .0;
+      marks-long = part1-iff w .0 ok .1;
       schedule-long = λ l. absurd (omega arith);
       index-long = λ l. absurd (omega arith);
       schedule-right = λ l. absurd (omega arith);

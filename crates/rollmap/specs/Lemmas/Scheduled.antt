@@ -17,19 +17,21 @@ use Rattle.fractions.specs.declared.Value.the-variants.{At}
 use Rattle.fractions.specs.Order.{later, Later}
 use Rattle.fractions.specs.Laws.{later-iff}
 use Rattle.marks.specs.Marks.{outranks, touching}
+use Rattle.marks.specs.Good.{GoodMarks}
 use Rattle.marks.specs.Laws.{outranks-key}
 use Rattle.elimination.specs.Process.{Removal, stays, gone, when, process}
-use Rattle.elimination.specs.Records.{marksOf, isNever, valueAt}
+use Rattle.elimination.specs.Records.{isNever, valueAt}
+use Rattle.elimination.specs.Reel.{Reel, marksOf}
 use Rattle.elimination.specs.Sheet.{sheet-proper}
 use Rattle.elimination.specs.Theorems.{process-eliminator}
-use Rattle.elimination.specs.Schedule.{AllowedMarks, schedule-length, schedule-stays, schedule-gone, schedule-value}
+use Rattle.elimination.specs.Schedule.{schedule-length, schedule-stays, schedule-gone, schedule-value}
 use Rattle.index.specs.Index.{indexOf, isIndex}
 use Rattle.index.specs.Lemmas.Bytes.{same-self, index-length}
 use Rattle.index.specs.Lemmas.Whole.{index-size}
 use Rattle.contents.specs.Contents.{offsetAt, lengthAt, split, marksPart}
 use Rattle.contents.specs.Lemmas.Parts.{split-at}
-use Rattle.bodies.specs.Questions.{markCount, namesRight, recordRight, question8}
-use Rattle.bodies.specs.Fitting.{MarksRight, Fitting}
+use Rattle.bodies.specs.Questions.{markCount, namesRight, recordRight, question8, reelOf}
+use Rattle.bodies.specs.Fitting.{Fitting}
 use Rattle.sheet.specs.Questions.{sheetCount, check}
 use Rattle.sheet.specs.Laws.{accepted-iff}
 use Rattle.bitmap.specs.Map.{countShown}
@@ -64,50 +66,48 @@ bytes-take k s b i =
 
 -- ---- the parts that scheduling writes for part 1, `s`
 
-module _ (s : List ℕ) (right : MarksRight s (markCount s)) (bytes : Bytes s) where
-  pub allowed : AllowedMarks s (markCount s)
-  allowed = record { few = right .few; bytes = bytes; radii = λ i h. (right .each i h) .used }
-
+module _ (s : List ℕ) (good : GoodMarks s (markCount s)) (long : length s ≡ 11 * markCount s) (bytes : Bytes s) where
   -- each record that scheduling writes is right: question 8
-  new-right : (m : ℕ) → m < markCount s → recordRight s (newSchedule s) (markCount s) m ≡ true
+  new-right : (m : ℕ) → m < markCount s → recordRight (reelOf s) (newSchedule s) m ≡ true
   unfolding recordRight isNever namesRight
-  new-right m h = cases (process (marksOf s n) m) refl
+  new-right m h = cases (process (marksOf r) m) refl
     where
-      n : ℕ
-      n = markCount s
+      r : Reel
+      r = reelOf s
 
       p : List ℕ
       p = newSchedule s
 
-      cases : (r : Removal) → process (marksOf s n) m ≡ r → recordRight s p n m ≡ true
+      cases : (x : Removal) → process (marksOf r) m ≡ x → recordRight r p m ≡ true
       cases stays e =
-          let r = schedule-stays s n allowed m h e in
-          rw (r .eliminator, r .numerator, r .denominator)
+          let w = schedule-stays r good bytes m h e in
+          rw (w .eliminator, w .numerator, w .denominator)
       cases (gone g f) e =
-          let x = process-eliminator (marksOf s n) (sheet-proper s n (right .few)) m g f h e in
-          let r = schedule-gone s n allowed m g f h e in
+          let x = process-eliminator (marksOf r) (sheet-proper r (good .few)) m g f h e in
+          let w = schedule-gone r good bytes m g f h e in
           let o : outranks s g m ≡ true =
-          outranks-key s g m bytes (omega (arith, x .inside, right .few)) (omega (arith, h, right .few)) .1 (x .outranks) in
+          outranks-key s g m bytes (omega (arith, x .inside, good .few)) (omega (arith, h, good .few)) .1 (x .outranks) in
           let num : f .num ≡ (touching s g m) .num = ap (λ (q : Fraction). q .num) (x .exact) in
           let den : f .den ≡ (touching s g m) .den = ap (λ (q : Fraction). q .den) (x .exact) in
-          let vm : valueAt p m ≡ At f = schedule-value s n allowed m h ∙ ap when e in
+          let vm : valueAt p m ≡ At f = schedule-value r good bytes m h ∙ ap when e in
           let l : later (valueAt p g) (valueAt p m) ≡ true =
-          rw (schedule-value s n allowed g (x .inside), vm) (later-iff (when (process (marksOf s n) g)) f .1 (x .later)) in
+          rw (schedule-value r good bytes g (x .inside), vm) (later-iff (when (process (marksOf r) g)) f .1 (x .later)) in
           or-right (isNever p m)
-          (rw (r .eliminator, r .numerator, r .denominator, lt-ltb g n (x .inside), o, eq-eqb _ _ num, eq-eqb _ _ den, l))
+          (rw (w .eliminator, w .numerator, w .denominator, lt-ltb g (markCount s) (x .inside), o, eq-eqb _ _ num, eq-eqb _ _ den, l))
 
-  new-every : question8 s (newSchedule s) (markCount s) ≡ true
+  new-every : question8 (reelOf s) (newSchedule s) ≡ true
   unfolding question8
-  new-every = every-of (recordRight s (newSchedule s) (markCount s)) (markCount s) new-right
+  new-every = every-of (recordRight (reelOf s) (newSchedule s)) (markCount s) new-right
 
   -- the parts that scheduling writes fit one another: questions 4 to 9 say yes
   pub new-fitting : Fitting (newBodies s)
   unfolding isIndex
   new-fitting =
       record {
-        marks = right;
-        schedule-long = λ h. schedule-length s (markCount s);
-        index-long = λ h. index-length (indexOf s (newSchedule s) (markCount s)) ∙ ap (λ (k : ℕ). 2 * k) (index-size s (newSchedule s) (markCount s) (omega (arith, right .few)));
+        marks = good;
+        marks-long = long;
+        schedule-long = λ h. schedule-length (reelOf s);
+        index-long = λ h. index-length (indexOf s (newSchedule s) (markCount s)) ∙ ap (λ (k : ℕ). 2 * k) (index-size s (newSchedule s) (markCount s) (omega (arith, good .few)));
         schedule-right = λ h. new-every;
         index-right = λ h. same-self (newIndex s);
       }
@@ -115,8 +115,11 @@ module _ (s : List ℕ) (right : MarksRight s (markCount s)) (bytes : Bytes s) w
 -- ---- an accepted sheet's marks
 
 module _ (g : List ℕ) (bytes : Bytes g) (ok : check g ≡ 0) where
-  pub right : MarksRight (marksPart (split g)) (sheetCount g)
-  right = (accepted-iff g .0 ok) .fitting .marks
+  pub good : GoodMarks (marksPart (split g)) (sheetCount g)
+  good = (accepted-iff g .0 ok) .fitting .marks
+
+  pub marks-long : length (marksPart (split g)) ≡ 11 * sheetCount g
+  marks-long = (accepted-iff g .0 ok) .fitting .marks-long
 
   pub marks-bytes : Bytes (marksPart (split g))
   marks-bytes =

@@ -12,7 +12,7 @@ use lib.Seq.{sets, take-at, drop-at, drop-append-add, drop-drop, take-all}
 use Rattle.lists.specs.Stores.{over}
 use Rattle.lists.specs.TestLaws.{both-iff}
 use Rattle.lists.specs.StoreLaws.{sets-append, over-sets}
-use Rattle.elimination.specs.Records.{scheduleOf}
+use Rattle.elimination.specs.Reel.{Reel, scheduleOf}
 use Rattle.elimination.specs.Schedule.{schedule-length}
 use Rattle.index.specs.Index.{indexOf, indexBytes}
 use Rattle.index.specs.Lemmas.Bytes.{index-length}
@@ -38,19 +38,20 @@ pub rest-long : (l : List ℕ) (a : ℕ) → length (take (length l - a) (drop a
 rest-long l a = ap length (take-all (length l - a) (drop a l) (omega (arith, length-drop a l))) ∙ length-drop a l
 
 -- part 2 and then part 3
-pub results-are : (s t₀ : List ℕ) {t₁ t₂ : List ℕ} (n : ℕ) → t₁ ≡ scheduleOf s n ++ drop (14 * n) t₀ → t₂ ≡ withIndex s t₁ n
-    → t₂ ≡ resultsOver s n t₀
+pub results-are : (r : Reel) (t₀ : List ℕ) {t₁ t₂ : List ℕ} → t₁ ≡ scheduleOf r ++ drop (14 * r .count) t₀
+    → t₂ ≡ withIndex (r .marks) t₁ (r .count) → t₂ ≡ resultsOver r t₀
 unfolding resultsOver
-results-are s t₀ {t₁} n first second =
-    let long : length (scheduleOf s n) ≡ 14 * n = schedule-length s n in
-    let front : take (14 * n) t₁ ≡ scheduleOf s n = rw first (take-at (scheduleOf s n) (drop (14 * n) t₀) (14 * n) long) in
-    let sixteen : 16 * n ≡ length (scheduleOf s n) + 2 * n = omega (arith, long) in
+results-are r t₀ {t₁} first second =
+    let n = r .count in
+    let long : length (scheduleOf r) ≡ 14 * n = schedule-length r in
+    let front : take (14 * n) t₁ ≡ scheduleOf r = rw first (take-at (scheduleOf r) (drop (14 * n) t₀) (14 * n) long) in
+    let sixteen : 16 * n ≡ length (scheduleOf r) + 2 * n = omega (arith, long) in
     let back : drop (16 * n) t₁ ≡ drop (16 * n) t₀ =
-    rw (first, sixteen, drop-append-add (scheduleOf s n) (drop (14 * n) t₀) (2 * n), drop-drop (2 * n) (14 * n) t₀, long) in
+    rw (first, sixteen, drop-append-add (scheduleOf r) (drop (14 * n) t₀) (2 * n), drop-drop (2 * n) (14 * n) t₀, long) in
     rw (front, back) at second
 
-index-long : (s : List ℕ) (n : ℕ) → n ≤ 4096 → length (indexBytes (indexOf s (scheduleOf s n) n)) ≡ 2 * n
-index-long s n few = index-length (indexOf s (scheduleOf s n) n) ∙ ap (λ (k : ℕ). 2 * k) (index-size s (scheduleOf s n) n (omega (arith, few)))
+index-long : (s : List ℕ) (n : ℕ) → n ≤ 4096 → length (indexBytes (indexOf s (scheduleOf (record { marks = s; count = n })) n)) ≡ 2 * n
+index-long s n few = index-length (indexOf s (scheduleOf (record { marks = s; count = n })) n) ∙ ap (λ (k : ℕ). 2 * k) (index-size s (scheduleOf (record { marks = s; count = n })) n (omega (arith, few)))
 
 module _ (s : List ℕ) (n : ℕ) (few : n ≤ 4096) (long : length s ≡ 11 * n) where
   count-is : markCount s ≡ n
@@ -66,7 +67,7 @@ module _ (s : List ℕ) (n : ℕ) (few : n ≤ 4096) (long : length s ≡ 11 * n
   size-small (suc (suc (suc i))) = omega arith
 
   abbrev results : List ℕ
-  results = scheduleOf s n ++ indexBytes (indexOf s (scheduleOf s n) n)
+  results = scheduleOf (record { marks = s; count = n }) ++ indexBytes (indexOf s (scheduleOf (record { marks = s; count = n })) n)
 
   abbrev start : List ℕ
   start = contentsOf sizes ++ s
@@ -77,9 +78,9 @@ module _ (s : List ℕ) (n : ℕ) (few : n ≤ 4096) (long : length s ≡ 11 * n
       rw (
         join-contents (newBodies s),
         count-is,
-        schedule-length s n,
+        schedule-length (record { marks = s; count = n }),
         index-long s n few,
-        append-nil (indexBytes (indexOf s (scheduleOf s n) n)),
+        append-nil (indexBytes (indexOf s (scheduleOf (record { marks = s; count = n })) n)),
         append-assoc (contentsOf sizes) s results,
       )
 
@@ -87,7 +88,7 @@ module _ (s : List ℕ) (n : ℕ) (few : n ≤ 4096) (long : length s ≡ 11 * n
   start-long = omega (arith, long, length-append (contentsOf sizes) s, contents-length sizes)
 
   results-long : length results ≡ 16 * n
-  results-long = omega (arith, length-append (scheduleOf s n) (indexBytes (indexOf s (scheduleOf s n) n)), schedule-length s n, index-long s n few)
+  results-long = omega (arith, length-append (scheduleOf (record { marks = s; count = n })) (indexBytes (indexOf s (scheduleOf (record { marks = s; count = n })) n)), schedule-length (record { marks = s; count = n }), index-long s n few)
 
   pub sheet-long : length (join (newBodies s)) ≡ 27 * n + 32
   sheet-long = rw sheet-is (omega (arith, length-append start results, start-long, results-long))
@@ -102,7 +103,7 @@ module _ (s : List ℕ) (n : ℕ) (few : n ≤ 4096) (long : length s ≡ 11 * n
 
     -- and then parts 2 and 3, written by a call that was lent the rest of the buffer
     pub finished : (rest k : ℕ) {o₂ t : List ℕ} → rest ≡ 11 * n + 32 → k ≡ length o₂ - rest → o₂ ≡ start ++ drop (11 * n + 32) o₀
-        → t ≡ resultsOver s n (midOf rest k o₂) → putMid rest k o₂ t ≡ over (join (newBodies s)) o₀
+        → t ≡ resultsOver (record { marks = s; count = n }) (midOf rest k o₂) → putMid rest k o₂ t ≡ over (join (newBodies s)) o₀
     unfolding over resultsOver
     finished rest k {o₂} {t} r-is k-is o-is t-is =
         let front : take rest o₂ ≡ start = rw (o-is, r-is) (take-at start (drop (11 * n + 32) o₀) (11 * n + 32) start-long) in
@@ -122,7 +123,7 @@ module _ (s : List ℕ) (n : ℕ) (few : n ≤ 4096) (long : length s ≡ 11 * n
           drop-drop (16 * n) (11 * n + 32) o₀,
           end,
           append-assoc start results (drop (27 * n + 32) o₀),
-          append-assoc (scheduleOf s n) (indexBytes (indexOf s (scheduleOf s n) n)) (drop (27 * n + 32) o₀),
+          append-assoc (scheduleOf (record { marks = s; count = n })) (indexBytes (indexOf s (scheduleOf (record { marks = s; count = n })) n)) (drop (27 * n + 32) o₀),
         )
 
 -- ---- the ways out
@@ -155,6 +156,6 @@ module _ (s : List ℕ) (work : ℕ) (buffer : List ℕ) where
         → Gives (scheduleJob s work (length buffer)) buffer r left
     unfolding scheduleJob scheduled
     schedule-written room is bytes =
-        let marks = accepted-iff s .0 ok .fitting .marks in
+        let fit = accepted-iff s .0 ok .fitting in
         written-gives (scheduleQuestions s work (length buffer)) (length (scheduled s)) (scheduled s) buffer (rw room at room-asked)
-        (rw (sheet-long (marksPart (split s)) (sheetCount s) (marks .few) (marks .long)) is) bytes
+        (rw (sheet-long (marksPart (split s)) (sheetCount s) (fit .marks .few) (fit .marks-long)) is) bytes

@@ -38,7 +38,7 @@ log-back s ok room h =
 
 marks-back : (s : List ℕ) → Bytes s → answer (part1Questions s) ≡ 0 → (room : ℕ) → length s ≤ room → logToMarksJob (logOfMarks s) room ≡ wrote s
 marks-back s bytes ok room h =
-    log-wrote (logOfMarks s) room (marks-log s bytes ok) (omega (arith, log-count s bytes ok, part1-iff s .0 ok .long)) ∙ ap wrote (marks-again s bytes ok)
+    log-wrote (logOfMarks s) room (marks-log s bytes ok) (omega (arith, log-count s bytes ok, part1-iff s .0 ok .1)) ∙ ap wrote (marks-again s bytes ok)
 
 -- ---- and so of what the calls answer and leave
 

@@ -107,7 +107,7 @@ viewable s map ok three room =
       whole =
           record {
             few = f .marks .few;
-            marks-long = omega (arith, f .marks .long);
+            marks-long = omega (arith, f .marks .there);
             schedule-long = omega (arith, f .schedule-long (omega (arith, k)));
             index-long = f .index-long (omega (arith, k));
           };

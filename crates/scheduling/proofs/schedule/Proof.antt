@@ -1,7 +1,7 @@
 -- `scheduling::schedule` meets its contract: the rows of the sorted keys are the marks in the order of rank. Assumes nothing.
 use native.Mathlib.Omega.{arith}
 use borrow.Author.Needs.{needs}
-use Rattle.elimination.specs.Records.{scheduleOf}
+use Rattle.elimination.specs.Reel.{scheduleOf}
 use Rattle.scheduling.specs.Filling.{InRank}
 use Rattle.scheduling.proofs.Filling.{ranks, in-rank, ordered, numbered, radii-rows}
 use Rattle.scheduling.proofs.schedule.Statement.{statement}
@@ -14,7 +14,7 @@ rows c =
     let o = c .before .before .before .before in
     let k = o .before .before .before .before in
     let a = k .before .before .before .before .before in
-    in-rank (ranks (a .args .marks .now) (a .pre .few) (k .put-keys .ensures .keys) (o .sort .ensures)) (c .put-rows .ensures)
+    in-rank (ranks (a .args .marks .now) (a .pre .good .few) (k .put-keys .ensures .keys) (o .sort .ensures)) (c .put-rows .ensures)
 
 put-keys-requires : tie.Need-put-keys-requires
 put-keys-requires c κs = search needs
@@ -31,8 +31,8 @@ put-rows-requires c κs =
     let k = o .before .before .before .before in
     let a = k .before .before .before .before .before in
     let p = a .pre in
-    let rs = ranks (a .args .marks .now) (p .few) (k .put-keys .ensures .keys) (o .sort .ensures) in
-    ((p .few, p .marks-there, omega (arith, o .sort .ensures .long, k .put-keys .ensures .long, p .work-room)), (rs .inside, p .radii))
+    let rs = ranks (a .args .marks .now) (p .good .few) (k .put-keys .ensures .keys) (o .sort .ensures) in
+    ((p .good .few, p .good .there, omega (arith, o .sort .ensures .long, k .put-keys .ensures .long, p .work-room)), (rs .inside, λ i h. p .good .each i h .used))
 
 schedule-rows-requires : tie.Need-schedule-rows-requires
 schedule-rows-requires c κs =
@@ -40,8 +40,8 @@ schedule-rows-requires c κs =
     let o = f .before .before .before .before in
     let k = o .before .before .before .before in
     let p = k .before .before .before .before .before .pre in (
-      (p .few, omega (arith, f .put-rows .ensures .long, o .sort .ensures .long, k .put-keys .ensures .long, p .work-room), p .out-room),
-      (radii-rows (rows f) (p .radii), numbered (rows f)),
+      (p .good .few, omega (arith, f .put-rows .ensures .long, o .sort .ensures .long, k .put-keys .ensures .long, p .work-room), p .out-room),
+      (radii-rows (rows f) (λ i h. p .good .each i h .used), numbered (rows f)),
     )
 
 same-length : tie.Need-same-length
@@ -56,7 +56,7 @@ returns c =
     let r = c .before .before .before .before in
     let f = r .before .before .before .before .before in
     let p = f .before .before .before .before .before .before .before .before .before .before .before .before .before .pre in
-    r .schedule-rows .ensures .records-are _ _ (ordered (rows f) (p .few))
+    r .schedule-rows .ensures .records-are _ _ (ordered (rows f) (p .good .few))
 
 pub schedule-spec : {M : Type 1} → statement M
 schedule-spec =
