@@ -1,19 +1,19 @@
 //! Filling, and rescuing an old sheet by it (02, request 2).
 
-use crate::mark::write_marks;
+use crate::mark::{write_marks, Group};
 use crate::sheet::{join, open_marks, split};
 use crate::{ask, Refusal};
 
 /// The number in 01's old table, none for a kind that does not exist.
 pub fn old_radius(kind: u8) -> Option<u16> {
-    match kind {
-        0..=9 => Some(40),      // note
-        10..=49 => Some(60),    // spot
-        50..=99 => Some(90),    // streak
-        100..=149 => Some(120), // moisture patch
-        150..=199 => Some(200), // break
-        200..=255 => None,
-    }
+    let radius = |group| match group {
+        Group::Note => 40,
+        Group::Spot => 60,
+        Group::Streak => 90,
+        Group::Patch => 120,
+        Group::Break => 200,
+    };
+    Group::of(kind).map(radius)
 }
 
 /// Fills marks: the same ones, each radius 0 written as the number in the old
@@ -32,7 +32,7 @@ pub fn fill(part_1: &[u8], out_length: usize) -> Result<Vec<u8>, Refusal> {
 /// Rescues an old sheet: its part 1, cut out by the contents, filled and put
 /// together afresh. Asks 1 to 3, and 4 to 6 of the marks.
 pub fn rescue(sheet: &[u8]) -> Result<Vec<u8>, Refusal> {
-    let marks = split(sheet)?[0];
+    let marks = split(sheet)?.part_1();
     let filled = fill(marks, marks.len())?;
     Ok(join(&[&filled]))
 }

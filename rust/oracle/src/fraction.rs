@@ -24,6 +24,7 @@ impl Fraction {
 
     /// The order of two fractions by exact cross products. It is an order of
     /// values where both denominators are above 0.
+    #[inline]
     pub fn compare(self, other: Self) -> Ordering {
         let left = u128::from(self.numerator) * u128::from(other.denominator);
         let right = u128::from(other.numerator) * u128::from(self.denominator);
@@ -41,6 +42,7 @@ pub enum Removal {
 impl Removal {
     /// The order of removal values: 'never' is later than all, and equal only to
     /// 'never'; two fractions go by cross products.
+    #[inline]
     pub fn compare(self, other: Self) -> Ordering {
         match (self, other) {
             (Self::Never, Self::Never) => Ordering::Equal,
@@ -51,6 +53,7 @@ impl Removal {
     }
 
     /// Whether this removal is later than a value.
+    #[inline]
     pub fn later_than(self, value: Fraction) -> bool {
         self.compare(Self::At(value)).is_gt()
     }

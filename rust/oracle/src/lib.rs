@@ -6,6 +6,11 @@
 //! ways to schedule stand next to the process as 01 tells it, and [`sample`]
 //! makes up sheets for tests and benchmarks.
 //!
+//! The small definitions, of fields, radii, values, keys, rows and single questions,
+//! are also what the benchmark's jobs in plain Rust are made of, so that each rule is
+//! read once in Rust; these are inlined. The ways to work a result out are apart: none
+//! here takes a short cut.
+//!
 //! A call that 01 can refuse answers `Result<_, Refusal>`; the error is the
 //! number of the first question of 01, 'Questions put in turn', whose answer is
 //! no. Buffers are not written here: a call takes the lengths of the buffers it
@@ -16,6 +21,7 @@
 pub mod contents;
 pub mod fill;
 pub mod fraction;
+pub mod label;
 pub mod log;
 pub mod mark;
 pub mod process;
@@ -33,7 +39,8 @@ mod bytes;
 pub type Refusal = u32;
 
 /// Puts one question: a no becomes its number.
-pub(crate) fn ask(number: Refusal, yes: bool) -> Result<(), Refusal> {
+#[inline]
+pub fn ask(number: Refusal, yes: bool) -> Result<(), Refusal> {
     if yes {
         Ok(())
     } else {

@@ -1,7 +1,7 @@
 //! Logs from the winder, turned into marks and back (02, request 3).
 
 use crate::bytes::field;
-use crate::mark::{write_marks, Mark, MARK_BYTES, MOST_MARKS};
+use crate::mark::{write_marks, Mark, MARK_BYTES, MOST_MARKS, RADIUS_AT};
 use crate::sheet::{ask_mark, open_marks};
 use crate::{ask, Refusal};
 
@@ -47,34 +47,32 @@ fn read_place(bytes: [u8; PACKED_BYTES]) -> Result<i16, Refusal> {
     i16::try_from(number).map_err(|_| 16)
 }
 
-/// The mark of a record. Asks 15 and 16 of x, then of y, and 5 and 6.
-fn read_record(record: &[u8]) -> Result<Mark, Refusal> {
-    let mark = Mark {
-        x: read_place(field(record, 0))?,
-        y: read_place(field(record, 3))?,
-        radius: u16::from_le_bytes(field(record, 6)),
-        priority: u16::from_le_bytes(field(record, 8)),
-        kind: record[10],
-        tag: u16::from_le_bytes(field(record, 11)),
-    };
-    ask_mark(&mark)?;
+/// The mark of a record: its places from packed decimal, and the rest as in a sheet.
+/// Asks 15 and 16 of x, then of y, and 5 and 6.
+fn read_record(record: &[u8; LOG_RECORD_BYTES]) -> Result<Mark, Refusal> {
+    let x = read_place(field(record, 0))?;
+    let y = read_place(field(record, PACKED_BYTES))?;
+    let mut bytes = Mark::plain(x, y, 0, 0).write();
+    bytes[RADIUS_AT..].copy_from_slice(&record[2 * PACKED_BYTES..]);
+    let mark = Mark::read(&bytes);
+    ask_mark(mark)?;
     Ok(mark)
 }
 
 /// The record of a mark: its places as packed decimal, and the rest as in a sheet.
 fn write_record(mark: &Mark) -> Vec<u8> {
-    let rest = &mark.write()[4..];
+    let rest = &mark.write()[RADIUS_AT..];
     [&write_packed(mark.x), &write_packed(mark.y), rest].concat()
 }
 
 /// Turns a log into marks. Asks 4; 15, 16, 5 and 6 record by record; and 13 of the
 /// buffer written to.
 pub fn log_to_marks(log: &[u8], out_length: usize) -> Result<Vec<u8>, Refusal> {
-    let records = log.chunks_exact(LOG_RECORD_BYTES);
-    let n = records.len();
-    ask(4, records.remainder().is_empty() && n <= MOST_MARKS)?;
-    let marks = records.map(read_record).collect::<Result<Vec<_>, _>>()?;
-    ask(13, out_length >= MARK_BYTES * n)?;
+    let (records, rest) = log.as_chunks();
+    ask(4, rest.is_empty() && records.len() <= MOST_MARKS)?;
+    let marks: Result<Vec<Mark>, Refusal> = records.iter().map(read_record).collect();
+    let marks = marks?;
+    ask(13, out_length >= MARK_BYTES * marks.len())?;
     Ok(write_marks(&marks))
 }
 

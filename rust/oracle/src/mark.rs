@@ -3,20 +3,26 @@
 
 use std::cmp::Ordering;
 
-use crate::bytes::field;
+use crate::bytes::{field, put};
 use crate::fraction::Fraction;
+use crate::label::Label;
 
 /// Bytes a mark takes in part 1.
 pub const MARK_BYTES: usize = 11;
+
+/// Where the fields of a mark stand in its bytes.
+const X_AT: usize = 0;
+const Y_AT: usize = 2;
+pub(crate) const RADIUS_AT: usize = 4;
+const PRIORITY_AT: usize = 6;
+const KIND_AT: usize = 8;
+const TAG_AT: usize = 9;
 
 /// The most marks a sheet has.
 pub const MOST_MARKS: usize = 4_096;
 
 /// The largest radius a mark is written with.
 pub const LARGEST_RADIUS: u16 = 16_383;
-
-/// The first kind that does not exist.
-pub const FIRST_UNKNOWN_KIND: u8 = 200;
 
 /// The fields of a mark in the order they are written: place in map units,
 /// radius in screen pixels, priority, kind, and a tag nobody interprets.
@@ -45,55 +51,96 @@ impl Mark {
     }
 
     /// Reads the 11 bytes of a mark.
+    #[inline]
     pub fn read(bytes: &[u8; MARK_BYTES]) -> Self {
         Self {
-            x: i16::from_le_bytes(field(bytes, 0)),
-            y: i16::from_le_bytes(field(bytes, 2)),
-            radius: u16::from_le_bytes(field(bytes, 4)),
-            priority: u16::from_le_bytes(field(bytes, 6)),
-            kind: bytes[8],
-            tag: u16::from_le_bytes(field(bytes, 9)),
+            x: i16::from_le_bytes(field(bytes, X_AT)),
+            y: i16::from_le_bytes(field(bytes, Y_AT)),
+            radius: u16::from_le_bytes(field(bytes, RADIUS_AT)),
+            priority: u16::from_le_bytes(field(bytes, PRIORITY_AT)),
+            kind: bytes[KIND_AT],
+            tag: u16::from_le_bytes(field(bytes, TAG_AT)),
         }
     }
 
     /// Writes the 11 bytes of a mark.
     pub fn write(&self) -> [u8; MARK_BYTES] {
         let mut bytes = [0; MARK_BYTES];
-        bytes[0..2].copy_from_slice(&self.x.to_le_bytes());
-        bytes[2..4].copy_from_slice(&self.y.to_le_bytes());
-        bytes[4..6].copy_from_slice(&self.radius.to_le_bytes());
-        bytes[6..8].copy_from_slice(&self.priority.to_le_bytes());
-        bytes[8] = self.kind;
-        bytes[9..11].copy_from_slice(&self.tag.to_le_bytes());
+        put(&mut bytes, X_AT, self.x.to_le_bytes());
+        put(&mut bytes, Y_AT, self.y.to_le_bytes());
+        put(&mut bytes, RADIUS_AT, self.radius.to_le_bytes());
+        put(&mut bytes, PRIORITY_AT, self.priority.to_le_bytes());
+        bytes[KIND_AT] = self.kind;
+        put(&mut bytes, TAG_AT, self.tag.to_le_bytes());
         bytes
     }
 
     /// The radius the mark grows with: its own, or the house radius of its kind
     /// where it is written with 0. None where that kind does not exist.
+    #[inline]
     pub fn used_radius(&self) -> Option<u16> {
         match self.radius {
             0 => house_radius(self.kind),
             own => Some(own),
         }
     }
+
+    /// The mark's place and used radius.
+    ///
+    /// # Panics
+    ///
+    /// On marks that question 5 refuses.
+    #[inline]
+    pub fn label(&self) -> Label {
+        Label {
+            x: self.x.into(),
+            y: self.y.into(),
+            radius: self.used_radius().expect("the kind exists").into(),
+        }
+    }
+}
+
+/// The groups that the kinds fall into.
+#[derive(Clone, Copy, Debug, PartialEq, Eq)]
+pub enum Group {
+    Note,
+    Spot,
+    Streak,
+    Patch,
+    Break,
+}
+
+impl Group {
+    /// The group of a kind, none for a kind that does not exist.
+    #[inline]
+    pub fn of(kind: u8) -> Option<Self> {
+        match kind {
+            0..=9 => Some(Self::Note),
+            10..=49 => Some(Self::Spot),
+            50..=99 => Some(Self::Streak),
+            100..=149 => Some(Self::Patch),
+            150..=199 => Some(Self::Break),
+            200..=255 => None,
+        }
+    }
 }
 
 /// The house radius of a kind, none for a kind that does not exist.
+#[inline]
 pub fn house_radius(kind: u8) -> Option<u16> {
-    match kind {
-        0..=9 => Some(40),      // note
-        10..=49 => Some(60),    // spot
-        50..=99 => Some(90),    // streak
-        100..=149 => Some(150), // moisture patch (02, request 2)
-        150..=199 => Some(200), // break
-        200..=255 => None,
-    }
+    let radius = |group| match group {
+        Group::Note => 40,
+        Group::Spot => 60,
+        Group::Streak => 90,
+        Group::Patch => 150, // 02, request 2
+        Group::Break => 200,
+    };
+    Group::of(kind).map(radius)
 }
 
 /// Reads part 1: all its marks, a body whose length is a multiple of 11.
 pub fn read_marks(part_1: &[u8]) -> Vec<Mark> {
-    let marks = part_1.chunks_exact(MARK_BYTES);
-    marks.map(|mark| Mark::read(&field(mark, 0))).collect()
+    part_1.as_chunks().0.iter().map(Mark::read).collect()
 }
 
 /// Writes part 1.
@@ -101,28 +148,38 @@ pub fn write_marks(marks: &[Mark]) -> Vec<u8> {
     marks.iter().flat_map(Mark::write).collect()
 }
 
-/// The touching value of two marks: the squared distance of their places over
-/// the squared sum of their used radii, as these two whole numbers.
+/// The touching value of two marks: that of their labels.
 ///
 /// # Panics
 ///
 /// On marks that questions 5 and 6 refuse.
+#[inline]
 pub fn touching_value(a: &Mark, b: &Mark) -> Fraction {
-    let dx = (i64::from(a.x) - i64::from(b.x)).unsigned_abs();
-    let dy = (i64::from(a.y) - i64::from(b.y)).unsigned_abs();
-    let radii = |mark: &Mark| u64::from(mark.used_radius().expect("the kind exists"));
-    let reach = radii(a) + radii(b);
-    Fraction {
-        numerator: dx * dx + dy * dy,
-        denominator: u32::try_from(reach * reach).expect("both radii are taken"),
+    a.label().touching_value(b.label())
+}
+
+/// The rank of a mark as one number, the higher the rank the lower: higher priority
+/// first; equal priority, lower number first.
+#[derive(Clone, Copy, Debug, PartialEq, Eq, PartialOrd, Ord)]
+pub struct RankKey(u32);
+
+impl RankKey {
+    /// The rank of a mark with its number, of which a sheet has at most 4,096.
+    #[inline]
+    pub fn of(mark: &Mark, number: usize) -> Self {
+        Self(u32::from(u16::MAX - mark.priority) << 16 | number as u32)
+    }
+
+    /// The mark's number.
+    #[inline]
+    pub fn number(self) -> usize {
+        self.0 as usize & 0xffff
     }
 }
 
-/// Rank as an order of mark numbers, highest rank first: higher priority, then
-/// lower number.
+/// Rank as an order of mark numbers, highest rank first.
 pub fn rank_order(marks: &[Mark], a: usize, b: usize) -> Ordering {
-    let by_priority = marks[b].priority.cmp(&marks[a].priority);
-    by_priority.then(a.cmp(&b))
+    RankKey::of(&marks[a], a).cmp(&RankKey::of(&marks[b], b))
 }
 
 /// Whether mark number `a` ranks higher than mark number `b`.
@@ -224,5 +281,7 @@ mod tests {
         assert!(outranks(&marks, 0, 2));
         assert!(!outranks(&marks, 2, 0));
         assert!(!outranks(&marks, 2, 2));
+        let ranks = (0..4).map(|number| RankKey::of(&marks[number], number));
+        assert!(ranks.map(RankKey::number).eq(0..4));
     }
 }

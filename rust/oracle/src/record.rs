@@ -1,10 +1,15 @@
 //! The records of part 2 (01, 'The sheet: contents, then bodies').
 
-use crate::bytes::field;
+use crate::bytes::{field, put};
 use crate::fraction::{Fraction, Removal};
 
 /// Bytes a record takes in part 2.
 pub const RECORD_BYTES: usize = 14;
+
+/// Where the fields of a record stand in its bytes.
+const ELIMINATOR_AT: usize = 0;
+const NUMERATOR_AT: usize = 2;
+const DENOMINATOR_AT: usize = 10;
 
 /// One record as a sheet has it: the eliminator's number and the two numbers of
 /// the removal value. Any three numbers can be read; question 8 judges them.
@@ -22,6 +27,7 @@ impl Record {
     };
 
     /// The record of a mark removed at a value by the mark of that number.
+    #[inline]
     pub fn removed(eliminator: usize, value: Fraction) -> Self {
         Self {
             eliminator: u16::try_from(eliminator).expect("a sheet has at most 4,096 marks"),
@@ -30,6 +36,7 @@ impl Record {
     }
 
     /// The removal value the record names.
+    #[inline]
     pub fn removal(&self) -> Removal {
         if *self == Self::NEVER {
             Removal::Never
@@ -39,32 +46,35 @@ impl Record {
     }
 
     /// Reads the 14 bytes of a record.
+    #[inline]
     pub fn read(bytes: &[u8; RECORD_BYTES]) -> Self {
         Self {
-            eliminator: u16::from_le_bytes(field(bytes, 0)),
+            eliminator: u16::from_le_bytes(field(bytes, ELIMINATOR_AT)),
             value: Fraction {
-                numerator: u64::from_le_bytes(field(bytes, 2)),
-                denominator: u32::from_le_bytes(field(bytes, 10)),
+                numerator: u64::from_le_bytes(field(bytes, NUMERATOR_AT)),
+                denominator: u32::from_le_bytes(field(bytes, DENOMINATOR_AT)),
             },
         }
     }
 
     /// Writes the 14 bytes of a record.
+    #[inline]
     pub fn write(&self) -> [u8; RECORD_BYTES] {
         let mut bytes = [0; RECORD_BYTES];
-        bytes[0..2].copy_from_slice(&self.eliminator.to_le_bytes());
-        bytes[2..10].copy_from_slice(&self.value.numerator.to_le_bytes());
-        bytes[10..14].copy_from_slice(&self.value.denominator.to_le_bytes());
+        let Fraction {
+            numerator,
+            denominator,
+        } = self.value;
+        put(&mut bytes, ELIMINATOR_AT, self.eliminator.to_le_bytes());
+        put(&mut bytes, NUMERATOR_AT, numerator.to_le_bytes());
+        put(&mut bytes, DENOMINATOR_AT, denominator.to_le_bytes());
         bytes
     }
 }
 
 /// Reads part 2: all its records, a body whose length is a multiple of 14.
 pub fn read_records(part_2: &[u8]) -> Vec<Record> {
-    let records = part_2.chunks_exact(RECORD_BYTES);
-    records
-        .map(|record| Record::read(&field(record, 0)))
-        .collect()
+    part_2.as_chunks().0.iter().map(Record::read).collect()
 }
 
 /// Writes part 2.

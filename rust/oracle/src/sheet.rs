@@ -4,21 +4,82 @@
 
 pub use crate::contents::{join, split};
 
-use crate::contents::{contents_bytes, MOST_PARTS};
-use crate::mark::{
-    outranks, read_marks, touching_value, Mark, FIRST_UNKNOWN_KIND, LARGEST_RADIUS, MARK_BYTES,
-    MOST_MARKS,
-};
+use crate::contents::{extent, Bodies, MOST_PARTS};
+use crate::mark::{touching_value, Group, Mark, RankKey, LARGEST_RADIUS, MARK_BYTES, MOST_MARKS};
 use crate::process::schedule_by_sorted_pairs;
 use crate::record::{read_records, write_records, Record, RECORD_BYTES};
 use crate::tree::{self, read_tree, write_tree, INDEX_BYTES};
 use crate::{ask, Refusal};
 
+/// Bytes of the work buffer that scheduling n marks borrows.
+pub const fn work_bytes(n: usize) -> usize {
+    32 * n + 1_024
+}
+
+/// Bytes of the sheet that scheduling n marks writes.
+pub const fn scheduled_bytes(n: usize) -> usize {
+    32 + 27 * n
+}
+
+/// The lengths of parts 1, 2 and 3 of n marks.
+pub const fn part_lengths(n: usize) -> [usize; MOST_PARTS] {
+    [MARK_BYTES * n, RECORD_BYTES * n, INDEX_BYTES * n]
+}
+
+/// The parts of a sheet that questions 1 to 7 take, row by row as they stand in the
+/// caller's bytes: as many records and numbers of the index as marks, where they are
+/// there.
+#[derive(Clone, Copy, Debug)]
+pub struct Rows<'a> {
+    pub marks: &'a [[u8; MARK_BYTES]],
+    pub records: Option<&'a [[u8; RECORD_BYTES]]>,
+    pub index: Option<&'a [[u8; INDEX_BYTES]]>,
+}
+
+impl<'a> Rows<'a> {
+    /// The rows of a sheet's bodies. Asks 4 to 7.
+    #[inline]
+    pub fn of(bodies: &Bodies<'a>) -> Result<Self, Refusal> {
+        let marks = mark_rows(bodies.part_1())?;
+        ask(7, lengths_fit(bodies, marks.len()))?;
+        Ok(Self {
+            marks,
+            records: bodies.get(2).map(|body| body.as_chunks().0),
+            index: bodies.get(3).map(|body| body.as_chunks().0),
+        })
+    }
+}
+
+/// The marks of a part 1. Asks 4, then 5 and 6 mark by mark.
+#[inline]
+pub fn mark_rows(part_1: &[u8]) -> Result<&[[u8; MARK_BYTES]], Refusal> {
+    let (marks, rest) = part_1.as_chunks();
+    ask(4, rest.is_empty() && marks.len() <= MOST_MARKS)?;
+    marks.iter().map(Mark::read).try_for_each(ask_mark)?;
+    Ok(marks)
+}
+
+/// Questions 5 and 6 of one mark: the kind exists, and then the radius as it is
+/// written is not too large.
+#[inline]
+pub(crate) fn ask_mark(mark: Mark) -> Result<(), Refusal> {
+    ask(5, Group::of(mark.kind).is_some())?;
+    ask(6, mark.radius <= LARGEST_RADIUS)
+}
+
+/// Question 7: parts 2 and 3, if present, are 14n and 2n bytes.
+#[inline]
+fn lengths_fit(bodies: &Bodies, n: usize) -> bool {
+    let [_, records, index] = part_lengths(n);
+    let fits = |code, length| bodies.get(code).is_none_or(|body| body.len() == length);
+    fits(2, records) && fits(3, index)
+}
+
 /// An accepted sheet, opened: its bodies as they stand in the caller's bytes, and
 /// what they mean. A part that is there may still be empty.
 #[derive(Clone, Debug, PartialEq, Eq)]
 pub struct Opened<'a> {
-    pub bodies: Vec<&'a [u8]>,
+    pub bodies: Bodies<'a>,
     pub marks: Vec<Mark>,
     pub records: Option<Vec<Record>>,
     pub tree: Option<Vec<u16>>,
@@ -29,16 +90,15 @@ pub fn open(sheet: &[u8]) -> Result<Opened<'_>, Refusal> {
     open_bodies(split(sheet)?)
 }
 
-/// Opens the bodies of a sheet, part 1 first. Asks 4 to 9.
-fn open_bodies(bodies: Vec<&[u8]>) -> Result<Opened<'_>, Refusal> {
-    let marks = open_marks(bodies[0])?;
-    ask(7, lengths_fit(&bodies, marks.len()))?;
-    let records = bodies.get(1).map(|body| read_records(body));
+/// Opens the bodies of a sheet. Asks 4 to 9.
+fn open_bodies(bodies: Bodies<'_>) -> Result<Opened<'_>, Refusal> {
+    let marks: Vec<Mark> = Rows::of(&bodies)?.marks.iter().map(Mark::read).collect();
+    let records = bodies.get(2).map(read_records);
     if let Some(records) = &records {
-        let fits = |mark| record_fits(&marks, records, mark);
+        let fits = |m| record_fits(m, marks.len(), |m| marks[m], |m| records[m]);
         ask(8, (0..marks.len()).all(fits))?;
     }
-    let tree = bodies.get(2).map(|body| read_tree(body));
+    let tree = bodies.get(3).map(read_tree);
     if let (Some(records), Some(tree)) = (&records, &tree) {
         ask(9, *tree == tree::build(&marks, records))?;
     }
@@ -52,49 +112,31 @@ fn open_bodies(bodies: Vec<&[u8]>) -> Result<Opened<'_>, Refusal> {
 
 /// Reads marks as they stand in part 1. Asks 4 to 6.
 pub fn open_marks(part_1: &[u8]) -> Result<Vec<Mark>, Refusal> {
-    ask(4, marks_fit(part_1))?;
-    let marks = read_marks(part_1);
-    ask_marks(&marks)?;
-    Ok(marks)
+    Ok(mark_rows(part_1)?.iter().map(Mark::read).collect())
 }
 
-/// Question 4: part 1 is a multiple of 11 and at most 45,056 bytes.
-fn marks_fit(part_1: &[u8]) -> bool {
-    part_1.len().is_multiple_of(MARK_BYTES) && part_1.len() <= MARK_BYTES * MOST_MARKS
-}
-
-/// Questions 5 and 6, mark by mark: the kind exists, and then the radius as it is
-/// written is not too large.
-fn ask_marks(marks: &[Mark]) -> Result<(), Refusal> {
-    marks.iter().try_for_each(ask_mark)
-}
-
-/// Questions 5 and 6 of one mark.
-pub(crate) fn ask_mark(mark: &Mark) -> Result<(), Refusal> {
-    ask(5, mark.kind < FIRST_UNKNOWN_KIND)?;
-    ask(6, mark.radius <= LARGEST_RADIUS)
-}
-
-/// Question 7: parts 2 and 3, if present, are 14n and 2n bytes.
-fn lengths_fit(bodies: &[&[u8]], n: usize) -> bool {
-    let lengths = [MARK_BYTES * n, RECORD_BYTES * n, INDEX_BYTES * n];
-    let present = bodies.iter().zip(lengths);
-    present.skip(1).all(|(body, length)| body.len() == length)
-}
-
-/// Question 8 of one record: it is the 'never' record; or it names a
-/// higher-ranked mark below n, with their touching value as its two unreduced
-/// numbers, and that mark is removed later.
-fn record_fits(marks: &[Mark], records: &[Record], mark: usize) -> bool {
-    let record = records[mark];
-    if record == Record::NEVER {
+/// Question 8 of the record of mark m of n, by the marks and records of their numbers:
+/// it is the 'never' record; or it names a higher-ranked mark below n, with their
+/// touching value as its two unreduced numbers, and that mark is removed later.
+#[inline]
+pub fn record_fits(
+    m: usize,
+    n: usize,
+    mark: impl Fn(usize) -> Mark,
+    record: impl Fn(usize) -> Record,
+) -> bool {
+    let own = record(m);
+    if own == Record::NEVER {
         return true;
     }
-    let eliminator = usize::from(record.eliminator);
-    eliminator < marks.len()
-        && outranks(marks, eliminator, mark)
-        && record.value == touching_value(&marks[eliminator], &marks[mark])
-        && records[eliminator].removal().later_than(record.value)
+    let eliminator = usize::from(own.eliminator);
+    if eliminator >= n {
+        return false;
+    }
+    let (higher, lower) = (mark(eliminator), mark(m));
+    RankKey::of(&higher, eliminator) < RankKey::of(&lower, m)
+        && own.value == touching_value(&higher, &lower)
+        && record(eliminator).removal().later_than(own.value)
 }
 
 /// Checks a sheet: 0, or the number of the first of questions 1 to 9 that is
@@ -109,18 +151,10 @@ pub fn check(sheet: &[u8]) -> u32 {
 /// Where a part stands in an accepted sheet, as offset and length; both 0 where
 /// the sheet has no such part or is refused.
 pub fn part_extent(sheet: &[u8], code: u32) -> (u32, u32) {
-    let Ok(opened) = open(sheet) else {
-        return (0, 0);
-    };
-    let mut offset = contents_bytes(opened.bodies.len()) as u32;
-    for (body, own) in opened.bodies.iter().zip(1..) {
-        let length = body.len() as u32;
-        if own == code {
-            return (offset, length);
-        }
-        offset += length;
+    match check(sheet) {
+        0 => extent(sheet, code).unwrap_or_default(),
+        _ => (0, 0),
     }
-    (0, 0)
 }
 
 /// Puts the first `count` bodies together into a sheet; the further ones are
@@ -131,8 +165,9 @@ pub fn assemble(
     out_length: usize,
 ) -> Result<Vec<u8>, Refusal> {
     ask(1, (1..=MOST_PARTS as u32).contains(&count))?;
-    let opened = open_bodies(bodies[..count as usize].to_vec())?;
-    let sheet = join(&opened.bodies);
+    let bodies = &bodies[..count as usize];
+    open_bodies(Bodies::in_order(bodies))?;
+    let sheet = join(bodies);
     ask(13, out_length >= sheet.len())?;
     Ok(sheet)
 }
@@ -144,7 +179,7 @@ pub fn schedule(sheet: &[u8], work_length: usize, out_length: usize) -> Result<V
     let n = opened.marks.len();
     ask(
         13,
-        work_length >= 32 * n + 1_024 && out_length >= 32 + 27 * n,
+        work_length >= work_bytes(n) && out_length >= scheduled_bytes(n),
     )?;
     Ok(scheduled(&opened))
 }
@@ -155,5 +190,19 @@ fn scheduled(opened: &Opened) -> Vec<u8> {
     let records = schedule_by_sorted_pairs(&opened.marks);
     let part_2 = write_records(&records);
     let part_3 = write_tree(&tree::build(&opened.marks, &records));
-    join(&[opened.bodies[0], &part_2, &part_3])
+    join(&[opened.bodies.part_1(), &part_2, &part_3])
+}
+
+#[cfg(test)]
+mod tests {
+    use super::*;
+    use crate::contents::contents_bytes;
+
+    #[test]
+    fn a_scheduled_sheet_is_its_contents_and_its_parts() {
+        for n in [0, 1, 4, 4_096] {
+            let parts: usize = part_lengths(n).iter().sum();
+            assert_eq!(scheduled_bytes(n), contents_bytes(MOST_PARTS) + parts);
+        }
+    }
 }

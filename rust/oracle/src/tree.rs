@@ -1,5 +1,7 @@
 //! The index of part 3 (01, 'The sheet: contents, then bodies').
 
+use std::cmp::Ordering;
+
 use crate::fraction::Removal;
 use crate::mark::Mark;
 use crate::record::{removals, Record};
@@ -8,15 +10,19 @@ use crate::record::{removals, Record};
 pub const INDEX_BYTES: usize = 2;
 
 /// The coordinate that orders the marks below a root.
-#[derive(Clone, Copy)]
-enum Axis {
+#[derive(Clone, Copy, Debug, PartialEq, Eq)]
+pub enum Axis {
     X,
     Y,
 }
 
 impl Axis {
+    /// The axis of the top level.
+    pub const TOP: Self = Self::X;
+
     /// The axis one level down.
-    fn next(self) -> Self {
+    #[inline]
+    pub fn next(self) -> Self {
         match self {
             Self::X => Self::Y,
             Self::Y => Self::X,
@@ -24,27 +30,61 @@ impl Axis {
     }
 
     /// The mark's coordinate on this axis.
-    fn of(self, mark: &Mark) -> i16 {
+    #[inline]
+    pub fn of(self, mark: &Mark) -> i16 {
         match self {
             Self::X => mark.x,
             Self::Y => mark.y,
         }
     }
+
+    /// What orders a mark with its number on this axis.
+    #[inline]
+    pub fn key(self, mark: &Mark, number: usize) -> AxisKey {
+        let shifted = i32::from(self.of(mark)) - i32::from(i16::MIN);
+        AxisKey((shifted as u32) << 16 | number as u32)
+    }
+}
+
+/// The order of a mark on an axis as one number: by the coordinate, equal coordinates
+/// by number.
+#[derive(Clone, Copy, Debug, PartialEq, Eq, PartialOrd, Ord)]
+pub struct AxisKey(u32);
+
+/// Whether mark number `a` is a root before mark number `b`, given the order of their
+/// removal values: it is removed later, or at an equal value and has the lower number.
+#[inline]
+pub fn beats(removed: Ordering, a: usize, b: usize) -> bool {
+    removed.is_gt() || (removed.is_eq() && a < b)
+}
+
+/// How many of so many marks below a root are in its left subtree: the first half,
+/// the larger when uneven.
+#[inline]
+pub fn half(others: usize) -> usize {
+    others.div_ceil(2)
+}
+
+/// A tree as it is written: root, left, right. None where it has no marks.
+#[inline]
+pub fn branches<T>(tree: &[T]) -> Option<(&T, &[T], &[T])> {
+    let (root, others) = tree.split_first()?;
+    let (left, right) = others.split_at(half(others.len()));
+    Some((root, left, right))
 }
 
 /// The tree that marks and their records give, as mark numbers written root,
 /// left, right; the top level goes by x.
 pub fn build(marks: &[Mark], records: &[Record]) -> Vec<u16> {
     let numbers = (0..marks.len()).collect();
-    let tree = subtree(marks, &removals(records), numbers, Axis::X);
+    let tree = subtree(marks, &removals(records), numbers, Axis::TOP);
     tree.into_iter()
         .map(|number| u16::try_from(number).expect("a sheet has at most 4,096 marks"))
         .collect()
 }
 
 /// The tree of some of the marks. The others than its root are ordered on the
-/// axis, equal coordinates by number; their first half, the larger when uneven,
-/// is the left subtree.
+/// axis, and their first half is the left subtree.
 fn subtree(
     marks: &[Mark],
     removals: &[Removal],
@@ -55,34 +95,41 @@ fn subtree(
         return Vec::new();
     };
     numbers.retain(|&number| number != root);
-    numbers.sort_by_key(|&number| (axis.of(&marks[number]), number));
-    let right = numbers.split_off(numbers.len().div_ceil(2));
+    numbers.sort_by_key(|&number| axis.key(&marks[number], number));
+    let right = numbers.split_off(half(numbers.len()));
     let mut tree = vec![root];
     tree.extend(subtree(marks, removals, numbers, axis.next()));
     tree.extend(subtree(marks, removals, right, axis.next()));
     tree
 }
 
-/// Of the numbered marks the one removed last: 'never' beats all, and of equal
-/// values the lower number is taken.
+/// Of the numbered marks the one removed last, which beats all others.
 fn removed_last(removals: &[Removal], numbers: &[usize]) -> Option<usize> {
+    let better = |a: usize, b: usize| beats(removals[a].compare(removals[b]), a, b);
     let candidates = numbers.iter().copied();
-    candidates.min_by(|&a, &b| removals[b].compare(removals[a]).then(a.cmp(&b)))
+    candidates.reduce(|best, number| if better(number, best) { number } else { best })
+}
+
+/// Reads a number of part 3.
+#[inline]
+pub fn read_number(bytes: &[u8; INDEX_BYTES]) -> u16 {
+    u16::from_le_bytes(*bytes)
+}
+
+/// Writes a number of part 3.
+#[inline]
+pub fn write_number(number: &u16) -> [u8; INDEX_BYTES] {
+    number.to_le_bytes()
 }
 
 /// Reads part 3: all its numbers, a body of even length.
 pub fn read_tree(part_3: &[u8]) -> Vec<u16> {
-    let numbers = part_3.chunks_exact(INDEX_BYTES);
-    numbers
-        .map(|at| u16::from_le_bytes([at[0], at[1]]))
-        .collect()
+    part_3.as_chunks().0.iter().map(read_number).collect()
 }
 
 /// Writes part 3.
 pub fn write_tree(tree: &[u16]) -> Vec<u8> {
-    tree.iter()
-        .flat_map(|number| number.to_le_bytes())
-        .collect()
+    tree.iter().flat_map(write_number).collect()
 }
 
 #[cfg(test)]
@@ -165,6 +212,22 @@ mod tests {
     fn equal_coordinates_go_by_number_and_not_by_the_other_coordinate() {
         let marks = [at(0, 0), at(5, 9), at(5, 1)];
         assert_eq!(build(&marks, &removed_at(&[9, 1, 1])), [0, 1, 2]);
+    }
+
+    #[test]
+    fn keys_are_in_order_from_end_to_end_of_the_range() {
+        let places = [i16::MIN, -1, 0, 1, i16::MAX];
+        let keys = places.map(|x| [0, 1, 4_095].map(|number| Axis::X.key(&at(x, 0), number)));
+        assert!(keys.as_flattened().is_sorted_by(|a, b| a < b));
+        assert_eq!(Axis::Y.key(&at(7, 3), 9), Axis::X.key(&at(3, 7), 9));
+    }
+
+    #[test]
+    fn a_tree_is_its_root_and_two_halves() {
+        assert_eq!(branches::<u16>(&[]), None);
+        assert_eq!(branches(&[5]), Some((&5, &[][..], &[][..])));
+        assert_eq!(branches(&[5, 6]), Some((&5, &[6][..], &[][..])));
+        assert_eq!(branches(&[5, 6, 7, 8]), Some((&5, &[6, 7][..], &[8][..])));
     }
 
     #[test]

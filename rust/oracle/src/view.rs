@@ -1,6 +1,7 @@
 //! The view, its map, and the walk (01, 'The view and its map'; 02, request 1).
 
 use crate::fraction::{Fraction, Removal};
+use crate::label::squared_distance;
 use crate::mark::{Mark, MOST_MARKS};
 use crate::record::removals;
 use crate::sheet::open;
@@ -74,36 +75,35 @@ fn magnitude(float: f32) -> Option<(u32, i32)> {
     }
 }
 
-/// Whether a mark with this removal value lives at zoom k/64: the squared zoom
-/// k²/4096 is below the removal value, or it has none.
-pub fn lives(removal: Removal, k: u32) -> bool {
+/// The squared zoom k²/4096.
+#[inline]
+pub fn zoom_squared(k: u32) -> Fraction {
     let k = u64::from(k);
-    removal.later_than(Fraction::new(k * k, 4_096))
+    Fraction::new(k * k, 4_096)
 }
 
-/// The squared distance from a mark's point to the rectangle, whose nearest place is
-/// the point itself where it lies inside.
-///
-/// # Panics
-///
-/// On edges that question 11 refuses.
-fn squared_distance(mark: &Mark, edges: Edges) -> u64 {
-    let dx = mark.x.abs_diff(mark.x.clamp(edges.x0, edges.x1));
-    let dy = mark.y.abs_diff(mark.y.clamp(edges.y0, edges.y1));
-    let square = |difference: u16| u64::from(difference) * u64::from(difference);
-    square(dx) + square(dy)
+/// Whether a mark with this removal value lives at zoom k/64: the squared zoom is
+/// below the removal value, or it has none.
+#[inline]
+pub fn lives(removal: Removal, k: u32) -> bool {
+    removal.later_than(zoom_squared(k))
 }
 
 /// Whether a mark's disk at zoom k/64 reaches the rectangle, touching included: the
-/// squared distance, times 4096, is at most k² times the squared radius.
+/// squared distance from the mark's point to the rectangle, times 4096, is at most k²
+/// times the squared radius. The nearest place of the rectangle is the point itself
+/// where it lies inside.
 ///
 /// # Panics
 ///
 /// On marks that question 5 refuses, and edges that question 11 refuses.
+#[inline]
 pub fn reaches(mark: &Mark, edges: Edges, k: u32) -> bool {
-    let radius = u64::from(mark.used_radius().expect("the kind exists"));
-    let k = u64::from(k);
-    4_096 * squared_distance(mark, edges) <= k * k * (radius * radius)
+    let label = mark.label();
+    let dx = label.x - i32::from(mark.x.clamp(edges.x0, edges.x1));
+    let dy = label.y - i32::from(mark.y.clamp(edges.y0, edges.y1));
+    let (k, radius) = (u64::from(k), u64::from(label.radius));
+    4_096 * squared_distance(dx, dy) <= k * k * (radius * radius)
 }
 
 /// Whether a mark is shown: it lives, and its disk reaches the rectangle.
@@ -127,24 +127,38 @@ pub fn view(
     let (Some(records), Some(_)) = (&opened.records, &opened.tree) else {
         return Err(10);
     };
-    ask(11, edges.x0 <= edges.x1 && edges.y0 <= edges.y1)?;
-    let k = zoom_in_64ths(zoom)?;
-    let mut map = vec![0; map_bytes(opened.marks.len())];
-    ask(13, map_length >= map.len())?;
+    let k = ask_view(edges, zoom)?;
+    ask(13, map_length >= map_bytes(opened.marks.len()))?;
+    Ok(map_and_count(&opened.marks, &removals(records), edges, k))
+}
+
+/// The map of the shown marks, and their count.
+pub fn map_and_count(marks: &[Mark], removals: &[Removal], edges: Edges, k: u32) -> (Vec<u8>, u32) {
+    let mut map = vec![0; map_bytes(marks.len())];
     let mut count = 0;
-    let marks = opened.marks.iter().zip(removals(records));
-    for (number, (mark, removal)) in marks.enumerate() {
-        if shown(mark, removal, edges, k) {
-            map[number / 8] |= 1 << (number % 8);
-            count += 1;
-        }
+    for (number, (mark, &removal)) in marks.iter().zip(removals).enumerate() {
+        let shown = shown(mark, removal, edges, k);
+        set_bit(&mut map, number, shown);
+        count += u32::from(shown);
     }
-    Ok((map, count))
+    (map, count)
+}
+
+/// The zoom of a view in 64ths. Asks 11 of the edges, and 12.
+pub fn ask_view(edges: Edges, zoom: Zoom) -> Result<u32, Refusal> {
+    ask(11, edges.x0 <= edges.x1 && edges.y0 <= edges.y1)?;
+    zoom_in_64ths(zoom)
 }
 
 /// The bytes of a map of n marks.
 pub fn map_bytes(n: usize) -> usize {
     n.div_ceil(8)
+}
+
+/// Sets mark m's bit in a map where the mark is shown.
+#[inline]
+pub fn set_bit(map: &mut [u8], m: usize, shown: bool) {
+    map[m / 8] |= u8::from(shown) << (m % 8);
 }
 
 /// Whether mark m's bit is set in a map.

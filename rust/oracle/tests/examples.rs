@@ -41,7 +41,7 @@ fn scheduled(marks: &[Mark]) -> Vec<u8> {
 /// The records that scheduling these marks writes.
 fn records(marks: &[Mark]) -> Vec<Record> {
     let sheet = scheduled(marks);
-    read_records(split(&sheet).unwrap()[1])
+    read_records(split(&sheet).unwrap().get(2).unwrap())
 }
 
 /// The record with these three numbers.
@@ -73,7 +73,8 @@ fn p1() {
 #[test]
 fn p2() {
     let sheet = scheduled(&P1);
-    assert_eq!(split(&sheet).unwrap()[2], [0, 0, 1, 0, 3, 0, 2, 0]);
+    let part_3 = split(&sheet).unwrap().get(3).unwrap();
+    assert_eq!(part_3, [0, 0, 1, 0, 3, 0, 2, 0]);
 }
 
 #[test]
@@ -284,7 +285,7 @@ fn false_that_a_removed_mark_still_blocks_others() {
 /// The marks that reach the rectangle and that a search down the tree comes to, the
 /// living left aside; a cut search ends where a root does not reach it.
 fn search(marks: &[Mark], tree: &[u16], edges: Edges, k: u32, cut: bool) -> Vec<usize> {
-    let Some((&root, others)) = tree.split_first() else {
+    let Some((&root, left, right)) = tree::branches(tree) else {
         return Vec::new();
     };
     let root = usize::from(root);
@@ -292,7 +293,6 @@ fn search(marks: &[Mark], tree: &[u16], edges: Edges, k: u32, cut: bool) -> Vec<
     if cut && !reached {
         return Vec::new();
     }
-    let (left, right) = others.split_at(others.len().div_ceil(2));
     let mut found = search(marks, left, edges, k, cut);
     found.extend(search(marks, right, edges, k, cut));
     found.extend(reached.then_some(root));
@@ -317,14 +317,14 @@ fn search_halves(
     edges: Edges,
     widened: fn(&Mark) -> i16,
 ) -> Vec<usize> {
-    let mark = |at: &[u16]| marks[usize::from(at[0])];
-    let (left, right) = tree[1..].split_at(tree.len() / 2);
-    let by = widened(&mark(tree));
-    let mut numbers = vec![tree[0]];
-    if mark(right).x >= edges.x0 - by {
+    let mark = |number: u16| marks[usize::from(number)];
+    let (&root, left, right) = tree::branches(tree).unwrap();
+    let by = widened(&mark(root));
+    let mut numbers = vec![root];
+    if mark(right[0]).x >= edges.x0 - by {
         numbers.extend(left);
     }
-    if mark(left).x <= edges.x1 + by {
+    if mark(left[0]).x <= edges.x1 + by {
         numbers.extend(right);
     }
     let reached = |&number: &usize| reaches(&marks[number], edges, 64);

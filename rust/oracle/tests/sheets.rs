@@ -47,7 +47,7 @@ fn scheduling_writes_an_accepted_sheet_with_the_marks_unchanged() {
         let sheet = scheduled(marks);
         assert_eq!(sheet.len(), 32 + 27 * marks.len());
         let opened = open(&sheet).unwrap();
-        assert_eq!(opened.bodies[0], write_marks(marks));
+        assert_eq!(opened.bodies.get(1), Some(write_marks(marks).as_slice()));
         let records = opened.records.unwrap();
         assert_eq!(records, schedule_by_process(marks));
         assert_eq!(keep_both(marks, &removals(&records)), Ok(()));
@@ -76,7 +76,7 @@ fn scheduling_replaces_what_schedule_there_is() {
 fn putting_the_bodies_of_a_sheet_together_gives_the_sheet() {
     each_sample(|marks| {
         let sheet = scheduled(marks);
-        let bodies: [&[u8]; 3] = split(&sheet).unwrap().try_into().unwrap();
+        let bodies: [&[u8]; 3] = split(&sheet).unwrap().present().try_into().unwrap();
         for count in 1..=3_usize {
             let expected = join(&bodies[..count]);
             let length = expected.len();
@@ -90,14 +90,13 @@ fn putting_the_bodies_of_a_sheet_together_gives_the_sheet() {
 /// The marks that a search down the tree shows. It ends at a root that does not
 /// live, since all below it are removed no later.
 fn search(marks: &[Mark], records: &[Record], tree: &[u16], edges: Edges, k: u32) -> Vec<usize> {
-    let Some((&root, others)) = tree.split_first() else {
+    let Some((&root, left, right)) = tree::branches(tree) else {
         return Vec::new();
     };
     let root = usize::from(root);
     if !lives(records[root].removal(), k) {
         return Vec::new();
     }
-    let (left, right) = others.split_at(others.len().div_ceil(2));
     let reached = reaches(&marks[root], edges, k);
     let mut found: Vec<usize> = reached.then_some(root).into_iter().collect();
     found.extend(search(marks, records, left, edges, k));
@@ -193,7 +192,7 @@ fn changed_sheet(generator: &mut Generator) -> Vec<u8> {
     let shape = generator.choose(&Shape::ALL);
     let n = generator.below(6) as usize;
     let whole = scheduled(&marks(shape, n, generator.draw()));
-    let mut bodies = split(&whole).unwrap();
+    let mut bodies = split(&whole).unwrap().present();
     bodies.truncate(1 + generator.below(3) as usize);
     let longer = [generator.choose(&bodies), &[0]].concat();
     if generator.below(10) == 0 {
@@ -213,7 +212,7 @@ fn changed_sheet(generator: &mut Generator) -> Vec<u8> {
 
 /// Puts the bodies of a sheet that passes questions 1 to 3 together again.
 fn assemble_again(sheet: &[u8]) -> Result<Vec<u8>, u32> {
-    let bodies = split(sheet).unwrap();
+    let bodies = split(sheet).unwrap().present();
     let mut all: [&[u8]; 3] = [&[], &[], &[]];
     all[..bodies.len()].copy_from_slice(&bodies);
     assemble(bodies.len() as u32, all, sheet.len())

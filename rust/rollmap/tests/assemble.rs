@@ -167,7 +167,7 @@ fn parts_of_accepted_sheets() {
         for n in [0, 1, 2, 9, 40] {
             let sample = marks(shape, n, n as u64);
             let whole = scheduled(&sample);
-            let bodies = split(&whole).unwrap();
+            let bodies = split(&whole).unwrap().present();
             for parts in 1..=3 {
                 let sheet = join(&bodies[..parts]);
                 let found = CODES.map(|code| part(&sheet, code));

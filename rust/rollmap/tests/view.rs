@@ -14,7 +14,7 @@ use oracle::process::schedule_in_rank_order;
 use oracle::record::{removals, Record};
 use oracle::report::removal_zoom_in_64ths;
 use oracle::sample::{marks, Generator, Shape};
-use oracle::view::{is_set, map_bytes, shown, zoom_in_64ths, Edges};
+use oracle::view::{is_set, map_and_count, map_bytes, zoom_in_64ths, Edges};
 use rollmap::{View, Zoom};
 
 /// The whole range of places, at stop 0.
@@ -97,15 +97,7 @@ impl Scheduled {
     /// The map and the count of a view that is taken.
     fn expected(&self, view: View) -> (Vec<u8>, u32) {
         let k = in_64ths(view.zoom);
-        let mut map = vec![0; map_bytes(self.marks.len())];
-        let mut count = 0;
-        for (number, (mark, &removal)) in self.marks.iter().zip(&self.removals).enumerate() {
-            if shown(mark, removal, edges(view), k) {
-                map[number / 8] |= 1 << (number % 8);
-                count += 1;
-            }
-        }
-        (map, count)
+        map_and_count(&self.marks, &self.removals, edges(view), k)
     }
 
     /// Some view of it that is taken.
