@@ -11,6 +11,7 @@ use std::hint::black_box;
 use oracle::mark::write_marks;
 use oracle::sample::{marks, Shape};
 use oracle::sheet::join;
+use oracle::view::Edges;
 use rollmap::{map_bytes, scheduled_bytes, work_bytes, View, Work, Zoom};
 
 use plain::schedule::Desk;
@@ -255,19 +256,17 @@ fn square_about(x: i16, y: i16, half: i16) -> View {
 /// The least times of a view at k/64: proved, plain, and of the proved check alone. The
 /// first two are seen to show the same. Answers how many marks are shown and looked at, too.
 fn time_view(sheet: &[u8], rectangle: View, k: u32) -> ([usize; 2], [Micros; 3]) {
+    let wheel = k as f32 / 64.0;
+    let View { x0, x1, y0, y1, .. } = rectangle;
     let ours = View {
-        zoom: Zoom::Wheel(k as f32 / 64.0),
+        zoom: Zoom::Wheel(wheel),
         ..rectangle
     };
-    let theirs = plain::view::View {
-        low: [ours.x0, ours.y0],
-        high: [ours.x1, ours.y1],
-        k,
-    };
+    let (edges, zoom) = (Edges { x0, x1, y0, y1 }, oracle::view::Zoom::Wheel(wheel));
     let mut map = vec![0; map_bytes(MOST)];
     let mut plain_map = map.clone();
     let count = rollmap::view(sheet, ours, &mut map);
-    let plain_count = plain::view::view(sheet, theirs, &mut plain_map);
+    let plain_count = plain::view::view(sheet, edges, zoom, &mut plain_map);
     assert_eq!(count.ok(), plain_count.ok());
     assert_eq!(map, plain_map);
     let times = race(
@@ -275,11 +274,11 @@ fn time_view(sheet: &[u8], rectangle: View, k: u32) -> ([usize; 2], [Micros; 3])
         1,
         [
             &mut || _ = black_box(rollmap::view(sheet, ours, &mut map)),
-            &mut || _ = black_box(plain::view::view(sheet, theirs, &mut plain_map)),
+            &mut || _ = black_box(plain::view::view(sheet, edges, zoom, &mut plain_map)),
             &mut || _ = black_box(rollmap::check(sheet)),
         ],
     );
-    let visited = plain::view::visited(sheet, theirs);
+    let visited = plain::view::visited(sheet, edges, zoom);
     let count = plain_count.expect("the view is taken") as usize;
     ([count, visited.expect("the view is taken")], times)
 }

@@ -2,8 +2,9 @@
 //! data lies, and 16 larger ones for marks of large radius. A cell has a chain of its
 //! rows, the box around their places and their largest radius.
 
-use super::marks::Disk;
-use super::Value;
+use oracle::label::Label;
+
+use super::value::Value;
 
 /// The cells by place, and those of the large marks behind them.
 const PLACES: usize = 64;
@@ -28,20 +29,16 @@ impl Cell {
         radius: 0,
     };
 
-    /// The touching value of a disk and the nearest place of the box, with the largest
+    /// The touching value of a label and the nearest place of the box, with the largest
     /// radius of the cell.
     #[inline]
-    fn bound(&self, disk: Disk) -> Value {
-        let away = |axis: usize| {
-            let place = [disk.0, disk.1][axis];
-            i64::from(place - place.clamp(self.low[axis], self.high[axis]))
+    fn bound(&self, label: Label) -> Value {
+        let nearest = Label {
+            x: label.x.clamp(self.low[0], self.high[0]),
+            y: label.y.clamp(self.low[1], self.high[1]),
+            radius: self.radius,
         };
-        let (dx, dy) = (away(0), away(1));
-        let reach = u64::from(self.radius + disk.2);
-        Value {
-            numerator: (dx * dx + dy * dy) as u64,
-            denominator: reach * reach,
-        }
+        nearest.touching_value(label).into()
     }
 }
 
@@ -56,11 +53,11 @@ struct Plan {
 }
 
 impl Plan {
-    /// The cells over some disks. A mark is large from four times the average radius on.
-    fn over(disks: impl ExactSizeIterator<Item = Disk>) -> Self {
-        let n = disks.len() as u32;
+    /// The cells over some labels. One is large from four times the average radius on.
+    fn over(labels: impl ExactSizeIterator<Item = Label>) -> Self {
+        let n = labels.len() as u32;
         let (mut low, mut high, mut radii) = ([i32::MAX; 2], [i32::MIN; 2], 0);
-        for (x, y, radius) in disks {
+        for Label { x, y, radius } in labels {
             low = [low[0].min(x), low[1].min(y)];
             high = [high[0].max(x), high[1].max(y)];
             radii += radius;
@@ -75,9 +72,9 @@ impl Plan {
         }
     }
 
-    /// The cell of a disk.
+    /// The cell of a label.
     #[inline]
-    fn cell_of(&self, (x, y, radius): Disk) -> usize {
+    fn cell_of(&self, Label { x, y, radius }: Label) -> usize {
         let along = |axis: usize, place: i32| place.abs_diff(self.low[axis]) / self.size[axis];
         let cell = self.rows * along(0, x) as usize + along(1, y) as usize;
         let cell = cell.min(PLACES - 1);
@@ -120,23 +117,22 @@ impl Default for Grid {
 }
 
 impl Grid {
-    /// Lays empty cells over some disks.
-    pub fn lay_over(&mut self, disks: impl ExactSizeIterator<Item = Disk>) {
+    /// Lays empty cells over some labels.
+    pub fn lay_over(&mut self, labels: impl ExactSizeIterator<Item = Label>) {
         self.cells = [Cell::EMPTY; CELLS];
         self.links.clear();
-        self.plan = Plan::over(disks);
+        self.plan = Plan::over(labels);
     }
 
-    /// The cell of a disk.
+    /// The cell of a label.
     #[inline]
-    pub fn cell_of(&self, disk: Disk) -> usize {
-        self.plan.cell_of(disk)
+    pub fn cell_of(&self, label: Label) -> usize {
+        self.plan.cell_of(label)
     }
 
     /// The next row becomes the last of a cell.
     #[inline]
-    pub fn add(&mut self, cell: usize, disk: Disk) {
-        let (x, y, radius) = disk;
+    pub fn add(&mut self, cell: usize, Label { x, y, radius }: Label) {
         let cell = &mut self.cells[cell];
         self.links.push(cell.last);
         cell.last = self.links.len() as u16;
@@ -159,12 +155,12 @@ impl Grid {
         std::iter::successors(row(self.cells[cell].last), before)
     }
 
-    /// Whether a cell has rows, and may have one that touches a disk no later than at a
+    /// Whether a cell has rows, and may have one that touches a label no later than at a
     /// value.
     #[inline]
-    pub fn may_hold(&self, cell: usize, disk: Disk, best: Value) -> bool {
+    pub fn may_hold(&self, cell: usize, label: Label, best: Value) -> bool {
         let cell = &self.cells[cell];
-        cell.last > 0 && !cell.bound(disk).later_than(best)
+        cell.last > 0 && !cell.bound(label).later_than(best)
     }
 
     /// The cells, those of the large marks first.

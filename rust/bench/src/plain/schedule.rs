@@ -1,16 +1,23 @@
 //! Scheduling by the rank-order algorithm, with and without cells, and by sorting all
 //! pairs.
 
-use super::grid::Grid;
-use super::index::{build, Ordered};
-use super::marks::{axis_key, disk, place, rank, touching, Disk, Mark, NEVER};
-use super::sheet::open;
-use super::{ask, Refusal, Value};
+use oracle::contents::{contents_bytes, write_contents};
+use oracle::label::Label;
+use oracle::mark::{Mark, RankKey, MARK_BYTES};
+use oracle::record::{Record, RECORD_BYTES};
+use oracle::sheet::{part_lengths, scheduled_bytes};
+use oracle::tree::{write_number, Axis, INDEX_BYTES};
+use oracle::{ask, Refusal};
 
-/// A mark in rank order: place and used radius, removal value, and who removes it.
+use super::grid::Grid;
+use super::index::{build, keys, Ordered};
+use super::sheet::open;
+use super::value::Value;
+
+/// A mark in rank order: its label, removal value, and who removes it.
 #[derive(Clone, Copy)]
 struct Row {
-    disk: Disk,
+    label: Label,
     eliminator: u32,
     value: Value,
 }
@@ -22,6 +29,17 @@ struct Pair {
     denominator: u32,
     higher: u16,
     lower: u16,
+}
+
+impl Pair {
+    /// The touching value.
+    #[inline]
+    fn value(&self) -> Value {
+        Value {
+            numerator: self.numerator,
+            denominator: self.denominator.into(),
+        }
+    }
 }
 
 /// The best row found so far for another, and its touching value.
@@ -40,8 +58,8 @@ impl Candidate {
     /// This one, or a row that touches sooner, or at the same value and ranks higher, if
     /// it is removed later than that.
     #[inline]
-    fn or(self, rows: &[Row], q: usize, disk: Disk) -> Self {
-        let value = touching(disk, rows[q].disk);
+    fn or(self, rows: &[Row], q: usize, label: Label) -> Self {
+        let value = Value::from(label.touching_value(rows[q].label));
         let sooner = self.value.later_than(value);
         let level = !sooner && !value.later_than(self.value);
         if (sooner || level && q < self.row) && rows[q].value.later_than(value) {
@@ -59,7 +77,7 @@ const FEW: usize = 192;
 /// The arrays that scheduling borrows, kept from run to run.
 #[derive(Default)]
 pub struct Desk {
-    order: Vec<u32>,
+    order: Vec<RankKey>,
     rows: Vec<Row>,
     grid: Grid,
     pairs: Vec<Pair>,
@@ -92,27 +110,32 @@ impl Desk {
     ) -> Result<usize, Refusal> {
         let marks = open(sheet)?.marks;
         let n = marks.len();
-        ask(13, out.len() >= 32 + 27 * n)?;
+        ask(13, out.len() >= scheduled_bytes(n))?;
         self.lay_out(marks);
         core(self);
-        write_contents(out, n);
-        out[32..32 + 11 * n].copy_from_slice(marks.as_flattened());
-        self.write_records(marks, &mut out[32 + 11 * n..]);
-        self.write_index(&mut out[32 + 25 * n..]);
-        Ok(32 + 27 * n)
+        let lengths = part_lengths(n);
+        write_contents(&lengths, out);
+        let bodies = &mut out[contents_bytes(lengths.len())..];
+        let (part_1, bodies) = bodies.split_at_mut(lengths[0]);
+        let (part_2, part_3) = bodies.split_at_mut(lengths[1]);
+        part_1.copy_from_slice(marks.as_flattened());
+        self.write_records(marks, part_2.as_chunks_mut().0);
+        self.write_index(part_3.as_chunks_mut().0);
+        Ok(scheduled_bytes(n))
     }
 
     /// Sorts the marks by rank and lays out their rows.
-    fn lay_out(&mut self, marks: &[Mark]) {
+    fn lay_out(&mut self, marks: &[[u8; MARK_BYTES]]) {
+        let rank = |(m, mark)| RankKey::of(&Mark::read(mark), m);
         self.order.clear();
-        self.order.extend((0..marks.len()).map(|m| rank(marks, m)));
+        self.order.extend(marks.iter().enumerate().map(rank));
         self.order.sort_unstable();
-        self.rows.clear();
-        let row = |&key: &u32| Row {
-            disk: disk(&marks[key as usize & 0xffff]),
+        let row = |rank: &RankKey| Row {
+            label: Mark::read(&marks[rank.number()]).label(),
             eliminator: 0,
             value: Value::NEVER,
         };
+        self.rows.clear();
         self.rows.extend(self.order.iter().map(row));
     }
 
@@ -124,7 +147,7 @@ impl Desk {
             let row = &mut rest[0];
             let mut best = Value::NEVER;
             for (q, other) in earlier.iter().enumerate() {
-                let value = touching(row.disk, other.disk);
+                let value = Value::from(row.label.touching_value(other.label));
                 if best.later_than(value) && other.value.later_than(value) {
                     best = value;
                     row.eliminator = q as u32;
@@ -139,12 +162,12 @@ impl Desk {
         if self.rows.len() < MANY {
             return self.settle();
         }
-        self.grid.lay_over(self.rows.iter().map(|row| row.disk));
+        self.grid.lay_over(self.rows.iter().map(|row| row.label));
         for p in 0..self.rows.len() {
-            let disk = self.rows[p].disk;
-            let cell = self.grid.cell_of(disk);
-            let best = self.search(p, disk, cell);
-            self.grid.add(cell, disk);
+            let label = self.rows[p].label;
+            let cell = self.grid.cell_of(label);
+            let best = self.search(p, label, cell);
+            self.grid.add(cell, label);
             self.rows[p].value = best.value;
             self.rows[p].eliminator = best.row as u32;
         }
@@ -152,18 +175,18 @@ impl Desk {
 
     /// The best of all rows above p, whose own cell is searched first, so that the others
     /// are soon too far.
-    fn search(&self, p: usize, disk: Disk, own: usize) -> Candidate {
+    fn search(&self, p: usize, label: Label, own: usize) -> Candidate {
         let (grid, rows) = (&self.grid, self.rows.as_slice());
         if p < FEW || p < 2 * grid.count(own) {
-            return (0..p).fold(Candidate::NONE, |best, q| best.or(rows, q, disk));
+            return (0..p).fold(Candidate::NONE, |best, q| best.or(rows, q, label));
         }
         let scan = |best, cell| {
             grid.rows(cell)
-                .fold(best, |best: Candidate, q| best.or(rows, q, disk))
+                .fold(best, |best: Candidate, q| best.or(rows, q, label))
         };
         let others = Grid::cells().filter(|&cell| cell != own);
         others.fold(scan(Candidate::NONE, own), |best, cell| {
-            if grid.may_hold(cell, disk, best.value) {
+            if grid.may_hold(cell, label, best.value) {
                 scan(best, cell)
             } else {
                 best
@@ -177,82 +200,53 @@ impl Desk {
         self.pairs.clear();
         for (lower, row) in self.rows.iter().enumerate() {
             self.pairs.extend((0..lower).map(|higher| {
-                let value = touching(row.disk, self.rows[higher].disk);
+                let value = row.label.touching_value(self.rows[higher].label);
                 Pair {
                     numerator: value.numerator,
-                    denominator: value.denominator as u32,
+                    denominator: value.denominator,
                     higher: higher as u16,
                     lower: lower as u16,
                 }
             }));
         }
         self.pairs.sort_unstable_by(|a, b| {
-            let left = a.numerator * u64::from(b.denominator);
-            let right = b.numerator * u64::from(a.denominator);
-            left.cmp(&right)
-                .then((a.higher, a.lower).cmp(&(b.higher, b.lower)))
+            let by_value = a.value().compare(b.value());
+            by_value.then((a.higher, a.lower).cmp(&(b.higher, b.lower)))
         });
         for pair in &self.pairs {
             let (higher, lower) = (usize::from(pair.higher), usize::from(pair.lower));
             let lives = |row: usize| self.rows[row].value == Value::NEVER;
             if lives(higher) && lives(lower) {
                 self.rows[lower].eliminator = higher as u32;
-                self.rows[lower].value = Value {
-                    numerator: pair.numerator,
-                    denominator: pair.denominator.into(),
-                };
+                self.rows[lower].value = pair.value();
             }
         }
     }
 
     /// Writes part 2, and keeps what the index is made of.
-    fn write_records(&mut self, marks: &[Mark], out: &mut [u8]) {
-        let keys = |(m, mark): (usize, &Mark)| {
-            let (x, y) = place(mark);
-            Ordered {
-                keys: [axis_key(x, m), axis_key(y, m)],
-                value: Value::NEVER,
-            }
+    fn write_records(&mut self, marks: &[[u8; MARK_BYTES]], out: &mut [[u8; RECORD_BYTES]]) {
+        let ordered = |(m, mark)| Ordered {
+            keys: keys(&Mark::read(mark), m),
+            value: Value::NEVER,
         };
         self.ordered.clear();
-        self.ordered.extend(marks.iter().enumerate().map(keys));
-        let (records, _) = out.as_chunks_mut::<14>();
-        for (&key, row) in self.order.iter().zip(&self.rows) {
-            let m = key as usize & 0xffff;
+        self.ordered.extend(marks.iter().enumerate().map(ordered));
+        for (rank, row) in self.order.iter().zip(&self.rows) {
+            let m = rank.number();
             self.ordered[m].value = row.value;
-            let record = &mut records[m];
-            *record = NEVER;
-            if row.value != Value::NEVER {
-                let by = self.order[row.eliminator as usize] as u16;
-                record[..2].copy_from_slice(&by.to_le_bytes());
-                record[2..10].copy_from_slice(&row.value.numerator.to_le_bytes());
-                record[10..].copy_from_slice(&(row.value.denominator as u32).to_le_bytes());
-            }
+            let eliminator = || self.order[row.eliminator as usize].number();
+            let removed = |value| Record::removed(eliminator(), value);
+            out[m] = row.value.fraction().map_or(Record::NEVER, removed).write();
         }
     }
 
     /// Writes part 3.
-    fn write_index(&mut self, out: &mut [u8]) {
+    fn write_index(&mut self, out: &mut [[u8; INDEX_BYTES]]) {
         self.numbers.clear();
         self.numbers.extend(0..self.ordered.len() as u16);
-        build(&self.ordered, &mut self.numbers, 0);
-        let (places, _) = out.as_chunks_mut::<2>();
-        for (place, number) in places.iter_mut().zip(&self.numbers) {
-            *place = number.to_le_bytes();
+        build(&self.ordered, &mut self.numbers, Axis::TOP);
+        for (place, number) in out.iter_mut().zip(&self.numbers) {
+            *place = write_number(number);
         }
-    }
-}
-
-/// Writes the contents of a scheduled sheet of n marks.
-fn write_contents(out: &mut [u8], n: usize) {
-    out[..2].copy_from_slice(&3_u16.to_le_bytes());
-    let mut offset = 32;
-    for (code, bytes) in [(1, 11), (2, 14), (3, 2)] {
-        let length = (bytes * n) as u32;
-        let entry = &mut out[10 * code - 8..10 * code + 2];
-        entry[..2].copy_from_slice(&(code as u16).to_le_bytes());
-        entry[2..6].copy_from_slice(&u32::to_le_bytes(offset));
-        entry[6..].copy_from_slice(&length.to_le_bytes());
-        offset += length;
     }
 }

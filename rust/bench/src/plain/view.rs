@@ -1,165 +1,115 @@
 //! Views by a search down the tree, and walking a map.
 
-use super::index::Indexed;
-use super::marks::{place, used_radius, value, Record};
-use super::sheet::open;
-use super::{ask, Refusal, Value};
+use oracle::tree::{branches, Axis};
+use oracle::view::{ask_view, lives, map_bytes, reaches, set_bit, Edges, Zoom};
+use oracle::{ask, Refusal};
 
-/// A rectangle and the zoom in 64ths.
-#[derive(Clone, Copy)]
-pub struct View {
-    pub low: [i16; 2],
-    pub high: [i16; 2],
-    pub k: u32,
-}
+use super::index::{number, Block, Indexed};
+use super::sheet::open;
 
 /// Answers a view: writes its map and answers the count. Asks 1 to 13.
-pub fn view(sheet: &[u8], view: View, map: &mut [u8]) -> Result<u32, Refusal> {
-    let search = search(sheet, view)?;
-    let n = search.indexed.marks.len();
-    let bytes = n.div_ceil(8);
+pub fn view(sheet: &[u8], edges: Edges, zoom: Zoom, map: &mut [u8]) -> Result<u32, Refusal> {
+    let search = search(sheet, edges, zoom)?;
+    let bytes = map_bytes(search.indexed.index.len());
     ask(13, map.len() >= bytes)?;
     map[..bytes].fill(0);
-    Ok(search.block(0, n, 0, map))
+    Ok(search.block(search.indexed.index, Axis::TOP, map))
 }
 
 /// How many marks a view looks at. Asks 1 to 12.
-pub fn visited(sheet: &[u8], view: View) -> Result<usize, Refusal> {
-    let search = search(sheet, view)?;
-    Ok(search.visited(0, search.indexed.marks.len(), 0))
+pub fn visited(sheet: &[u8], edges: Edges, zoom: Zoom) -> Result<usize, Refusal> {
+    let search = search(sheet, edges, zoom)?;
+    Ok(search.visited(search.indexed.index, Axis::TOP))
 }
 
 /// The search of a view. Asks 1 to 12.
-fn search(sheet: &[u8], view: View) -> Result<Search<'_>, Refusal> {
-    let opened = open(sheet)?;
-    let (Some(records), Some(index)) = (opened.records, opened.index) else {
-        return Err(10);
-    };
-    ask(
-        11,
-        view.low[0] <= view.high[0] && view.low[1] <= view.high[1],
-    )?;
-    ask(12, (1..=65_536).contains(&view.k))?;
-    let indexed = Indexed {
-        marks: opened.marks,
-        records,
-        index,
-    };
-    Ok(Search::new(indexed, view))
+fn search(sheet: &[u8], edges: Edges, zoom: Zoom) -> Result<Search<'_>, Refusal> {
+    let indexed = Indexed::of(&open(sheet)?).ok_or(10_u32)?;
+    let k = ask_view(edges, zoom)?;
+    Ok(Search::new(indexed, edges, k))
 }
 
 /// A search down the tree. The rectangle decides who is shown, and the widened one, from
 /// `low` to `high` on each axis, which halves are searched.
 struct Search<'a> {
     indexed: Indexed<'a>,
-    view: View,
+    edges: Edges,
+    k: u32,
     low: [i32; 2],
     high: [i32; 2],
 }
 
 impl<'a> Search<'a> {
     /// The search with the rectangle widened by the widest disk that lives.
-    fn new(indexed: Indexed<'a>, view: View) -> Self {
-        let widest = widest_living(&indexed, view.k);
-        let by = (u64::from(view.k) * u64::from(widest) / 64) as i32;
+    fn new(indexed: Indexed<'a>, edges: Edges, k: u32) -> Self {
+        let by = (u64::from(k) * u64::from(widest_living(&indexed, k)) / 64) as i32;
         Self {
             indexed,
-            view,
-            low: view.low.map(|edge| i32::from(edge) - by),
-            high: view.high.map(|edge| i32::from(edge) + by),
+            edges,
+            k,
+            low: [edges.x0, edges.y0].map(|edge| i32::from(edge) - by),
+            high: [edges.x1, edges.y1].map(|edge| i32::from(edge) + by),
         }
     }
 
     /// Sets the bits of a block's shown marks, and answers how many they are.
-    fn block(&self, from: usize, size: usize, axis: usize, map: &mut [u8]) -> u32 {
-        if size == 0 {
+    fn block(&self, block: &Block, axis: Axis, map: &mut [u8]) -> u32 {
+        let Some((root, left, right)) = branches(block) else {
+            return 0;
+        };
+        let root = number(root);
+        if !lives(self.indexed.removal(root), self.k) {
             return 0;
         }
-        let root = self.indexed.number(from);
-        if !lives(&self.indexed.records[root], self.view.k) {
-            return 0;
-        }
-        let reached = self.reaches(root);
-        map[root / 8] |= u8::from(reached) << (root % 8);
+        let reached = reaches(&self.indexed.mark(root), self.edges, self.k);
+        set_bit(map, root, reached);
         let mut count = u32::from(reached);
-        for (from, size) in self.halves(from, size, axis) {
-            count += self.block(from, size, 1 - axis, map);
+        for half in self.halves(left, right, axis) {
+            count += self.block(half, axis.next(), map);
         }
         count
     }
 
     /// How many marks of a block are looked at.
-    fn visited(&self, from: usize, size: usize, axis: usize) -> usize {
-        if size == 0 {
+    fn visited(&self, block: &Block, axis: Axis) -> usize {
+        let Some((root, left, right)) = branches(block) else {
             return 0;
-        }
-        if !lives(
-            &self.indexed.records[self.indexed.number(from)],
-            self.view.k,
-        ) {
+        };
+        if !lives(self.indexed.removal(number(root)), self.k) {
             return 1;
         }
-        let halves = self.halves(from, size, axis).into_iter();
+        let halves = self.halves(left, right, axis).into_iter();
         1 + halves
-            .map(|(from, size)| self.visited(from, size, 1 - axis))
+            .map(|half| self.visited(half, axis.next()))
             .sum::<usize>()
     }
 
-    /// The two halves below a block's root, with no marks where they lie beyond the
-    /// widened rectangle.
-    fn halves(&self, from: usize, size: usize, axis: usize) -> [(usize, usize); 2] {
-        let (left_size, right_size) = (size / 2, size - 1 - size / 2);
-        let (left, right) = (from + 1, from + 1 + left_size);
-        let search_left = right_size == 0 || self.head(right, axis) >= self.low[axis];
-        let search_right = right_size > 0 && self.head(left, axis) <= self.high[axis];
+    /// The two halves below a root, with no marks where they lie beyond the widened
+    /// rectangle.
+    fn halves<'b>(&self, left: &'b Block, right: &'b Block, axis: Axis) -> [&'b Block; 2] {
+        let search_left = right.is_empty() || self.head(right, axis) >= self.low[axis as usize];
+        let search_right = !right.is_empty() && self.head(left, axis) <= self.high[axis as usize];
         [
-            (left, if search_left { left_size } else { 0 }),
-            (right, if search_right { right_size } else { 0 }),
+            if search_left { left } else { &[] },
+            if search_right { right } else { &[] },
         ]
     }
 
-    /// Whether a mark's disk reaches the rectangle.
-    fn reaches(&self, mark: usize) -> bool {
-        let mark = &self.indexed.marks[mark];
-        let (x, y) = place(mark);
-        let squared = self.gap_squared(x, 0) + self.gap_squared(y, 1);
-        let reach = u64::from(self.view.k) * u64::from(used_radius(mark));
-        4_096 * squared <= reach * reach
-    }
-
-    /// The squared distance on an axis from a place to the rectangle.
-    fn gap_squared(&self, place: i16, axis: usize) -> u64 {
-        let nearest = place.clamp(self.view.low[axis], self.view.high[axis]);
-        let gap = u64::from(place.abs_diff(nearest));
-        gap * gap
-    }
-
     /// The coordinate of the head of a block.
-    fn head(&self, from: usize, axis: usize) -> i32 {
-        let place: [i16; 2] = place(&self.indexed.marks[self.indexed.number(from)]).into();
-        place[axis].into()
+    fn head(&self, block: &Block, axis: Axis) -> i32 {
+        axis.of(&self.indexed.mark(number(&block[0]))).into()
     }
 }
 
 /// The greatest used radius of the marks that live.
-fn widest_living(indexed: &Indexed, k: u32) -> u16 {
-    let marks = indexed.marks.iter().zip(indexed.records);
-    marks.fold(0, |widest, (mark, record)| {
-        let radius = used_radius(mark);
-        if radius > widest && lives(record, k) {
+fn widest_living(indexed: &Indexed, k: u32) -> u32 {
+    (0..indexed.index.len()).fold(0, |widest, m| {
+        let radius = indexed.mark(m).label().radius;
+        if radius > widest && lives(indexed.removal(m), k) {
             radius
         } else {
             widest
         }
-    })
-}
-
-/// Whether a mark with this record is removed later than k²/4096.
-fn lives(record: &Record, k: u32) -> bool {
-    let k = u64::from(k);
-    value(record).later_than(Value {
-        numerator: k * k,
-        denominator: 4_096,
     })
 }
 
