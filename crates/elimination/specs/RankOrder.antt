@@ -1,6 +1,7 @@
 -- Visiting the marks in rank order: what a scan of the marks visited so far has found for the next one. The vocabulary of scheduling's loops.
 use Prim.Native.Nat.{ℕ, _<_}
 use mathlib.Core.Path.{_≡_}
+use Rattle.lists.specs.Sorting.{Ranks}
 use Rattle.fractions.specs.declared.Fraction.{Fraction}
 use Rattle.fractions.specs.Order.{Less, AtMost, Later}
 use Rattle.elimination.specs.Marks.{Marks}
@@ -10,10 +11,8 @@ module _ (M : Marks) where
   open Marks M using (count as n, key, value)
 
   -- `order` has the marks by rank
-  pub record Ranking (order : ℕ → ℕ) : Type 0 where
-    pub inside : (q : ℕ) → q < n → order q < n
-    pub rising : (q p : ℕ) → q < p → p < n → key (order q) < key (order p)
-    pub onto : (m : ℕ) → m < n → (q : ℕ) × (q < n) × (order q ≡ m)
+  abbrev pub Ranking : (ℕ → ℕ) → Type 0
+  Ranking order = Ranks n key order
 
   module _ (order : ℕ → ℕ) (s : ℕ → Removal) (m : ℕ) where
     -- the mark visited at `q` is removed later than its value with `m`

@@ -1,21 +1,17 @@
 -- A tree in its places: place `lo` holds the root of a block, and the places after it the two halves of the others, one behind the
 -- other. `e i` is what stands at place i.
-use Prim.Native.Nat.{ℕ, zero, suc, _+_, _-_, _*_, _/_}
+use Prim.Native.Nat.{ℕ, _+_, _-_, _*_, _/_}
 use mathlib.Core.Path.{_≡_}
 use mathlib.Core.Bool.{Bool, true, not}
-use mathlib.Core.List.{List, [], _∷_, _++_}
+use mathlib.Core.List.{List, _∷_, _++_}
+use Rattle.lists.specs.Counting.{count, non}
+use Rattle.lists.specs.Blocks.{block}
 use Rattle.numbers.specs.Little.{leAt}
-use Rattle.index.specs.Count.{count, non}
 use Rattle.index.specs.Valid.{isTree, Split}
 
 -- "2 bytes a mark": number i of the index `t`
 abbrev pub entryAt : List ℕ → ℕ → ℕ
 entryAt t i = leAt 2 t (2 * i)
-
--- what stands at the `size` places from `lo` on
-abbrev pub block : (ℕ → ℕ) → ℕ → ℕ → List ℕ
-block e lo zero = []
-block e lo (suc size) = e lo ∷ block e (suc lo) size
 
 -- the halves of all but the root, the larger first
 abbrev pub leftOf : (ℕ → ℕ) → ℕ → ℕ → List ℕ

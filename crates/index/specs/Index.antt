@@ -3,11 +3,12 @@ use Prim.Native.Nat.{ℕ, _+_, _*_}
 use mathlib.Core.Bool.{Bool, true, false, cond, _&&_, _||_}
 use mathlib.Core.List.{List, [], _∷_, _++_}
 use lib.Dec.{ltb, eqb}
+use Rattle.lists.specs.Blocks.{upTo}
 use Rattle.numbers.specs.Little.{leBytes}
 use Rattle.fractions.specs.Order.{later, level}
 use Rattle.marks.specs.Marks.{xAt, yAt, shifted}
 use Rattle.elimination.specs.Records.{valueAt}
-use Rattle.index.specs.Tree.{upTo, treeOf}
+use Rattle.index.specs.Tree.{treeOf}
 
 -- "The root is the mark removed last ('never' beats all; equal values, lower number)."
 unfoldable pub beats : List ℕ → ℕ → ℕ → Bool

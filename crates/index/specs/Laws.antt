@@ -9,18 +9,18 @@ use lib.ListN.{length}
 use lib.Dec.{eqb, leb}
 use lib.IntN.{ℤ}
 use lib.Signed.{mag, leZ}
+use Rattle.lists.specs.Counting.{count, _≈_, times, non, below}
+use Rattle.lists.specs.Blocks.{upTo, block}
+use Rattle.lists.specs.BlockLaws.{upTo-times}
 use Rattle.fractions.specs.declared.Fraction.{Fraction}
 use Rattle.fractions.specs.declared.Value.the-variants.{At}
 use Rattle.fractions.specs.Order.{later}
 use Rattle.elimination.specs.Records.{valueAt}
-use Rattle.index.specs.Count.{count, _≈_, times, non, below}
-use Rattle.index.specs.Tree.{upTo}
 use Rattle.marks.specs.Marks.{shifted}
 use Rattle.index.specs.Index.{beats, coordinate, axisKey, indexOf, indexBytes, isIndex}
 use Rattle.index.specs.Valid.{isTree, Split}
-use Rattle.index.specs.Blocks.{entryAt, block, Halves}
+use Rattle.index.specs.Blocks.{entryAt, Halves}
 use Rattle.index.specs.Check.{AllBelow}
-use Rattle.index.specs.Lemmas.Numbers.{upTo-times}
 use Rattle.index.specs.Lemmas.Beats as Beats
 use Rattle.index.specs.Lemmas.Keys as Keys
 use Rattle.index.specs.Lemmas.Bytes as Bytes

@@ -1,7 +1,5 @@
 -- The lemmas behind Laws, in the order in which they build on one another.
-pub mod Count
-pub mod Numbers
-pub mod Sorting
+pub mod Apart
 pub mod Trees
 pub mod Unique
 pub mod TreeOf

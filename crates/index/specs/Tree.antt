@@ -5,12 +5,8 @@ use Prim.Native.Nat.{ℕ, zero, suc, _/_}
 use mathlib.Core.Bool.{Bool, not, cond}
 use mathlib.Core.List.{List, [], _∷_, _++_}
 use lib.ListN.{length, take, drop}
-use lib.Dec.{eqb, ltb}
-
--- the numbers below n
-abbrev pub upTo : ℕ → List ℕ
-upTo zero = []
-upTo (suc n) = upTo n ++ (n ∷ [])
+use Rattle.lists.specs.Counting.{without}
+use Rattle.lists.specs.Sorting.{sort}
 
 -- ---- "The first half, the larger when uneven, is the left subtree."
 
@@ -23,22 +19,7 @@ first l = take (half (length l)) l
 abbrev pub second : List ℕ → List ℕ
 second l = drop (half (length l)) l
 
--- ---- sorting by a key, one insertion after the other
-
-abbrev pub insert : (ℕ → ℕ) → ℕ → List ℕ → List ℕ
-insert k x [] = x ∷ []
-insert k x (y ∷ l) = cond (ltb (k x) (k y)) (x ∷ y ∷ l) (y ∷ insert k x l)
-
-abbrev pub sort : (ℕ → ℕ) → List ℕ → List ℕ
-sort k [] = []
-sort k (x ∷ l) = insert k x (sort k l)
-
 -- ---- "The root is the mark removed last. The others are ordered .."
-
--- l without the number b
-abbrev pub without : ℕ → List ℕ → List ℕ
-without b [] = []
-without b (x ∷ l) = cond (eqb b x) (without b l) (x ∷ without b l)
 
 module _ (beats : ℕ → ℕ → Bool) where
   -- who of x and all of l is beaten by none

@@ -6,8 +6,8 @@ use mathlib.Core.Bool.{Bool, true, false, not, _&&_}
 use mathlib.Core.List.{List, [], _∷_}
 use lib.ListN.{length}
 use lib.Dec.{leb}
+use Rattle.lists.specs.Counting.{count, non, under}
 use Rattle.index.specs.Tree.{first, second}
-use Rattle.index.specs.Count.{count, non, under}
 
 -- A strict order in which one of any two different numbers beats the other.
 pub record Order (beats : ℕ → ℕ → Bool) : Type 0 where

@@ -4,9 +4,10 @@ ghost use mathlib.Core.Bool.{true};
 ghost use mathlib.Core.Logic.{_↔_};
 ghost use Prim.Native.Nat.{_+_, _*_, _<_, _≤_, min, max};
 ghost use lib.ListN.{length};
+ghost use Rattle.lists.specs.Blocks.{block};
 ghost use Rattle.index.specs.Index.{beats, coordinate, axisKey, isIndex};
 ghost use Rattle.index.specs.Valid.{heads};
-ghost use Rattle.index.specs.Blocks.{entryAt, block};
+ghost use Rattle.index.specs.Blocks.{entryAt};
 ghost use Rattle.index.specs.Check.{keyBound, findingOf, joinSpans, side, joinFindings, HeadReady, Ready, Whole, AllBelow};
 
 // ---- who is removed later

@@ -1,5 +1,4 @@
 -- The lemmas behind the code, in the order in which they build on one another.
-pub mod Blocks
 pub mod Frame
 pub mod Numbers
 pub mod Reorder

@@ -3,3 +3,9 @@ pub mod Tests
 pub mod TestLaws
 pub mod Stores
 pub mod StoreLaws
+pub mod Counting
+pub mod CountLaws
+pub mod Blocks
+pub mod BlockLaws
+pub mod Sorting
+pub mod SortLaws

@@ -8,11 +8,12 @@ use lib.ListN.{length}
 use lib.Seq.{sets}
 use Rattle.lists.specs.Stores.{Kept}
 use Rattle.lists.specs.StoreLaws.{kept-sets}
+use Rattle.lists.specs.Sorting.{Ranks}
 use Rattle.numbers.specs.Little.{signed, Bytes}
 use Rattle.numbers.specs.Laws.{number-kept}
+use Rattle.sorting.specs.Laws.{sorted-ranks}
 use Rattle.marks.specs.Marks.{usedAt, touching, rankKey}
 use Rattle.sorting.specs.Keys.{keyAt, KeyPut, KeysSorted}
-use Rattle.sorting.specs.After.{Ranks, sorted-ranks}
 use Rattle.elimination.specs.Reel.{marksOf}
 use Rattle.elimination.specs.Sheet.{sheet-proper}
 use Rattle.searching.specs.Rows.{rowNumber, rowRadius}

@@ -7,13 +7,14 @@ use mathlib.Core.Logic.{_≢_}
 use lib.ListN.{length, getD}
 use lib.Dec.{ltb, leb, eqb}
 use lib.IntN.{ℤ}
+use Rattle.lists.specs.Counting.{count, both}
+use Rattle.lists.specs.Blocks.{block}
 use Rattle.marks.specs.Marks.{shifted, usedAt}
 use Rattle.elimination.specs.Records.{valueAt}
 use Rattle.zoom.specs.Living.{livesAt}
-use Rattle.index.specs.Count.{count, both}
 use Rattle.index.specs.Index.{beats, coordinate, axisKey}
 use Rattle.index.specs.Valid.{isTree}
-use Rattle.index.specs.Blocks.{entryAt, block}
+use Rattle.index.specs.Blocks.{entryAt}
 use Rattle.index.specs.Check.{Whole, AllBelow}
 use Rattle.bitmap.specs.Map.{mapSize, bitAt}
 use Rattle.view.specs.declared.Rectangle.{Rectangle}

@@ -10,12 +10,13 @@ use lib.Seq.{take-all, take-add, drop-drop}
 use lib.Dec.{eqb, ltb}
 use borrow.Author.Tests.{eqb-true, eq-eqb, ltb-true}
 use Rattle.lists.specs.TestLaws.{and-left, and-right, and-both, bit-not-zero}
+use Rattle.lists.specs.Counting.{count, non, below}
+use Rattle.lists.specs.Blocks.{block}
+use Rattle.lists.specs.BlockLaws.{block-is}
 use Rattle.numbers.specs.Little.{leBytes, Bytes}
 use Rattle.numbers.specs.Laws.{le-length, le-after, read-back, write-back}
-use Rattle.index.specs.Count.{count, non, below}
 use Rattle.index.specs.Index.{indexBytes, sameBytes}
-use Rattle.index.specs.Blocks.{entryAt, block}
-use Rattle.index.specs.Lemmas.Blocks.{block-is}
+use Rattle.index.specs.Blocks.{entryAt}
 
 pub same-true : (s t : List ℕ) → sameBytes s t ≡ true → s ≡ t
 unfolding sameBytes

@@ -9,21 +9,23 @@ use lib.ListN.{length, take-append-drop}
 use lib.Dec.{leb, ltb}
 use borrow.Author.Tests.{le-leb, lt-ltb, ltb-true}
 use Rattle.lists.specs.TestLaws.{bit-not-zero}
+use Rattle.lists.specs.Counting.{count, non, below, under}
+use Rattle.lists.specs.Blocks.{block}
+use Rattle.lists.specs.CountLaws.{count-le, count-not}
+use Rattle.lists.specs.BlockLaws.{block-all}
 use Rattle.numbers.specs.Little.{Bytes}
 use Rattle.numbers.specs.Laws.{le-bound}
-use Rattle.index.specs.Count.{count, non, below, under}
 use Rattle.index.specs.Tree.{half, first, second}
 use Rattle.index.specs.Index.{beats, axisKey}
 use Rattle.index.specs.Valid.{top, low, apart, heads, isTree}
-use Rattle.index.specs.Blocks.{entryAt, block, leftOf, rightOf}
+use Rattle.index.specs.Blocks.{entryAt, leftOf, rightOf}
 use Rattle.index.specs.Check.{keyBound, spanOf, findingOf, joinSpans, side, joinFindings, Ready}
 use Rattle.index.specs.declared.Span.{Span}
 use Rattle.index.specs.declared.Finding.{Finding}
-use Rattle.index.specs.Lemmas.Count.{count-le, count-not}
-use Rattle.index.specs.Lemmas.Sorting.{under-top}
 use Rattle.index.specs.Lemmas.Trees.{count-halves, tree-step}
-use Rattle.index.specs.Lemmas.Blocks.{othersOf, block-root, block-left, block-right, block-all}
+use Rattle.index.specs.Lemmas.Blocks.{othersOf, block-root, block-left, block-right}
 use Rattle.index.specs.Lemmas.Keys.{key-small}
+use Rattle.index.specs.Lemmas.Apart.{under-top}
 
 -- ---- by a key
 
@@ -124,7 +126,7 @@ module _ (s p t : List ℕ) (bytes : Bytes t) (axis : Bool) (lo size : ℕ) (som
   e = entryAt t
 
   others-small : count (non (below 65536)) (othersOf e lo size) ≡ 0
-  others-small = block-all e (below 65536) (lo + 1) (size - 1) (λ i a b. lt-ltb (e i) 65536 (le-bound 2 t (2 * i) bytes))
+  others-small = block-all (below 65536) e (lo + 1) (size - 1) (λ i a b. lt-ltb (e i) 65536 (le-bound 2 t (2 * i) bytes))
 
   finding-block : findingOf s p axis (block e lo size)
       ≡ joinFindings axis (heads (beats p) (e lo) (leftOf e lo size) && heads (beats p) (e lo) (rightOf e lo size))

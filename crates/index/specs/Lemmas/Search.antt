@@ -9,12 +9,12 @@ use mathlib.Core.List.{List, _++_}
 use lib.Dec.{ltb}
 use borrow.Author.Tests.{ltb-true, ltb-false, lt-ltb, le-ltb}
 use Rattle.lists.specs.TestLaws.{by-cases, bit-zero, bit-false, bit-not-zero}
-use Rattle.index.specs.Count.{count, non, under}
+use Rattle.lists.specs.Counting.{count, non, under}
+use Rattle.lists.specs.Blocks.{block}
+use Rattle.lists.specs.CountLaws.{count-le, under-le, over-le}
 use Rattle.index.specs.Tree.{first, second}
 use Rattle.index.specs.Valid.{Order, isTree, Split}
-use Rattle.index.specs.Blocks.{block, leftOf, rightOf, Halves}
-use Rattle.index.specs.Lemmas.Count.{count-le}
-use Rattle.index.specs.Lemmas.Sorting.{under-le, over-le}
+use Rattle.index.specs.Blocks.{leftOf, rightOf, Halves}
 use Rattle.index.specs.Lemmas.Unique.{Node, tree-node}
 use Rattle.index.specs.Lemmas.Blocks.{othersOf, block-root, block-left, block-right, block-others, block-whole}
 

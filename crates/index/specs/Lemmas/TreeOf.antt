@@ -10,15 +10,17 @@ use lib.Seq.{take-at, drop-at}
 use lib.Dec.{eqb}
 use borrow.Author.Tests.{eqb-false, eq-eqb, ne-eqb, not-true}
 use Rattle.lists.specs.TestLaws.{by-cases, and-right, and-both, bit-false, bit-not-zero}
-use Rattle.index.specs.Count.{count, _≈_, times, non, both, below, under, keyed}
-use Rattle.index.specs.Tree.{upTo, half, first, second, sort, without, best, treeOf}
+use Rattle.lists.specs.Counting.{count, _≈_, times, non, both, below, under, keyed, without}
+use Rattle.lists.specs.Blocks.{upTo}
+use Rattle.lists.specs.Sorting.{sort}
+use Rattle.lists.specs.CountLaws.{count-append, count-le, times-le, times-self, alike-length, without-count, without-alike}
+use Rattle.lists.specs.BlockLaws.{all-numbers, block-length, block-once}
+use Rattle.lists.specs.SortLaws.{sort-alike, sort-rising}
+use Rattle.index.specs.Tree.{half, first, second, best, treeOf}
 use Rattle.index.specs.Valid.{Order, heads, valid, isTree, Split}
-use Rattle.index.specs.Lemmas.Count.{count-append, count-le}
-use Rattle.index.specs.Lemmas.Count.{times-le, times-self, alike-length, without-count, without-alike}
-use Rattle.index.specs.Lemmas.Numbers.{all-numbers, upTo-length, upTo-once}
-use Rattle.index.specs.Lemmas.Sorting.{sort-alike, sort-rising, rising-split}
 use Rattle.index.specs.Lemmas.Trees.{half-le, first-length, second-length, count-halves, tests-pass}
 use Rattle.index.specs.Lemmas.Unique.{tree-distinct, tree-unique}
+use Rattle.index.specs.Lemmas.Apart.{rising-split}
 
 -- y is another than b, and b does not beat it
 abbrev pub rival : (ℕ → ℕ → Bool) → ℕ → ℕ → Bool
@@ -153,8 +155,8 @@ module _ (beats : ℕ → ℕ → Bool) (key : Bool → ℕ → ℕ) (ord : Orde
 
     rest-split : Split (key axis) (first rest) (second rest)
     rest-split =
-        rising-split (key axis) (half (length rest)) rest
-        (sort-rising (key axis) others (λ v. omega (arith, d axis v, others-alike (keyed (key axis) v))))
+        rising-split (key axis) (half (length rest)) rest (sort-rising (key axis) others)
+        (λ v. omega (arith, d axis v, rest-alike (keyed (key axis) v)))
 
     -- the keys tell apart the members of a part of the others
     part-keyed : (m : List ℕ) → ((p : ℕ → Bool) → count p m ≤ count p rest) → Keyed key m
@@ -191,7 +193,8 @@ module _ (beats : ℕ → ℕ → Bool) (key : Bool → ℕ → ℕ) (ord : Orde
 
   module _ (n : ℕ) (differ : (axis : Bool) (a b : ℕ) → a < b → b < n → key axis a ≡ key axis b → ⊥) where
     pub tree-made : Made beats key n true (upTo n)
-    tree-made = made n true (upTo n) (omega (arith, upTo-length n)) (λ axis v. upTo-once (key axis) n (differ axis) v)
+    tree-made = made n true (upTo n) (omega (arith, block-length (λ i. i) 0 n))
+        (λ axis v. block-once (key axis) (λ i. i) 0 n (λ a b c d f. differ axis a b d (omega arith)) v)
 
     -- n numbers below n that are a tree are the tree of n marks
     pub tree-is : (e : List ℕ) → length e ≡ n → count (non (below n)) e ≡ 0 → isTree beats key true e ≡ true

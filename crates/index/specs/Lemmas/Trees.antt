@@ -6,11 +6,11 @@ use mathlib.Core.Bool.{Bool, true, false, not, _&&_, false≢true}
 use mathlib.Core.List.{List, [], _∷_}
 use lib.ListN.{length, length-take, length-drop}
 use Rattle.lists.specs.TestLaws.{and-both}
-use Rattle.index.specs.Count.{count}
+use Rattle.lists.specs.Counting.{count}
+use Rattle.lists.specs.CountLaws.{count-cut}
 use Rattle.index.specs.Tree.{half, first, second}
 use Rattle.index.specs.Valid.{apart, heads, valid, isTree, Split}
-use Rattle.index.specs.Lemmas.Count.{count-cut}
-use Rattle.index.specs.Lemmas.Sorting.{apart-split, split-apart}
+use Rattle.index.specs.Lemmas.Apart.{apart-split, split-apart}
 
 -- ---- the halves of a list
 

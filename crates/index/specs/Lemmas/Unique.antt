@@ -10,11 +10,10 @@ use lib.Dec.{eqb, leb}
 use borrow.Author.Tests.{leb-true, leb-false, eqb-true, eqb-false, ne-eqb}
 use Rattle.lists.specs.Tests.{bit}
 use Rattle.lists.specs.TestLaws.{by-cases, bit-true, bit-false, bit-not-true}
-use Rattle.index.specs.Count.{count, _≈_, times, Distinct, non, both, under}
+use Rattle.lists.specs.Counting.{count, _≈_, times, Distinct, non, both, under}
+use Rattle.lists.specs.CountLaws.{count-le, count-not, count-split, both-le, times-le, times-self, alike-length, under-le, over-le}
 use Rattle.index.specs.Tree.{half, first, second}
 use Rattle.index.specs.Valid.{Order, heads, isTree, Split}
-use Rattle.index.specs.Lemmas.Count.{count-le, count-not, count-split, both-le, times-le, times-self, alike-length}
-use Rattle.index.specs.Lemmas.Sorting.{under-le, over-le}
 use Rattle.index.specs.Lemmas.Trees.{first-length, count-halves, by-halves, tested}
 
 -- two cuts of alike lists, of the same length, each with a number between the keys: the first parts are alike

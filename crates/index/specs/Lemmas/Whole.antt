@@ -7,19 +7,18 @@ use mathlib.Core.List.{List}
 use lib.ListN.{length}
 use borrow.Author.Tests.{ltb-true, lt-ltb}
 use Rattle.lists.specs.TestLaws.{by-cases, same-test}
+use Rattle.lists.specs.Counting.{count, _≈_, non, below}
+use Rattle.lists.specs.Blocks.{upTo, block}
+use Rattle.lists.specs.CountLaws.{alike-length}
+use Rattle.lists.specs.BlockLaws.{block-length, upTo-below, block-all, all-block}
 use Rattle.numbers.specs.Little.{Bytes}
-use Rattle.index.specs.Count.{count, _≈_, non, below}
-use Rattle.index.specs.Tree.{upTo}
 use Rattle.index.specs.Index.{beats, axisKey, indexOf, indexBytes, isIndex}
 use Rattle.index.specs.Valid.{isTree}
-use Rattle.index.specs.Blocks.{entryAt, block}
+use Rattle.index.specs.Blocks.{entryAt}
 use Rattle.index.specs.Check.{findingOf, Ready, Whole, AllBelow}
 use Rattle.index.specs.declared.Finding.{Finding}
-use Rattle.index.specs.Lemmas.Count.{alike-length}
-use Rattle.index.specs.Lemmas.Numbers.{upTo-length, upTo-below}
 use Rattle.index.specs.Lemmas.TreeOf.{Made, tree-made, tree-is}
 use Rattle.index.specs.Lemmas.Beats.{beats-order}
-use Rattle.index.specs.Lemmas.Blocks.{block-length, block-all, all-block}
 use Rattle.index.specs.Lemmas.Keys.{keys-differ}
 use Rattle.index.specs.Lemmas.Bytes.{same-true, same-self, entries-back, bytes-back}
 
@@ -36,7 +35,7 @@ module _ (s p : List ℕ) (n : ℕ) (few : n ≤ 65536) where
   index-tree = made .tree
 
   pub index-size : length (indexOf s p n) ≡ n
-  index-size = alike-length (indexOf s p n) (upTo n) index-alike ∙ upTo-length n
+  index-size = alike-length (indexOf s p n) (upTo n) index-alike ∙ block-length (λ i. i) 0 n
 
   pub index-below : (b : ℕ) → n ≤ b → count (non (below b)) (indexOf s p n) ≡ 0
   index-below b h = index-alike (non (below b)) ∙ upTo-below n b h
@@ -55,7 +54,7 @@ module _ (s p : List ℕ) (n : ℕ) (few : n ≤ 65536) where
       ∙ entries-back (indexOf s p n) (index-below 65536 few))
 
   pub entries-below : (t : List ℕ) → isIndex s p t n ≡ true → AllBelow t n
-  entries-below t h i g = ltb-true (entryAt t i) n (all-block (entryAt t) (below n) 0 n none i (omega arith) (omega arith))
+  entries-below t h i g = ltb-true (entryAt t i) n (all-block (below n) (entryAt t) 0 n none i (omega arith) (omega arith))
     where
       none : count (non (below n)) (block (entryAt t) 0 n) ≡ 0
       none = rw (index-entries t h) (index-below n (omega arith))
@@ -85,7 +84,7 @@ module _ (s p t : List ℕ) (n : ℕ) (w : Whole s p t n) where
       l = block (entryAt t) 0 n
 
       small : count (non (below n)) l ≡ 0
-      small = block-all (entryAt t) (below n) 0 n (λ i a b. lt-ltb (entryAt t i) n (all i (omega arith)))
+      small = block-all (below n) (entryAt t) 0 n (λ i a b. lt-ltb (entryAt t i) n (all i (omega arith)))
 
       there : isTree (beats p) (axisKey s) true l ≡ true → isIndex s p t n ≡ true
       there e =

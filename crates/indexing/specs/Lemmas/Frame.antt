@@ -7,11 +7,11 @@ use lib.ListN.{take, drop, length-take, length-drop}
 use lib.Seq.{ext-getD, getD-take, getD-drop}
 use Rattle.lists.specs.Stores.{Clear, Kept}
 use Rattle.lists.specs.StoreLaws.{kept-none, kept-wide, kept-then}
+use Rattle.lists.specs.Blocks.{block}
+use Rattle.lists.specs.BlockLaws.{block-same}
 use Rattle.numbers.specs.Laws.{number-kept}
-use Rattle.index.specs.Blocks.{block}
 use Rattle.indexing.specs.Tail.{scheduleIn, memberAt}
 use Rattle.indexing.specs.Steps.{Elsewhere}
-use Rattle.indexing.specs.Lemmas.Blocks.{block-same}
 
 -- ---- before and behind a written range
 
@@ -47,4 +47,4 @@ module _ {n : ℕ} {t u : List ℕ} {lo size : ℕ} (e : Elsewhere n t u lo size
   member-stays i o = number-kept (e .kept) 2 (14 * n + 2 * i) (omega arith)
 
   pub block-stays : (at m : ℕ) → Clear at m lo (lo + size) → block (memberAt n u) at m ≡ block (memberAt n t) at m
-  block-stays at m o = block-same (memberAt n u) (memberAt n t) at m (λ i a b. member-stays i (omega arith))
+  block-stays at m o = block-same (memberAt n u) (memberAt n t) at at m (λ i g. member-stays (at + i) (omega arith))

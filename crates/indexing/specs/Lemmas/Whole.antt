@@ -9,16 +9,16 @@ use lib.Seq.{drop-drop, getD-take, getD-drop}
 use lib.Dec.{ltb}
 use borrow.Author.Tests.{ltb-true, ltb-false}
 use Rattle.lists.specs.TestLaws.{by-cases}
+use Rattle.lists.specs.Blocks.{block}
+use Rattle.lists.specs.BlockLaws.{block-same, block-length}
 use Rattle.numbers.specs.Little.{Bytes}
 use Rattle.numbers.specs.Laws.{le-take, le-drop}
 use Rattle.index.specs.Index.{indexOf, indexBytes}
-use Rattle.index.specs.Blocks.{entryAt, block}
-use Rattle.index.specs.Lemmas.Blocks.{block-length}
+use Rattle.index.specs.Blocks.{entryAt}
 use Rattle.index.specs.Lemmas.Bytes.{bytes-back}
 use Rattle.index.specs.Lemmas.Whole.{index-only}
 use Rattle.indexing.specs.Tail.{scheduleIn, memberAt, withIndex, Buildable}
 use Rattle.indexing.specs.Steps.{Elsewhere, Filled, Members, Ready, Built}
-use Rattle.indexing.specs.Lemmas.Blocks.{block-same}
 use Rattle.indexing.specs.Lemmas.Frame.{kept-drop, elsewhere-then, schedule-stays}
 use Rattle.indexing.specs.Lemmas.Numbers.{numbers-members}
 use Rattle.indexing.specs.Lemmas.Reorder.{members-stay, buffers-stay}
@@ -38,10 +38,10 @@ module _ (n : ℕ) (v : List ℕ) (long : 16 * n ≤ length v) (bytes : Bytes v)
       (λ q. rw (List·getD-eq-default (part n v) 0 {n = i} (omega (arith, part-long, ltb-false i (2 * n) q))) (omega arith))
 
   part-bytes : indexBytes (block (memberAt n v) 0 n) ≡ part n v
-  part-bytes = ap indexBytes (block-same (memberAt n v) (entryAt (part n v)) 0 n same) ∙ bytes-back (part n v) part-small n part-long
+  part-bytes = ap indexBytes (block-same (memberAt n v) (entryAt (part n v)) 0 0 n (λ i h. same (0 + i) (omega arith))) ∙ bytes-back (part n v) part-small n part-long
     where
-      same : (i : ℕ) → 0 ≤ i → i < 0 + n → memberAt n v i ≡ entryAt (part n v) i
-      same i a b = sym (le-take 2 (2 * n) (drop (14 * n) v) (2 * i) (omega arith) ∙ le-drop 2 (14 * n) v (2 * i))
+      same : (i : ℕ) → i < n → memberAt n v i ≡ entryAt (part n v) i
+      same i h = sym (le-take 2 (2 * n) (drop (14 * n) v) (2 * i) (omega arith) ∙ le-drop 2 (14 * n) v (2 * i))
 
 module _ {s w t u : List ℕ} {n : ℕ} (c : Buildable s w t n) (fill : Filled n t u 0 n (λ i. i)) where
   pub ready-whole : Ready s w u n 0 n

@@ -9,8 +9,8 @@ use mathlib.Core.List.{List, [], _∷_, _++_}
 use lib.Dec.{eqb}
 use borrow.Author.Tests.{eqb-true, eqb-false}
 use Rattle.lists.specs.TestLaws.{by-cases, and-both, bit-true, bit-zero}
-use Rattle.index.specs.Count.{count, both}
-use Rattle.index.specs.Lemmas.Count.{count-append, both-le}
+use Rattle.lists.specs.Counting.{count, both}
+use Rattle.lists.specs.CountLaws.{count-append, both-le}
 use Rattle.bitmap.specs.Facts.{BitSet}
 use Rattle.view.specs.Search.{timesShown, inByte, BitsSet}
 

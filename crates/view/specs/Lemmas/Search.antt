@@ -10,16 +10,17 @@ use lib.ListN.{length}
 use lib.Dec.{eqb}
 use borrow.Author.Tests.{ltb-true, lt-ltb, eqb-false}
 use Rattle.lists.specs.TestLaws.{by-cases, and-left, and-right}
+use Rattle.lists.specs.Counting.{count, non, both, below}
+use Rattle.lists.specs.Blocks.{block}
+use Rattle.lists.specs.CountLaws.{count-le, count-split, both-le}
+use Rattle.lists.specs.BlockLaws.{block-all}
 use Rattle.elimination.specs.Records.{valueAt}
 use Rattle.zoom.specs.Living.{zoomSquared, livesAt}
-use Rattle.index.specs.Count.{count, non, both, below}
 use Rattle.index.specs.Index.{beats, coordinate, axisKey}
 use Rattle.index.specs.Valid.{valid, isTree}
-use Rattle.index.specs.Blocks.{entryAt, block, leftOf, rightOf, Halves}
+use Rattle.index.specs.Blocks.{entryAt, leftOf, rightOf, Halves}
 use Rattle.index.specs.Check.{AllMarked}
 use Rattle.index.specs.Laws.{block-halves, none-later, none-left, none-right}
-use Rattle.index.specs.Lemmas.Count.{count-le, count-split, both-le}
-use Rattle.index.specs.Lemmas.Blocks.{block-all}
 use Rattle.view.specs.declared.Bounds.{Bounds}
 use Rattle.view.specs.Search.{boundOn, Within, isBeyond, sizeToSearch, BitsSet, Searchable}
 use Rattle.view.specs.Lemmas.Bits.{set-nothing, set-none, set-then}
@@ -81,7 +82,7 @@ module _ {shown : ℕ → Bool} {s p t map : List ℕ} {b : Bounds} {k lo size :
 
   half-below : (left : Bool) → count (non (below (r .n))) (halfOf left t lo size) ≡ 0
   half-below left =
-      block-all (entryAt t) (below (r .n)) (startOf left lo size) (sizeOf left size)
+      block-all (below (r .n)) (entryAt t) (startOf left lo size) (sizeOf left size)
       (λ i a b. lt-ltb (entryAt t i) (r .n) (r .below i (omega (arith, half-fits left))))
 
   head-small : (left : Bool) → sizeOf left size ≢ 0 → entryAt t (startOf left lo size) < 65536

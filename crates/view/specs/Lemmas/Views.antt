@@ -9,12 +9,13 @@ use lib.ListN.{length, getD}
 use lib.Dec.{eqb}
 use borrow.Author.Tests.{le-ltb, eqb-true, eq-eqb}
 use Rattle.lists.specs.TestLaws.{by-cases, and-left, and-right, and-both}
+use Rattle.lists.specs.Counting.{count, both, non, below}
+use Rattle.lists.specs.Blocks.{block}
+use Rattle.lists.specs.CountLaws.{count-le, times-le}
 use Rattle.numbers.specs.Little.{Bytes}
-use Rattle.index.specs.Count.{count, both, non, below}
 use Rattle.index.specs.Index.{indexOf}
-use Rattle.index.specs.Blocks.{entryAt, block}
+use Rattle.index.specs.Blocks.{entryAt}
 use Rattle.index.specs.Laws.{index-below, index-once, index-block, block-tree, index-entries}
-use Rattle.index.specs.Lemmas.Count.{count-le, times-le}
 use Rattle.bitmap.specs.Map.{mapSize, bitAt}
 use Rattle.bitmap.specs.Facts.{Shows, Cleared, countBits}
 use Rattle.bitmap.specs.Laws.{map-is, cleared-bit, count-shown}

@@ -1,4 +1,4 @@
--- Laws of counting, each by adding up over the list.
+-- Laws of counting, each by adding up over the list. Assumes nothing.
 use Prim.Native.Nat.{ℕ, suc, _+_, _≤_}
 use native.Mathlib.Omega.{arith}
 use mathlib.Core.Path.{_≡_, refl, sym, ap, _∙_}
@@ -6,11 +6,10 @@ use mathlib.Core.Bool.{Bool, true, false, not, cond, _&&_}
 use mathlib.Core.List.{List, [], _∷_, _++_}
 use lib.ListN.{length, take, drop, take-append-drop}
 use lib.Dec.{eqb}
-use borrow.Author.Tests.{eqb-true, eq-eqb}
+use borrow.Author.Tests.{eqb-true, eqb-false, eq-eqb, ltb-true, lt-ltb, not-true}
 use Rattle.lists.specs.Tests.{bit}
 use Rattle.lists.specs.TestLaws.{by-cases, and-left, and-right, and-both, bit-true, bit-false, bit-not, bit-le, bit-split}
-use Rattle.index.specs.Count.{count, _≈_, times, non, both}
-use Rattle.index.specs.Tree.{without}
+use Rattle.lists.specs.Counting.{count, _≈_, times, without, non, both, under, keyed}
 
 -- ---- counts
 
@@ -100,3 +99,35 @@ without-alike b l h p = omega (arith, count-split p (eqb b) l, without-count p b
           count-never l,
           count-le (both (eqb b) p) (λ y. false) (λ y q. sym e ∙ at-b y (and-left (eqb b y) (p y) q) ∙ and-right (eqb b y) (p y) q) l,
         )
+
+-- ---- keys below a bound
+
+module _ (k : ℕ → ℕ) where
+  pub under-le : (t u : ℕ) → t ≤ u → (l : List ℕ) → count (under k t) l ≤ count (under k u) l
+  under-le t u h = count-le (under k t) (under k u) (λ y e. lt-ltb (k y) u (omega (arith, ltb-true (k y) t e)))
+
+  pub over-le : (t u : ℕ) → t ≤ u → (l : List ℕ) → count (non (under k u)) l ≤ count (non (under k t)) l
+  over-le t u h l = omega (arith, under-le t u h l, count-not (under k t) l, count-not (under k u) l)
+
+  pub under-zero : (l : List ℕ) → count (under k 0) l ≡ 0
+  under-zero l =
+      omega (arith, count-never l, count-le (under k 0) (λ y. false) (λ y e. absurd (omega (arith, ltb-true (k y) 0 e))) l)
+
+  -- what is below v + 1 is below v, or is v
+  pub under-more : (v : ℕ) (l : List ℕ) → count (under k (suc v)) l ≤ count (under k v) l + count (keyed k v) l
+  under-more v l =
+      omega (
+        arith,
+        count-split (under k (suc v)) (keyed k v) l,
+        both-le (keyed k v) (under k (suc v)) l,
+        count-le (both (non (keyed k v)) (under k (suc v))) (under k v) less l,
+      )
+    where
+      less : (y : ℕ) → both (non (keyed k v)) (under k (suc v)) y ≡ true → under k v y ≡ true
+      less y h =
+          lt-ltb (k y) v
+          (omega (
+            arith,
+            eqb-false v (k y) (not-true (eqb v (k y)) (and-left (non (keyed k v) y) (under k (suc v) y) h)),
+            ltb-true (k y) (suc v) (and-right (non (keyed k v) y) (under k (suc v) y) h),
+          ))

@@ -2,10 +2,10 @@
 -- permutation of the other, where every test counts the same in both. So the laws on members and on order are laws on sums.
 use Prim.Native.Nat.{ℕ, _+_, _≤_}
 use mathlib.Core.Path.{_≡_}
-use mathlib.Core.Bool.{Bool, not, _&&_}
+use mathlib.Core.Bool.{Bool, not, cond, _&&_}
 use mathlib.Core.List.{List, [], _∷_}
 use lib.Dec.{eqb, ltb}
 use Rattle.lists.specs.Tests.{bit}
 
 abbrev pub count : (ℕ → Bool) → List ℕ → ℕ
 count p [] = 0
@@ -21,6 +21,11 @@ times x l = count (eqb x) l
 
 abbrev pub Distinct : List ℕ → Type 0
 Distinct l = (x : ℕ) → times x l ≤ 1
+
+-- l without the number b
+abbrev pub without : ℕ → List ℕ → List ℕ
+without b [] = []
+without b (x ∷ l) = cond (eqb b x) (without b l) (x ∷ without b l)
 
 -- ---- tests
 
