@@ -21,10 +21,15 @@ pub struct Record {
 
 impl Record {
     /// The record of a mark that is never removed.
-    pub const NEVER: Self = Self {
-        eliminator: 65_535,
-        value: Fraction::new(0, 0),
-    };
+    pub const NEVER: Self = Self::new(65_535, 0, 0);
+
+    /// The record with these three numbers.
+    pub const fn new(eliminator: u16, numerator: u64, denominator: u32) -> Self {
+        Self {
+            eliminator,
+            value: Fraction::new(numerator, denominator),
+        }
+    }
 
     /// The record of a mark removed at a value by the mark of that number.
     #[inline]

@@ -1,7 +1,16 @@
-//! Sheets made up from a seed, the same ones on every machine, for tests and
-//! benchmarks. All their marks are ones that 01 takes.
+//! What tests and benchmarks are made of: marks made up from a seed, the same ones on
+//! every machine, all of which 01 takes; those of its first example; and what a test
+//! tries whole.
 
 use crate::mark::{Mark, LARGEST_RADIUS};
+
+/// The marks of P1 (01, 'The printed schedule').
+pub const P1: [Mark; 4] = [
+    Mark::plain(0, 0, 10, 9),
+    Mark::plain(100, 0, 10, 5),
+    Mark::plain(200, 0, 10, 5),
+    Mark::plain(0, 3, 5, 1),
+];
 
 /// A small generator of numbers (shifts and exclusive ors of one 64-bit word).
 #[derive(Clone, Debug)]
@@ -101,6 +110,28 @@ pub fn small_choice() -> Vec<Mark> {
         }
     }
     choice
+}
+
+/// A sheet whose contents have these entries (code, offset, length), with this body
+/// after them.
+pub fn raw_sheet(entries: &[(u16, u32, u32)], body: &[u8]) -> Vec<u8> {
+    let mut sheet = (entries.len() as u16).to_le_bytes().to_vec();
+    for (code, offset, length) in entries {
+        sheet.extend(code.to_le_bytes());
+        sheet.extend(offset.to_le_bytes());
+        sheet.extend(length.to_le_bytes());
+    }
+    sheet.extend(body);
+    sheet
+}
+
+/// Calls `visit` with every list of so many entries from the choice.
+pub fn each_list<T: Copy>(choice: &[T], entries: u32, visit: &mut impl FnMut(&[T])) {
+    for code in 0..choice.len().pow(entries) {
+        let places = (0..entries).map(|at| code / choice.len().pow(at));
+        let list: Vec<T> = places.map(|place| choice[place % choice.len()]).collect();
+        visit(&list);
+    }
 }
 
 /// The middles of the clusters, about one for every 64 marks.

@@ -16,6 +16,16 @@ pub struct Edges {
     pub y1: i16,
 }
 
+impl Edges {
+    /// The edges of all places.
+    pub const WHOLE: Self = Self {
+        x0: i16::MIN,
+        x1: i16::MAX,
+        y0: i16::MIN,
+        y1: i16::MAX,
+    };
+}
+
 /// A zoom as the viewer has it: a stop or a wheel value.
 #[derive(Clone, Copy, Debug, PartialEq)]
 pub enum Zoom {

@@ -7,17 +7,10 @@ use oracle::process::schedule_by_process;
 use oracle::record::{read_records, removals, write_records, Record};
 use oracle::report::print;
 use oracle::rules::{keep_both, Breach};
+use oracle::sample::P1;
 use oracle::sheet::{check, join, open, schedule, split};
 use oracle::tree;
 use oracle::view::{is_set, reaches, view, Edges, Zoom};
-
-/// The marks of P1.
-const P1: [Mark; 4] = [
-    Mark::plain(0, 0, 10, 9),
-    Mark::plain(100, 0, 10, 5),
-    Mark::plain(200, 0, 10, 5),
-    Mark::plain(0, 3, 5, 1),
-];
 
 /// The rectangle of P3 and P4.
 const P3: Edges = Edges {
@@ -44,14 +37,6 @@ fn records(marks: &[Mark]) -> Vec<Record> {
     read_records(split(&sheet).unwrap().get(2).unwrap())
 }
 
-/// The record with these three numbers.
-fn record(eliminator: u16, numerator: u64, denominator: u32) -> Record {
-    Record {
-        eliminator,
-        value: Fraction::new(numerator, denominator),
-    }
-}
-
 /// What a view of P1 with the rectangle of P3 answers at this zoom.
 fn view_p1(zoom: Zoom) -> Result<(Vec<u8>, u32), u32> {
     view(&scheduled(&P1), P3, zoom, 1)
@@ -60,10 +45,10 @@ fn view_p1(zoom: Zoom) -> Result<(Vec<u8>, u32), u32> {
 #[test]
 fn p1() {
     let expected = [
-        record(65_535, 0, 0),
-        record(0, 10_000, 400),
-        record(0, 40_000, 400),
-        record(0, 9, 225),
+        Record::new(65_535, 0, 0),
+        Record::new(0, 10_000, 400),
+        Record::new(0, 40_000, 400),
+        Record::new(0, 9, 225),
     ];
     assert_eq!(records(&P1), expected);
     let text = "marks 4\n0 -\n1 0 10000 400 320\n2 0 40000 400 640\n3 0 9 225 12\n";
@@ -91,14 +76,14 @@ fn p4() {
 #[test]
 fn p5() {
     let marks = [Mark::plain(7, 7, 1, 5), Mark::plain(7, 7, 1, 5)];
-    assert_eq!(records(&marks), [Record::NEVER, record(0, 0, 4)]);
+    assert_eq!(records(&marks), [Record::NEVER, Record::new(0, 0, 4)]);
 }
 
 #[test]
 fn p6() {
     let low = Mark::plain(-32_768, -32_768, 1, 0);
     let high = Mark::plain(32_767, 32_767, 1, 0);
-    let expected = [Record::NEVER, record(0, 8_589_672_450, 4)];
+    let expected = [Record::NEVER, Record::new(0, 8_589_672_450, 4)];
     assert_eq!(records(&[low, high]), expected);
 }
 
@@ -116,7 +101,10 @@ fn p8() {
     };
     assert_eq!(of(199).used_radius(), Some(200));
     let other = Mark::plain(30, 40, 300, 9);
-    assert_eq!(records(&[of(199), other])[0], record(1, 2_500, 250_000));
+    assert_eq!(
+        records(&[of(199), other])[0],
+        Record::new(1, 2_500, 250_000)
+    );
     assert_eq!(check(&one_part(&[of(200)])), 5);
 }
 
@@ -145,7 +133,7 @@ fn p11() {
         Mark::plain(-100, 0, 10, 9),
         Mark::plain(0, 0, 10, 1),
     ];
-    assert_eq!(records(&marks)[2], record(1, 10_000, 400));
+    assert_eq!(records(&marks)[2], Record::new(1, 10_000, 400));
 }
 
 #[test]
@@ -170,7 +158,7 @@ fn check_with(marks: &[Mark], records: &[Record]) -> u32 {
 fn false_that_mark_2_of_p1_goes_at_25_by_mark_1() {
     let mut changed = records(&P1);
     assert_eq!(check_with(&P1, &changed), 0);
-    changed[2] = record(1, 10_000, 400);
+    changed[2] = Record::new(1, 10_000, 400);
     assert_eq!(changed[1].value, changed[2].value);
     let broken = keep_both(&P1, &removals(&changed));
     assert_eq!(broken, Err(Breach::Second(2)));
@@ -180,11 +168,11 @@ fn false_that_mark_2_of_p1_goes_at_25_by_mark_1() {
 #[test]
 fn false_that_removal_values_may_be_rounded() {
     let mut rounded = records(&P1);
-    rounded[3] = record(0, 0, 225);
+    rounded[3] = Record::new(0, 0, 225);
     let broken = keep_both(&P1, &removals(&rounded));
     assert_eq!(broken, Err(Breach::Second(3)));
     assert_eq!(check_with(&P1, &rounded), 8);
-    rounded[3] = record(0, 225, 225);
+    rounded[3] = Record::new(0, 225, 225);
     let broken = keep_both(&P1, &removals(&rounded));
     assert_eq!(broken, Err(Breach::First(0, 3)));
     assert_eq!(check_with(&P1, &rounded), 8);
@@ -224,9 +212,9 @@ fn false_that_values_may_be_compared_after_whole_division() {
         Mark::plain(2, 0, 1, 5),
         Mark::plain(0, 0, 1, 1),
     ];
-    assert_eq!(records(&marks)[2], record(1, 4, 4));
+    assert_eq!(records(&marks)[2], Record::new(1, 4, 4));
     let divided = schedule_by_quotient(&marks, |value| in_doubles(value).floor());
-    assert_eq!(divided[2], record(0, 5, 4));
+    assert_eq!(divided[2], Record::new(0, 5, 4));
     let broken = keep_both(&marks, &removals(&divided));
     assert_eq!(broken, Err(Breach::First(1, 2)));
     let exact = schedule_by_quotient(&marks, in_doubles);
@@ -242,8 +230,8 @@ fn false_that_values_may_be_compared_as_doubles() {
         Mark::plain(29_241, 28_704, 6, 5),
         Mark::plain(-32_768, -32_768, 16_383, 1),
     ];
-    let by_mark_1 = record(1, 7_623_922_865, 268_599_321);
-    let by_mark_0 = record(0, 7_619_271_721, 268_435_456);
+    let by_mark_1 = Record::new(1, 7_623_922_865, 268_599_321);
+    let by_mark_0 = Record::new(0, 7_619_271_721, 268_435_456);
     assert_eq!(records(&marks)[2], by_mark_1);
     let divided = schedule_by_quotient(&marks, in_doubles);
     assert_eq!(divided[2], by_mark_0);
@@ -274,9 +262,9 @@ fn false_that_a_removed_mark_still_blocks_others() {
         Mark::plain(50, 0, 10, 5),
         Mark::plain(150, 0, 10, 1),
     ];
-    assert_eq!(records(&marks)[2], record(0, 22_500, 400));
+    assert_eq!(records(&marks)[2], Record::new(0, 22_500, 400));
     let blocked = schedule_with_ghosts(&marks);
-    assert_eq!(blocked[2], record(1, 10_000, 400));
+    assert_eq!(blocked[2], Record::new(1, 10_000, 400));
     let broken = keep_both(&marks, &removals(&blocked));
     assert_eq!(broken, Err(Breach::Second(2)));
     assert_eq!(check_with(&marks, &blocked), 8);

@@ -1,28 +1,13 @@
 //! Each question of 01 answered with no, on both sides of its limits, and in the
 //! order the questions are put.
 
-use oracle::fraction::Fraction;
 use oracle::mark::{write_marks, Mark};
 use oracle::record::{write_records, Record};
 use oracle::report::print;
-use oracle::sample::{marks, Shape};
+use oracle::sample::{marks, raw_sheet, Shape, P1};
 use oracle::sheet::{assemble, check, join, schedule};
 use oracle::tree;
 use oracle::view::{view, walk, Edges, Zoom};
-
-const P1: [Mark; 4] = [
-    Mark::plain(0, 0, 10, 9),
-    Mark::plain(100, 0, 10, 5),
-    Mark::plain(200, 0, 10, 5),
-    Mark::plain(0, 3, 5, 1),
-];
-
-const EVERYWHERE: Edges = Edges {
-    x0: i16::MIN,
-    x1: i16::MAX,
-    y0: i16::MIN,
-    y1: i16::MAX,
-};
 
 const UNKNOWN_KIND: Mark = Mark {
     kind: 200,
@@ -54,21 +39,13 @@ fn with_tree(marks: &[Mark], records: &[Record], tree: &[u16]) -> Vec<u8> {
     ])
 }
 
-/// The record with these three numbers.
-fn record(eliminator: u16, numerator: u64, denominator: u32) -> Record {
-    Record {
-        eliminator,
-        value: Fraction::new(numerator, denominator),
-    }
-}
-
 /// The schedule of P1.
 fn p1_records() -> [Record; 4] {
     [
         Record::NEVER,
-        record(0, 10_000, 400),
-        record(0, 40_000, 400),
-        record(0, 9, 225),
+        Record::new(0, 10_000, 400),
+        Record::new(0, 40_000, 400),
+        Record::new(0, 9, 225),
     ]
 }
 
@@ -82,14 +59,7 @@ fn check_p1_with(mark: usize, changed: Record) -> u32 {
 /// A sheet with these entries (code, offset, length) and this many zero bytes
 /// after them.
 fn raw(entries: &[(u16, u32, u32)], body: usize) -> Vec<u8> {
-    let mut sheet = (entries.len() as u16).to_le_bytes().to_vec();
-    for (code, offset, length) in entries {
-        sheet.extend(code.to_le_bytes());
-        sheet.extend(offset.to_le_bytes());
-        sheet.extend(length.to_le_bytes());
-    }
-    sheet.extend(vec![0; body]);
-    sheet
+    raw_sheet(entries, &vec![0; body])
 }
 
 #[test]
@@ -238,7 +208,7 @@ fn question_7_lengths_of_parts_2_and_3() {
 
 #[test]
 fn question_7_comes_after_6_and_before_8() {
-    let bad_records = [record(0, 0, 0); 4];
+    let bad_records = [Record::new(0, 0, 0); 4];
     let part_2 = write_records(&bad_records);
     assert_eq!(check(&join(&[&write_marks(&P1), &part_2, &[]])), 7);
     assert_eq!(check(&join(&[&write_marks(&P1), &part_2, &[0; 8]])), 8);
@@ -249,25 +219,25 @@ fn question_7_comes_after_6_and_before_8() {
 #[test]
 fn question_8_the_never_record_is_whole() {
     assert_eq!(check_p1_with(1, Record::NEVER), 0);
-    assert_eq!(check_p1_with(1, record(65_535, 0, 400)), 8);
-    assert_eq!(check_p1_with(1, record(65_535, 1, 0)), 8);
-    assert_eq!(check_p1_with(1, record(65_535, 10_000, 400)), 8);
-    assert_eq!(check_p1_with(1, record(65_534, 0, 0)), 8);
-    assert_eq!(check_p1_with(1, record(0, 0, 0)), 8);
+    assert_eq!(check_p1_with(1, Record::new(65_535, 0, 400)), 8);
+    assert_eq!(check_p1_with(1, Record::new(65_535, 1, 0)), 8);
+    assert_eq!(check_p1_with(1, Record::new(65_535, 10_000, 400)), 8);
+    assert_eq!(check_p1_with(1, Record::new(65_534, 0, 0)), 8);
+    assert_eq!(check_p1_with(1, Record::new(0, 0, 0)), 8);
 }
 
 #[test]
 fn question_8_the_eliminator_is_a_higher_ranked_mark_below_n() {
-    assert_eq!(check_p1_with(1, record(4, 10_000, 400)), 8);
-    assert_eq!(check_p1_with(1, record(256, 10_000, 400)), 8);
+    assert_eq!(check_p1_with(1, Record::new(4, 10_000, 400)), 8);
+    assert_eq!(check_p1_with(1, Record::new(256, 10_000, 400)), 8);
     // Mark 1 itself, and mark 2 of equal priority and higher number.
-    assert_eq!(check_p1_with(1, record(1, 0, 400)), 8);
-    assert_eq!(check_p1_with(1, record(2, 10_000, 400)), 8);
+    assert_eq!(check_p1_with(1, Record::new(1, 0, 400)), 8);
+    assert_eq!(check_p1_with(1, Record::new(2, 10_000, 400)), 8);
     // The highest-ranked mark has nobody to go for.
-    assert_eq!(check_p1_with(0, record(2, 40_000, 400)), 8);
+    assert_eq!(check_p1_with(0, Record::new(2, 40_000, 400)), 8);
     // A higher number may still rank higher.
     let swapped = [P1[1], P1[0]];
-    let records = [record(1, 10_000, 400), Record::NEVER];
+    let records = [Record::new(1, 10_000, 400), Record::NEVER];
     assert_eq!(check(&three_parts(&swapped, &records)), 0);
 }
 
@@ -284,7 +254,7 @@ fn question_8_the_numbers_are_the_unreduced_ones() {
         (10_000, 400 + (1 << 16)),
         (400, 10_000),
     ] {
-        let changed = record(0, numerator, denominator);
+        let changed = Record::new(0, numerator, denominator);
         assert_eq!(check_p1_with(1, changed), 8, "{changed:?}");
     }
 }
@@ -292,22 +262,26 @@ fn question_8_the_numbers_are_the_unreduced_ones() {
 #[test]
 fn question_8_the_eliminator_is_removed_strictly_later() {
     // Mark 1 goes at the very value it is named for.
-    assert_eq!(check_p1_with(2, record(1, 10_000, 400)), 8);
+    assert_eq!(check_p1_with(2, Record::new(1, 10_000, 400)), 8);
     // The same with equal values that are written differently.
     let marks = [P1[0], P1[1], Mark::plain(160, 0, 2, 1)];
-    let mut records = [Record::NEVER, record(0, 10_000, 400), record(1, 3_600, 144)];
+    let mut records = [
+        Record::NEVER,
+        Record::new(0, 10_000, 400),
+        Record::new(1, 3_600, 144),
+    ];
     assert_eq!(check(&three_parts(&marks, &records)), 8);
     // One map unit nearer, mark 2 goes before mark 1 does.
     let nearer = [P1[0], P1[1], Mark::plain(159, 0, 2, 1)];
-    records[2] = record(1, 59 * 59, 144);
+    records[2] = Record::new(1, 59 * 59, 144);
     assert_eq!(check(&three_parts(&nearer, &records)), 0);
 }
 
 #[test]
 fn question_8_reads_records_of_any_size() {
-    let largest = record(1, u64::MAX, u32::MAX);
+    let largest = Record::new(1, u64::MAX, u32::MAX);
     assert_eq!(check_p1_with(0, largest), 8);
-    assert_eq!(check_p1_with(0, record(1, u64::MAX, 0)), 8);
+    assert_eq!(check_p1_with(0, Record::new(1, u64::MAX, 0)), 8);
     assert_eq!(check_p1_with(3, largest), 8);
 }
 
@@ -317,8 +291,8 @@ fn question_8_takes_schedules_that_are_not_ours() {
     assert_eq!(check(&three_parts(&P1, &never)), 0);
     // Mark 1 stays, so mark 2 may go for it, and mark 3 too late.
     let mut records = never;
-    records[2] = record(1, 10_000, 400);
-    records[3] = record(1, 10_009, 225);
+    records[2] = Record::new(1, 10_000, 400);
+    records[3] = Record::new(1, 10_009, 225);
     assert_eq!(check(&three_parts(&P1, &records)), 0);
 }
 
@@ -346,8 +320,8 @@ fn question_9_another_tree() {
 fn question_9_goes_by_the_records_there() {
     let marks = [P1[1], P1[2], P1[0]];
     let ours = [
-        record(2, 10_000, 400),
-        record(2, 40_000, 400),
+        Record::new(2, 10_000, 400),
+        Record::new(2, 40_000, 400),
         Record::NEVER,
     ];
     assert_eq!(check(&with_tree(&marks, &ours, &[2, 0, 1])), 0);
@@ -360,13 +334,13 @@ fn question_9_goes_by_the_records_there() {
 fn question_9_comes_after_8() {
     let mut records = p1_records();
     assert_eq!(check(&with_tree(&P1, &records, &[0; 4])), 9);
-    records[3] = record(0, 1, 25);
+    records[3] = Record::new(0, 1, 25);
     assert_eq!(check(&with_tree(&P1, &records, &[0; 4])), 8);
 }
 
 /// What a view answers that shows all it can.
 fn view_all(sheet: &[u8]) -> Result<(Vec<u8>, u32), u32> {
-    view(sheet, EVERYWHERE, Zoom::Stop(0), 512)
+    view(sheet, Edges::WHOLE, Zoom::Stop(0), 512)
 }
 
 #[test]
@@ -386,7 +360,10 @@ fn question_10_there_is_not_longer_than_0() {
     assert_eq!(view_all(&join(&[&[]])), Err(10));
     assert_eq!(view_all(&join(&[&[], &[]])), Err(10));
     let empty = join(&[&[], &[], &[]]);
-    assert_eq!(view(&empty, EVERYWHERE, Zoom::Stop(0), 0), Ok((vec![], 0)));
+    assert_eq!(
+        view(&empty, Edges::WHOLE, Zoom::Stop(0), 0),
+        Ok((vec![], 0))
+    );
 }
 
 #[test]
@@ -410,21 +387,21 @@ fn view_puts_9_to_13_in_order() {
     let crossed = Edges {
         x0: 1,
         x1: 0,
-        ..EVERYWHERE
+        ..Edges::WHOLE
     };
     let (bad, good) = (Zoom::Stop(17), Zoom::Stop(16));
     assert_eq!(view(&wrong_tree, crossed, bad, 0), Err(9));
     assert_eq!(view(&one_part(&P1), crossed, bad, 0), Err(10));
     assert_eq!(view(&sheet, crossed, bad, 0), Err(11));
-    assert_eq!(view(&sheet, EVERYWHERE, bad, 0), Err(12));
-    assert_eq!(view(&sheet, EVERYWHERE, good, 0), Err(13));
-    assert_eq!(view(&sheet, EVERYWHERE, good, 1), Ok((vec![0x01], 1)));
+    assert_eq!(view(&sheet, Edges::WHOLE, bad, 0), Err(12));
+    assert_eq!(view(&sheet, Edges::WHOLE, good, 0), Err(13));
+    assert_eq!(view(&sheet, Edges::WHOLE, good, 1), Ok((vec![0x01], 1)));
 }
 
 #[test]
 fn question_12_zooms() {
     let sheet = three_parts(&P1, &p1_records());
-    let number = |zoom| view(&sheet, EVERYWHERE, zoom, 1).map(|(_, count)| count);
+    let number = |zoom| view(&sheet, Edges::WHOLE, zoom, 1).map(|(_, count)| count);
     assert_eq!(number(Zoom::Stop(0)), Ok(4));
     assert_eq!(number(Zoom::Stop(80)), Err(12));
     assert_eq!(number(Zoom::Wheel(0.0)), Err(12));
@@ -441,9 +418,9 @@ fn question_13_of_a_map() {
         let marks = marks(Shape::Line, n, 1);
         let sheet = three_parts(&marks, &vec![Record::NEVER; n]);
         let bytes = n.div_ceil(8);
-        let short = view(&sheet, EVERYWHERE, Zoom::Stop(16), bytes - 1);
+        let short = view(&sheet, Edges::WHOLE, Zoom::Stop(16), bytes - 1);
         assert_eq!(short, Err(13));
-        let (map, count) = view(&sheet, EVERYWHERE, Zoom::Stop(16), bytes).unwrap();
+        let (map, count) = view(&sheet, Edges::WHOLE, Zoom::Stop(16), bytes).unwrap();
         assert_eq!((map.len(), count as usize), (bytes, n));
     }
 }

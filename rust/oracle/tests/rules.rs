@@ -5,14 +5,7 @@ use oracle::mark::{touching_value, Mark};
 use oracle::process::schedule_by_process;
 use oracle::record::removals;
 use oracle::rules::{keep_both, Breach};
-use oracle::sample::{marks, Shape};
-
-const P1: [Mark; 4] = [
-    Mark::plain(0, 0, 10, 9),
-    Mark::plain(100, 0, 10, 5),
-    Mark::plain(200, 0, 10, 5),
-    Mark::plain(0, 3, 5, 1),
-];
+use oracle::sample::{each_list, marks, Shape, P1};
 
 /// The removal values the process gives.
 fn list_of(marks: &[Mark]) -> Vec<Removal> {
@@ -83,15 +76,6 @@ fn a_value_a_hair_earlier_or_later_breaks_a_rule() {
             list[mark] = at(twice - 1, denominator);
             assert_eq!(keep_both(&marks, &list), Err(Breach::Second(mark)));
         }
-    }
-}
-
-/// Calls `visit` with every list of so many entries from the choice.
-fn each_list(choice: &[Removal], entries: usize, visit: &mut impl FnMut(&[Removal])) {
-    for code in 0..choice.len().pow(entries as u32) {
-        let places = (0..entries as u32).map(|at| code / choice.len().pow(at));
-        let list: Vec<Removal> = places.map(|place| choice[place % choice.len()]).collect();
-        visit(&list);
     }
 }
 

@@ -12,13 +12,6 @@ use oracle::sheet::{assemble, check, join, open, part_extent, schedule, split};
 use oracle::tree;
 use oracle::view::{is_set, lives, reaches, view, walk, zoom_in_64ths, Edges, Zoom, NO_MARK};
 
-const EVERYWHERE: Edges = Edges {
-    x0: i16::MIN,
-    x1: i16::MAX,
-    y0: i16::MIN,
-    y1: i16::MAX,
-};
-
 /// The numbers of marks that are tried: about whole bytes of a map, and more.
 const NUMBERS: [usize; 8] = [0, 1, 2, 7, 8, 9, 17, 33];
 
@@ -143,7 +136,7 @@ fn a_view_shows_what_a_search_down_the_tree_finds() {
         let (records, tree) = (opened.records.unwrap(), opened.tree.unwrap());
         for stop in 0..=if n == 0 { 0 } else { 16 } {
             let edges = match n {
-                0 => EVERYWHERE,
+                0 => Edges::WHOLE,
                 _ => rectangle(&mut generator, marks),
             };
             let k = zoom_in_64ths(Zoom::Stop(stop)).unwrap();
@@ -164,7 +157,7 @@ fn a_view_shows_what_a_search_down_the_tree_finds() {
 #[test]
 fn a_view_uses_the_schedule_as_the_sheet_has_it() {
     let marks = marks(Shape::OnePlace, 10, 4);
-    let count = |sheet: &[u8]| view(sheet, EVERYWHERE, Zoom::Stop(16), 2).unwrap();
+    let count = |sheet: &[u8]| view(sheet, Edges::WHOLE, Zoom::Stop(16), 2).unwrap();
     let (_, ours) = count(&scheduled(&marks));
     assert_eq!(ours, 1);
     let records = [Record::NEVER; 10];
@@ -226,7 +219,7 @@ fn all_jobs_refuse_a_changed_sheet_by_the_number_that_checking_gives() {
         let sheet = changed_sheet(&mut generator);
         let number = check(&sheet);
         numbers.insert(number);
-        let viewed = view(&sheet, EVERYWHERE, Zoom::Stop(3), 512);
+        let viewed = view(&sheet, Edges::WHOLE, Zoom::Stop(3), 512);
         if number == 0 {
             assert_eq!(check(&schedule_large(&sheet).unwrap()), 0);
             assert_eq!(assemble_again(&sheet), Ok(sheet));
@@ -247,7 +240,7 @@ fn the_largest_sheet_is_scheduled() {
     let marks = marks(Shape::OnePlace, 4_096, 1);
     let sheet = scheduled(&marks);
     assert_eq!(sheet.len(), 110_624);
-    let (_, count) = view(&sheet, EVERYWHERE, Zoom::Stop(0), 512).unwrap();
+    let (_, count) = view(&sheet, Edges::WHOLE, Zoom::Stop(0), 512).unwrap();
     assert_eq!(count, 1);
 }
 

@@ -2,12 +2,10 @@
 
 mod common;
 
-use std::collections::BTreeMap;
-
-use common::{bodies_of, number, scheduled, some_sheet, Bodies, Lent, P1};
+use common::{bodies_of, scheduled, some_room, some_sheet, Lent, SomeBodies, Tally};
 use oracle::mark::write_marks;
 use oracle::process::schedule_in_rank_order;
-use oracle::sample::{marks, Generator, Shape};
+use oracle::sample::{marks, Generator, Shape, P1};
 use oracle::sheet::{join, part_extent, split};
 
 /// Codes that are asked for: those of parts, and others that have their low bytes.
@@ -21,18 +19,9 @@ fn assemble(parts: u32, bodies: [&[u8]; 3], out_length: usize, seed: u64) -> u32
     let [body1, body2, body3] = &mut lent;
     let bodies_lent: [&[u8]; 3] = [body1.slice(), body2.slice(), body3.slice()];
     let answer = rollmap::assemble(parts, bodies_lent, out.slice());
-    match oracle::sheet::assemble(parts, bodies, out_length) {
-        Ok(sheet) => {
-            assert_eq!(answer, Ok(sheet.len()));
-            out.assert_written(&sheet);
-        }
-        Err(expected) => {
-            assert_eq!(number(&answer), expected, "{parts} {bodies:02x?}");
-            out.assert_untouched();
-        }
-    }
     lent.iter().for_each(Lent::assert_untouched);
-    number(&answer)
+    let expected = oracle::sheet::assemble(parts, bodies, out_length);
+    out.assert_answered(&answer, &expected)
 }
 
 /// The three bodies as slices.
@@ -115,24 +104,17 @@ fn every_byte_of_the_bodies_with_some_values() {
 #[test]
 fn many_bodies_with_a_few_faults() {
     let mut generator = Generator::new(6);
-    let mut numbers = BTreeMap::new();
+    let mut numbers = Tally::default();
     for seed in 0..40_000 {
-        let Bodies { bodies, .. } = Bodies::draw(&mut generator);
+        let SomeBodies { bodies, .. } = SomeBodies::draw(&mut generator);
         let parts = generator.choose(&[1, 2, 3, 3, 3, 4]);
         let taken = &bodies[..bodies.len().min(parts as usize)];
         let needed = 2 + 10 * taken.len() + taken.iter().map(Vec::len).sum::<usize>();
-        let length = match generator.below(8) {
-            0 => needed - 1,
-            1 => generator.below(200) as usize,
-            2 => needed + generator.below(60) as usize,
-            _ => needed,
-        };
+        let length = some_room(&mut generator, needed);
         let number = assemble(parts, slices(&bodies), length, seed);
-        *numbers.entry(number).or_insert(0) += 1;
+        numbers.add(number);
     }
-    let reached = [0, 1, 4, 5, 6, 7, 8, 9, 13];
-    assert!(reached.iter().all(|n| numbers[n] > 100), "{numbers:?}");
-    assert_eq!(numbers.len(), reached.len(), "{numbers:?}");
+    numbers.assert_reached([0, 1, 4, 5, 6, 7, 8, 9, 13], 100);
 }
 
 #[test]

@@ -181,23 +181,22 @@ fn stops_case(sheet: &[u8], edges: Edges, map_length: usize) -> (Vec<u8>, String
 #[test]
 fn every_stop_is_its_wheel_value_through_c() {
     let edges = |[x0, x1, y0, y1]: [i16; 4]| Edges { x0, x1, y0, y1 };
-    let whole = edges([i16::MIN, i16::MAX, i16::MIN, i16::MAX]);
     let mut cases = Vec::new();
     for shape in Shape::ALL {
         for n in [0, 1, 9, 40] {
             let sample = marks(shape, n, 11);
             let (sheet, needed) = (scheduled(&sample), map_bytes(n));
-            cases.push(stops_case(&sheet, whole, needed));
+            cases.push(stops_case(&sheet, Edges::WHOLE, needed));
             cases.push(stops_case(&sheet, edges([-900, 900, 0, 0]), needed + 1));
             cases.push(stops_case(&sheet, edges([1, 0, 0, 0]), needed));
-            cases.push(stops_case(&sheet, whole, needed.saturating_sub(1)));
-            cases.push(stops_case(&one_part(&sample), whole, needed));
+            cases.push(stops_case(&sheet, Edges::WHOLE, needed.saturating_sub(1)));
+            cases.push(stops_case(&one_part(&sample), Edges::WHOLE, needed));
         }
     }
     let mut generator = Generator::new(50);
     for _ in 0..500 {
         let sheet = some_sheet(&mut generator);
-        cases.push(stops_case(&sheet, whole, 6));
+        cases.push(stops_case(&sheet, Edges::WHOLE, 6));
     }
     let (inputs, expected): (Vec<_>, Vec<_>) = cases.into_iter().unzip();
     let program = compile("stops.c", "stops", "cc", &["-std=c99"]);

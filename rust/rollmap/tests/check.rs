@@ -2,14 +2,12 @@
 
 mod common;
 
-use std::collections::BTreeMap;
-
-use common::{bodies_of, joined, number, one_part, scheduled, some_sheet, three_parts, P1};
+use common::{bodies_of, joined, number, one_part, scheduled, some_sheet, three_parts, Tally};
 use oracle::fraction::Fraction;
 use oracle::mark::{touching_value, write_marks, Mark};
 use oracle::process::schedule_in_rank_order;
 use oracle::record::{write_records, Record};
-use oracle::sample::{marks, Generator, Shape};
+use oracle::sample::{each_list, marks, raw_sheet, Generator, Shape, P1};
 use oracle::sheet::join;
 use oracle::tree::write_tree;
 
@@ -19,18 +17,6 @@ fn check(sheet: &[u8]) -> u32 {
     let expected = oracle::sheet::check(sheet);
     assert_eq!(number, expected, "{sheet:02x?}");
     number
-}
-
-/// A sheet with these entries (code, offset, length) and this body after them.
-fn raw(entries: &[(u16, u32, u32)], body: &[u8]) -> Vec<u8> {
-    let mut sheet = (entries.len() as u16).to_le_bytes().to_vec();
-    for (code, offset, length) in entries {
-        sheet.extend(code.to_le_bytes());
-        sheet.extend(offset.to_le_bytes());
-        sheet.extend(length.to_le_bytes());
-    }
-    sheet.extend(body);
-    sheet
 }
 
 /// Accepted sheets of one, two and three parts: P1, no marks, and a few samples.
@@ -130,12 +116,12 @@ fn with_field(sheet: &[u8], (at, width): (usize, usize), choice: u32) -> Vec<u8>
 #[test]
 fn every_field_of_the_contents_and_every_two() {
     let (p1, none) = (scheduled(&P1), scheduled(&[]));
-    let mut numbers = BTreeMap::new();
+    let mut numbers = Tally::default();
     for sheet in [&p1, &none] {
         for first in fields(3) {
             for choice in 0..14 {
                 let once = with_field(sheet, first, choice);
-                *numbers.entry(check(&once)).or_insert(0) += 1;
+                numbers.add(check(&once));
                 for second in fields(3) {
                     for choice in 0..14 {
                         check(&with_field(&once, second, choice));
@@ -144,13 +130,13 @@ fn every_field_of_the_contents_and_every_two() {
             }
         }
     }
-    assert!((0..=3).all(|number| numbers[&number] > 5), "{numbers:?}");
+    numbers.assert_reached(0..=3, 5);
 }
 
 #[test]
 fn ends_that_wrap_are_no_ends() {
     let body = write_marks(&P1);
-    let number = |entries: &[(u16, u32, u32)]| check(&raw(entries, &body));
+    let number = |entries: &[(u16, u32, u32)]| check(&raw_sheet(entries, &body));
     for missing in [1, 10, 11, 22, 32, 33, 44, 54, 1 << 16, 1 << 31] {
         // In 32 bits a body of this length ends so many bytes before it starts.
         let long = 0_u32.wrapping_sub(missing);
@@ -169,7 +155,7 @@ fn ends_that_wrap_are_no_ends() {
         }
     }
     let last = [(1, 32, 0), (2, 32, 5), (3, 37, u32::MAX - 4)];
-    assert_eq!(check(&raw(&last, &[])), 3);
+    assert_eq!(check(&raw_sheet(&last, &[])), 3);
 }
 
 #[test]
@@ -247,7 +233,7 @@ fn records_near(marks: &[Mark], mark: usize, other: usize) -> Vec<Record> {
 
 #[test]
 fn records_for_every_mark_that_nearly_fit() {
-    let mut numbers = BTreeMap::new();
+    let mut numbers = Tally::default();
     for (seed, shape) in (0..12).flat_map(|seed| Shape::ALL.map(|shape| (seed, shape))) {
         let sample = marks(shape, 5, seed);
         let ours = schedule_in_rank_order(&sample);
@@ -256,9 +242,7 @@ fn records_for_every_mark_that_nearly_fit() {
             for other in 0..sample.len() {
                 for record in records_near(&sample, mark, other) {
                     records[mark] = record;
-                    *numbers
-                        .entry(check(&three_parts(&sample, &records)))
-                        .or_insert(0) += 1;
+                    numbers.add(check(&three_parts(&sample, &records)));
                 }
             }
             for eliminator in [0, 4, 5, 6, 256, 4_096, 65_534, 65_535] {
@@ -270,7 +254,7 @@ fn records_for_every_mark_that_nearly_fit() {
             }
         }
     }
-    assert!(numbers[&0] > 300 && numbers[&8] > 20_000, "{numbers:?}");
+    numbers.assert_reached([0, 8], 300);
 }
 
 #[test]
@@ -294,15 +278,6 @@ fn a_record_for_a_mark_that_goes_at_the_same_value_or_before() {
         let earlier = value(1, 2).compare(value(0, 1)).is_lt();
         let number = check(&three_parts(&sample, &records));
         assert_eq!(number, if earlier { 0 } else { 8 }, "{x} {radius}");
-    }
-}
-
-/// Calls `visit` with all lists of `length` numbers from the choice.
-fn each_list(choice: &[u16], length: u32, visit: &mut impl FnMut(&[u16])) {
-    for code in 0..choice.len().pow(length) {
-        let places = (0..length).map(|at| code / choice.len().pow(at));
-        let list: Vec<u16> = places.map(|place| choice[place % choice.len()]).collect();
-        visit(&list);
     }
 }
 
@@ -354,12 +329,12 @@ fn trees_with_two_numbers_exchanged() {
 #[test]
 fn many_sheets_with_a_few_faults() {
     let mut generator = Generator::new(2);
-    let mut numbers = BTreeMap::new();
+    let mut numbers = Tally::default();
     for _ in 0..100_000 {
         let sheet = some_sheet(&mut generator);
-        *numbers.entry(check(&sheet)).or_insert(0) += 1;
+        numbers.add(check(&sheet));
     }
-    assert!((0..=9).all(|number| numbers[&number] > 500), "{numbers:?}");
+    numbers.assert_reached(0..=9, 500);
 }
 
 #[test]

@@ -2,10 +2,10 @@
 
 mod common;
 
-use common::{one_part, scheduled, three_parts, P1};
+use common::{one_part, scheduled, three_parts};
 use oracle::fraction::Removal;
 use oracle::process::schedule_in_rank_order;
-use oracle::sample::{marks, Shape};
+use oracle::sample::{marks, Shape, P1};
 use rollmap::{marks_to_vec, Mark, Record};
 
 /// A mark of the oracle as the bindings have it.

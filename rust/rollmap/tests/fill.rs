@@ -2,9 +2,10 @@
 
 mod common;
 
-use std::collections::BTreeMap;
-
-use common::{bodies_of, number, one_part, some_marks, some_sheet, Lent};
+use common::{
+    bodies_of, damage_rows, number, one_part, some_marks, some_room, some_sheet, turn, Tally,
+    FAULTS_OF_A_MARK,
+};
 use oracle::fill::old_radius;
 use oracle::mark::{read_marks, write_marks, Mark};
 use oracle::process::schedule_in_rank_order;
@@ -12,7 +13,7 @@ use oracle::record::{write_records, Record};
 use oracle::sample::{marks, Generator, Shape};
 use oracle::sheet::{join, split};
 use oracle::tree;
-use rollmap::Refusal;
+use rollmap::{Refusal, MARK_BYTES};
 
 /// Two moisture patches with the house radius.
 const PATCHES: [Mark; 2] = [patch(0, 100, 9), patch(100, 149, 5)];
@@ -27,21 +28,8 @@ const fn patch(x: i16, kind: u8, priority: u16) -> Mark {
 /// Fills marks in a buffer of so many bytes, and sees that the answer and every byte
 /// are the oracle's. Answers the number.
 fn fill(part_1: &[u8], out_length: usize, seed: u64) -> u32 {
-    let mut out = Lent::new(out_length, seed);
-    let mut lent = Lent::holding(part_1, seed >> 3);
-    let answer = rollmap::fill(lent.slice(), out.slice());
-    match oracle::fill::fill(part_1, out_length) {
-        Ok(filled) => {
-            assert_eq!(answer, Ok(filled.len()));
-            out.assert_written(&filled);
-        }
-        Err(expected) => {
-            assert_eq!(number(&answer), expected, "{part_1:02x?}");
-            out.assert_untouched();
-        }
-    }
-    lent.assert_untouched();
-    number(&answer)
+    let expected = oracle::fill::fill;
+    turn(rollmap::fill, expected, part_1, out_length, seed)
 }
 
 /// Marks of all kinds, about half of them with radius 0.
@@ -121,35 +109,14 @@ fn the_kind_is_asked_before_the_radius_mark_by_mark() {
 #[test]
 fn many_marks_with_a_few_faults() {
     let mut generator = Generator::new(31);
-    let mut numbers = BTreeMap::new();
+    let mut numbers = Tally::default();
     for seed in 0..40_000 {
         let mut part_1 = write_marks(&half_written(&mut generator));
-        let length = part_1.len();
-        match generator.below(8) {
-            0 => part_1.truncate(length.saturating_sub(1 + generator.below(11) as usize)),
-            1 => part_1.resize(length + 1 + generator.below(11) as usize, 0),
-            2 | 3 if length > 0 => {
-                let mark = generator.below(length as u32 / 11) as usize;
-                let (field, value) = generator.choose(&[(5, 0x40), (5, 0xff), (8, 200), (8, 255)]);
-                part_1[11 * mark + field] = value;
-            }
-            4 if length > 0 => {
-                let at = generator.below(length as u32) as usize;
-                part_1[at] ^= 1 << generator.below(8);
-            }
-            _ => {}
-        }
-        let room = match generator.below(6) {
-            0 => part_1.len().saturating_sub(1),
-            1 => generator.below(100) as usize,
-            2 => part_1.len() + generator.below(40) as usize,
-            _ => part_1.len(),
-        };
-        *numbers.entry(fill(&part_1, room, seed)).or_insert(0) += 1;
+        damage_rows(&mut generator, &mut part_1, MARK_BYTES, &FAULTS_OF_A_MARK);
+        let room = some_room(&mut generator, part_1.len());
+        numbers.add(fill(&part_1, room, seed));
     }
-    let reached = [0, 4, 5, 6, 13];
-    assert!(reached.iter().all(|n| numbers[n] > 100), "{numbers:?}");
-    assert_eq!(numbers.len(), reached.len(), "{numbers:?}");
+    numbers.assert_reached([0, 4, 5, 6, 13], 100);
 }
 
 #[test]
@@ -206,11 +173,11 @@ fn an_old_sheet_of_two_patches_is_rescued() {
 #[test]
 fn old_sheets_meet_8_or_pass_and_are_rescued_with_their_schedule() {
     let mut generator = Generator::new(33);
-    let mut numbers = BTreeMap::new();
+    let mut numbers = Tally::default();
     for _ in 0..3_000 {
         let sample = half_written(&mut generator);
         let old = old_sheet(&sample);
-        *numbers.entry(number(&rollmap::check(&old))).or_insert(0) += 1;
+        numbers.add(number(&rollmap::check(&old)));
         let sheet = rollmap::rescue(&old).expect("its marks are taken");
         assert_eq!(Ok(&sheet), oracle::fill::rescue(&old).as_ref());
         let scheduled = rollmap::schedule_to_vec(&sheet).expect("it is accepted");
@@ -220,14 +187,13 @@ fn old_sheets_meet_8_or_pass_and_are_rescued_with_their_schedule() {
             [2, 3].map(|code| old.get(code))
         );
     }
-    assert!(numbers.keys().eq(&[0, 8]), "{numbers:?}");
-    assert!(numbers.values().all(|&times| times > 300), "{numbers:?}");
+    numbers.assert_reached([0, 8], 300);
 }
 
 #[test]
 fn a_rescue_asks_1_to_6() {
     let mut generator = Generator::new(34);
-    let mut numbers = BTreeMap::new();
+    let mut numbers = Tally::default();
     for _ in 0..40_000 {
         let sheet = some_sheet(&mut generator);
         let rescued = rollmap::rescue(&sheet);
@@ -235,11 +201,9 @@ fn a_rescue_asks_1_to_6() {
             Ok(expected) => assert_eq!(rescued.as_ref(), Ok(&expected)),
             Err(expected) => assert_eq!(number(&rescued), expected, "{sheet:02x?}"),
         }
-        *numbers.entry(number(&rescued)).or_insert(0) += 1;
+        numbers.add(number(&rescued));
     }
-    let reached = [0, 1, 2, 3, 4, 5, 6];
-    assert!(reached.iter().all(|n| numbers[n] > 50), "{numbers:?}");
-    assert_eq!(numbers.len(), reached.len(), "{numbers:?}");
+    numbers.assert_reached(0..=6, 50);
 }
 
 #[test]

@@ -2,8 +2,9 @@
 
 mod common;
 
-use common::{one_part, P1};
+use common::one_part;
 use oracle::mark::{house_radius, Mark};
+use oracle::sample::P1;
 use rollmap::schedule_to_vec;
 
 const FORMAT: &str = include_str!("../../../docs/FORMAT.md");

@@ -5,17 +5,14 @@ mod common;
 use std::io::Write;
 use std::process::{Command, Stdio};
 
-use common::{one_part, three_parts, P1};
-use oracle::fraction::{Fraction, Removal};
+use common::{one_part, three_parts, PROGRAM};
 use oracle::mark::{read_marks, touching_value, Mark};
-use oracle::record::Record;
-use oracle::sample::{marks, Shape};
-use oracle::view::{reaches, Edges};
+use oracle::record::{read_records, removals, Record};
+use oracle::sample::{marks, Shape, P1};
+use oracle::view::{map_and_count, Edges};
 use rollmap::{map_bytes, schedule_to_vec, view_to_map, Refusal, View, Zoom};
 
 const GUARDS: &str = include_str!("../../../docs/GUARDS.md");
-
-const PROGRAM: &str = concat!(env!("CARGO_MANIFEST_DIR"), "/../../target/bin/schedule");
 
 /// The sheet of these marks as scheduling writes it.
 fn scheduled(marks: &[Mark]) -> Vec<u8> {
@@ -314,35 +311,27 @@ fn the_printed_zoom_is_rounded_down() {
 
 // ---- the overview
 
-/// The marks that live at k / 64 and whose disks reach the rectangle, by looking at
-/// each.
-fn scan(marks: &[Mark], removals: &[Removal], view: View, k: u32) -> Vec<u32> {
-    let zoom = Fraction::new(u64::from(k) * u64::from(k), 4_096);
-    let View { x0, x1, y0, y1, .. } = view;
-    let edges = Edges { x0, x1, y0, y1 };
-    let numbers = 0..marks.len();
-    let shown = numbers.filter(|&m| reaches(&marks[m], edges, k) && removals[m].later_than(zoom));
-    shown.map(|m| m as u32).collect()
-}
-
 #[test]
 fn a_view_is_the_full_scan() {
     for shape in Shape::ALL {
         let marks = marks(shape, 300, 7);
         let sheet = scheduled(&marks);
-        let records = oracle::record::read_records(rollmap::part(&sheet, 2).unwrap());
-        let removals = oracle::record::removals(&records);
+        let removals = removals(&read_records(rollmap::part(&sheet, 2).unwrap()));
         for k in [1, 17, 64, 1_000, 65_536] {
             for (low, high) in [(i16::MIN, i16::MAX), (-5_000, 5_000), (0, 0)] {
+                let (x0, x1, y0, y1) = (low, high, low, high);
+                let zoom = wheel(k);
                 let view = View {
-                    x0: low,
-                    x1: high,
-                    y0: low,
-                    y1: high,
-                    zoom: wheel(k),
+                    x0,
+                    x1,
+                    y0,
+                    y1,
+                    zoom,
                 };
                 let map = view_to_map(&sheet, view).unwrap();
-                assert!(map.iter().eq(scan(&marks, &removals, view, k)));
+                let edges = Edges { x0, x1, y0, y1 };
+                let (scanned, _) = map_and_count(&marks, &removals, edges, k);
+                assert_eq!(map.as_bytes(), scanned);
             }
         }
         let mut wrong = sheet.clone();

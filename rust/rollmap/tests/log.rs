@@ -2,37 +2,11 @@
 
 mod common;
 
-use std::collections::BTreeMap;
-
-use common::{number, some_marks, Lent};
+use common::{damage_rows, some_marks, some_room, turn, Tally, FAULTS_OF_A_MARK};
 use oracle::log::write_packed;
 use oracle::mark::{write_marks, Mark};
 use oracle::sample::{marks, Generator, Shape};
-use rollmap::{Refusal, LOG_RECORD_BYTES};
-
-/// What a turn answers for its input and a buffer of so many bytes.
-type Turn = fn(&[u8], &mut [u8]) -> Result<usize, Refusal>;
-type Expected = fn(&[u8], usize) -> Result<Vec<u8>, u32>;
-
-/// Turns some bytes in a buffer of so many bytes, and sees that the answer and every
-/// byte are the oracle's. Answers the number.
-fn turn(turn: Turn, expected: Expected, given: &[u8], out_length: usize, seed: u64) -> u32 {
-    let mut out = Lent::new(out_length, seed);
-    let mut lent = Lent::holding(given, seed >> 3);
-    let answer = turn(lent.slice(), out.slice());
-    match expected(given, out_length) {
-        Ok(written) => {
-            assert_eq!(answer, Ok(written.len()));
-            out.assert_written(&written);
-        }
-        Err(expected) => {
-            assert_eq!(number(&answer), expected, "{given:02x?}");
-            out.assert_untouched();
-        }
-    }
-    lent.assert_untouched();
-    number(&answer)
-}
+use rollmap::{LOG_RECORD_BYTES, MARK_BYTES};
 
 fn log_to_marks(log: &[u8], out_length: usize, seed: u64) -> u32 {
     let expected = oracle::log::log_to_marks;
@@ -83,19 +57,18 @@ fn coordinates_of_many_bytes() {
         0x00, 0x01, 0x09, 0x0a, 0x0c, 0x0d, 0x0f, 0x10, 0x1c, 0x32, 0x67, 0x76, 0x7c, 0x7d, 0x8c,
         0x8d, 0x8e, 0x90, 0x99, 0x9b, 0x9c, 0x9d, 0x9e, 0xa0, 0xc9, 0xdc, 0xff,
     ];
-    let mut numbers = BTreeMap::new();
+    let mut numbers = Tally::default();
     for a in bytes {
         for b in bytes {
             for c in bytes {
                 for (x, y) in [([a, b, c], TAKEN), (TAKEN, [a, b, c])] {
                     let number = log_to_marks(&record(x, y, 0, 1), 11, u64::from(c));
-                    *numbers.entry(number).or_insert(0) += 1;
+                    numbers.add(number);
                 }
             }
         }
     }
-    assert!(numbers.keys().eq(&[0, 15, 16]), "{numbers:?}");
-    assert!(numbers.values().all(|&times| times > 500), "{numbers:?}");
+    numbers.assert_reached([0, 15, 16], 500);
 }
 
 #[test]
@@ -183,40 +156,11 @@ fn the_most_records() {
     assert_eq!(marks_to_log(&one_more, 1 << 17, 6), 4);
 }
 
-/// Puts a fault into a log or marks, most often.
-fn damage(generator: &mut Generator, bytes: &mut Vec<u8>, width: usize, fields: &[(usize, u8)]) {
-    let length = bytes.len();
-    match generator.below(8) {
-        0 => bytes.truncate(length.saturating_sub(1 + generator.below(13) as usize)),
-        1 => bytes.resize(length + 1 + generator.below(13) as usize, 0),
-        2 | 3 if length > 0 => {
-            let row = generator.below((length / width) as u32) as usize;
-            let (field, value) = generator.choose(fields);
-            bytes[width * row + field] = value;
-        }
-        4 | 5 if length > 0 => {
-            let at = generator.below(length as u32) as usize;
-            bytes[at] ^= 1 << generator.below(8);
-        }
-        _ => {}
-    }
-}
-
-/// A room near what is needed.
-fn some_room(generator: &mut Generator, needed: usize) -> usize {
-    match generator.below(6) {
-        0 => needed.saturating_sub(1),
-        1 => generator.below(100) as usize,
-        2 => needed + generator.below(40) as usize,
-        _ => needed,
-    }
-}
-
 #[test]
 fn many_logs_and_marks_with_a_few_faults() {
     let mut generator = Generator::new(41);
-    let mut numbers = [BTreeMap::new(), BTreeMap::new()];
-    let in_log = [
+    let (mut of_logs, mut of_marks) = (Tally::default(), Tally::default());
+    let faults = [
         (2, 0x0d),
         (5, 0x9a),
         (0, 0x99),
@@ -224,26 +168,20 @@ fn many_logs_and_marks_with_a_few_faults() {
         (7, 0x40),
         (10, 200),
     ];
-    let in_marks = [(5, 0x40), (5, 0xff), (8, 200), (8, 255)];
     for seed in 0..40_000 {
         let sample = some_marks(&mut generator);
         let (mut part_1, mut log) = (write_marks(&sample), log_of(&sample));
-        damage(&mut generator, &mut log, 13, &in_log);
-        damage(&mut generator, &mut part_1, 11, &in_marks);
-        let room = some_room(&mut generator, log.len() / 13 * 11);
-        let number = log_to_marks(&log, room, seed);
-        *numbers[0].entry(number).or_insert(0) += 1;
-        let room = some_room(&mut generator, part_1.len() / 11 * 13);
-        let number = marks_to_log(&part_1, room, seed);
-        *numbers[1].entry(number).or_insert(0) += 1;
+        damage_rows(&mut generator, &mut log, LOG_RECORD_BYTES, &faults);
+        damage_rows(&mut generator, &mut part_1, MARK_BYTES, &FAULTS_OF_A_MARK);
+        let needed = log.len() / LOG_RECORD_BYTES * MARK_BYTES;
+        let room = some_room(&mut generator, needed);
+        of_logs.add(log_to_marks(&log, room, seed));
+        let needed = part_1.len() / MARK_BYTES * LOG_RECORD_BYTES;
+        let room = some_room(&mut generator, needed);
+        of_marks.add(marks_to_log(&part_1, room, seed));
     }
-    for (numbers, reached) in numbers
-        .iter()
-        .zip([[0, 4, 5, 6, 13, 15, 16].as_slice(), &[0, 4, 5, 6, 13]])
-    {
-        assert!(numbers.keys().eq(reached), "{numbers:?}");
-        assert!(numbers.values().all(|&times| times > 100), "{numbers:?}");
-    }
+    of_logs.assert_reached([0, 4, 5, 6, 13, 15, 16], 100);
+    of_marks.assert_reached([0, 4, 5, 6, 13], 100);
 }
 
 #[test]

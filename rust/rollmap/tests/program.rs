@@ -10,13 +10,10 @@ use std::path::Path;
 use std::process::{Command, Output, Stdio};
 use std::thread;
 
-use common::{foreign_records, one_part, scheduled, some_sheet, three_parts, P1};
+use common::{foreign_records, one_part, scheduled, some_sheet, three_parts, PROGRAM};
 use oracle::mark::Mark;
 use oracle::report::{LONGEST_INPUT, MOST_PRINTED};
-use oracle::sample::{marks, Generator, Shape};
-
-/// The program, as `rt check schedule` builds it.
-const PROGRAM: &str = concat!(env!("CARGO_MANIFEST_DIR"), "/../../target/bin/schedule");
+use oracle::sample::{marks, Generator, Shape, P1};
 
 /// The sheet that `rt` runs the program on, and the text that it must write.
 const KEPT_RUN: &str = concat!(env!("CARGO_MANIFEST_DIR"), "/../../crates/schedule");

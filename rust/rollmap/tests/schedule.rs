@@ -2,16 +2,13 @@
 
 mod common;
 
-use std::collections::BTreeMap;
-
 use common::{
-    bodies_of, foreign_records, joined, number, one_part, scheduled, some_sheet, Lent, P1,
+    bodies_of, foreign_records, joined, number, one_part, scheduled, some_sheet, Lent, Tally,
 };
-use oracle::fraction::Fraction;
 use oracle::mark::Mark;
 use oracle::process::{schedule_by_process, schedule_by_sorted_pairs};
 use oracle::record::{read_records, Record};
-use oracle::sample::{marks, small_choice, Generator, Shape};
+use oracle::sample::{marks, small_choice, Generator, Shape, P1};
 use oracle::tree::read_tree;
 use rollmap::{schedule_to_vec, scheduled_bytes, work_bytes, Work};
 
@@ -51,34 +48,33 @@ fn records(marks: &[Mark]) -> Vec<Record> {
     read_records(rollmap::part(&sheet, 2).unwrap())
 }
 
-fn record(eliminator: usize, numerator: u64, denominator: u32) -> Record {
-    Record::removed(eliminator, Fraction::new(numerator, denominator))
-}
-
 #[test]
 fn proved_examples() {
     let p1 = [
         Record::NEVER,
-        record(0, 10_000, 400),
-        record(0, 40_000, 400),
-        record(0, 9, 225),
+        Record::new(0, 10_000, 400),
+        Record::new(0, 40_000, 400),
+        Record::new(0, 9, 225),
     ];
     assert_eq!(records(&P1), p1);
     let sheet = schedule_to_vec(&one_part(&P1)).unwrap();
     assert_eq!(read_tree(rollmap::part(&sheet, 3).unwrap()), [0, 1, 3, 2]);
     let p5 = [Mark::plain(7, 7, 1, 5), Mark::plain(7, 7, 1, 5)];
-    assert_eq!(records(&p5), [Record::NEVER, record(0, 0, 4)]);
+    assert_eq!(records(&p5), [Record::NEVER, Record::new(0, 0, 4)]);
     let p6 = [
         Mark::plain(-32_768, -32_768, 1, 0),
         Mark::plain(32_767, 32_767, 1, 0),
     ];
-    assert_eq!(records(&p6), [Record::NEVER, record(0, 8_589_672_450, 4)]);
+    assert_eq!(
+        records(&p6),
+        [Record::NEVER, Record::new(0, 8_589_672_450, 4)]
+    );
     let p11 = [
         Mark::plain(60, 0, 2, 5),
         Mark::plain(-100, 0, 10, 9),
         Mark::plain(0, 0, 10, 1),
     ];
-    assert_eq!(records(&p11)[2], record(1, 10_000, 400));
+    assert_eq!(records(&p11)[2], Record::new(1, 10_000, 400));
     assert_eq!(schedule_to_vec(&one_part(&[])).unwrap(), scheduled(&[]));
 }
 
@@ -241,7 +237,7 @@ fn lengths_of_both_buffers() {
 #[test]
 fn refused_sheets_write_nothing() {
     let mut generator = Generator::new(25);
-    let mut numbers = BTreeMap::new();
+    let mut numbers = Tally::default();
     for _ in 0..20_000 {
         let sheet = some_sheet(&mut generator);
         let refused = match oracle::sheet::check(&sheet) {
@@ -257,9 +253,9 @@ fn refused_sheets_write_nothing() {
             }
             Err(number) => schedule_in(&sheet, 2_400, 1_200, Err(number)),
         };
-        *numbers.entry(number).or_insert(0) += 1;
+        numbers.add(number);
     }
-    assert!((0..=9).all(|number| numbers[&number] > 100), "{numbers:?}");
+    numbers.assert_reached(0..=9, 100);
 }
 
 #[test]

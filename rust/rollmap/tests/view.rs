@@ -2,18 +2,16 @@
 
 mod common;
 
-use std::collections::BTreeMap;
-
 use common::{
     foreign_records, number, one_part, scheduled, some_marks, some_records, some_sheet,
-    three_parts, Lent, P1,
+    three_parts, Lent, Tally,
 };
 use oracle::fraction::Removal;
 use oracle::mark::Mark;
 use oracle::process::schedule_in_rank_order;
 use oracle::record::{removals, Record};
 use oracle::report::removal_zoom_in_64ths;
-use oracle::sample::{marks, Generator, Shape};
+use oracle::sample::{marks, Generator, Shape, P1};
 use oracle::view::{is_set, map_and_count, map_bytes, zoom_in_64ths, Edges};
 use rollmap::{View, Zoom};
 
@@ -285,17 +283,16 @@ fn a_stop_and_its_wheel_value_give_the_same() {
 #[test]
 fn a_stop_and_its_wheel_value_give_the_same_of_any_sheet() {
     let mut generator = Generator::new(49);
-    let mut numbers = BTreeMap::new();
+    let mut numbers = Tally::default();
     for _ in 0..6_000 {
         let sheet = some_sheet(&mut generator);
         let small = anywhere(&mut generator);
         let rectangle = generator.choose(&[WHOLE, small]);
         let length = generator.choose(&[0, 1, 6, 6]);
         let number = stops_and_wheel_values(&sheet, rectangle, length);
-        *numbers.entry(number).or_insert(0) += 1;
+        numbers.add(number);
     }
-    let reached = (0..=10).chain([13]);
-    assert!(reached.into_iter().all(|n| numbers[&n] > 20), "{numbers:?}");
+    numbers.assert_reached((0..=10).chain([13]), 20);
 }
 
 #[test]
@@ -389,7 +386,7 @@ fn every_rectangle_about_the_places_of_a_few_marks() {
         near([0, 100, i16::MAX, i16::MIN]),
         near([0, 3, i16::MIN, 50]),
     );
-    let mut numbers = BTreeMap::new();
+    let mut numbers = Tally::default();
     for (&x0, &x1) in xs.iter().flat_map(|x0| xs.iter().map(move |x1| (x0, x1))) {
         for (&y0, &y1) in ys.iter().flat_map(|y0| ys.iter().map(move |y1| (y0, y1))) {
             let zoom = Zoom::Stop(5);
@@ -405,10 +402,10 @@ fn every_rectangle_about_the_places_of_a_few_marks() {
                 1,
             );
             assert_eq!(number, if x0 <= x1 && y0 <= y1 { 0 } else { 11 });
-            *numbers.entry(number).or_insert(0) += 1;
+            numbers.add(number);
         }
     }
-    assert!(numbers[&0] > 5_000 && numbers[&11] > 5_000, "{numbers:?}");
+    numbers.assert_reached([0, 11], 5_000);
 }
 
 #[test]
@@ -556,7 +553,7 @@ fn the_largest_sheets() {
 #[test]
 fn refused_sheets_write_nothing() {
     let mut generator = Generator::new(46);
-    let mut numbers = BTreeMap::new();
+    let mut numbers = Tally::default();
     for _ in 0..30_000 {
         let sheet = some_sheet(&mut generator);
         let small = anywhere(&mut generator);
@@ -565,13 +562,9 @@ fn refused_sheets_write_nothing() {
             ..generator.choose(&[WHOLE, small])
         };
         let number = view(&sheet, asked, generator.choose(&[0, 1, 6, 6, 6]));
-        *numbers.entry(number).or_insert(0) += 1;
+        numbers.add(number);
     }
-    let reached = (0..=10).chain([13]);
-    assert!(
-        reached.into_iter().all(|n| numbers[&n] > 100),
-        "{numbers:?}"
-    );
+    numbers.assert_reached((0..=10).chain([13]), 100);
 }
 
 #[test]

@@ -3,6 +3,8 @@
 
 #![allow(dead_code)]
 
+use std::collections::BTreeMap;
+
 use oracle::fraction::Fraction;
 use oracle::mark::{rank_order, touching_value, write_marks, Mark};
 use oracle::process::schedule_in_rank_order;
@@ -10,21 +12,35 @@ use oracle::record::{write_records, Record};
 use oracle::sample::{marks, Generator, Shape};
 use oracle::sheet::join;
 use oracle::tree;
-use rollmap::Refusal;
+use rollmap::{Refusal, MARK_BYTES};
 
-/// The marks of P1.
-pub const P1: [Mark; 4] = [
-    Mark::plain(0, 0, 10, 9),
-    Mark::plain(100, 0, 10, 5),
-    Mark::plain(200, 0, 10, 5),
-    Mark::plain(0, 3, 5, 1),
-];
+/// The program, as `rt check schedule` builds it.
+pub const PROGRAM: &str = concat!(env!("CARGO_MANIFEST_DIR"), "/../../target/bin/schedule");
 
 /// The number of an answer: 0, or the refusal's.
 pub fn number<T>(answer: &Result<T, Refusal>) -> u32 {
     match answer {
         Ok(_) => 0,
         Err(refusal) => refusal.number(),
+    }
+}
+
+/// How often each number was answered.
+#[derive(Default)]
+pub struct Tally(BTreeMap<u32, usize>);
+
+impl Tally {
+    /// Counts one answer.
+    pub fn add(&mut self, number: u32) {
+        *self.0.entry(number).or_default() += 1;
+    }
+
+    /// Asserts that these numbers were answered, no others, and each of them more than
+    /// so many times.
+    pub fn assert_reached(&self, numbers: impl IntoIterator<Item = u32>, times: usize) {
+        let Self(tally) = self;
+        assert!(tally.keys().copied().eq(numbers), "{tally:?}");
+        assert!(tally.values().all(|&count| count > times), "{tally:?}");
     }
 }
 
@@ -88,6 +104,54 @@ impl Lent {
         let end = self.start + self.length;
         assert!(self.bytes[..self.start] == self.before[..self.start]);
         assert!(self.bytes[end..] == self.before[end..]);
+    }
+}
+
+/// What a call answers that writes bytes, and what the oracle says that it writes.
+pub type Written = Result<usize, Refusal>;
+pub type Expected = Result<Vec<u8>, u32>;
+
+impl Lent {
+    /// Asserts that a call answered what the oracle says and wrote that to the buffer, or
+    /// nothing where it was refused. Answers the number.
+    pub fn assert_answered(&self, answer: &Written, expected: &Expected) -> u32 {
+        match expected {
+            Ok(written) => {
+                assert_eq!(*answer, Ok(written.len()));
+                self.assert_written(written);
+            }
+            Err(refused) => {
+                assert_eq!(number(answer), *refused);
+                self.assert_untouched();
+            }
+        }
+        number(answer)
+    }
+}
+
+/// Turns some bytes in a buffer of so many bytes by a call, and sees that the answer and
+/// every byte are the oracle's. Answers the number.
+pub fn turn(
+    call: fn(&[u8], &mut [u8]) -> Written,
+    expected: fn(&[u8], usize) -> Expected,
+    given: &[u8],
+    out_length: usize,
+    seed: u64,
+) -> u32 {
+    let mut out = Lent::new(out_length, seed);
+    let mut lent = Lent::holding(given, seed >> 3);
+    let answer = call(lent.slice(), out.slice());
+    lent.assert_untouched();
+    out.assert_answered(&answer, &expected(given, out_length))
+}
+
+/// A length near the one that is needed.
+pub fn some_room(generator: &mut Generator, needed: usize) -> usize {
+    match generator.below(6) {
+        0 => needed.saturating_sub(1),
+        1 => generator.below(100) as usize,
+        2 => needed + generator.below(40) as usize,
+        _ => needed,
     }
 }
 
@@ -222,12 +286,12 @@ pub fn odd_number(generator: &mut Generator, own: u64) -> u64 {
 
 /// Up to three bodies of a sheet, some of them damaged in some way. Further bodies
 /// than `parts` may be there.
-pub struct Bodies {
+pub struct SomeBodies {
     pub parts: usize,
     pub bodies: [Vec<u8>; 3],
 }
 
-impl Bodies {
+impl SomeBodies {
     /// Bodies with none, one or two faults.
     pub fn draw(generator: &mut Generator) -> Self {
         let marks = some_marks(generator);
@@ -250,6 +314,37 @@ impl Bodies {
     }
 }
 
+/// Bytes of a mark by which its radius or its kind is refused.
+pub const FAULTS_OF_A_MARK: [(usize, u8); 4] = [(5, 0x40), (5, 0xff), (8, 200), (8, 255)];
+
+/// Puts a fault into rows of some width, most often: into their length, a field of one of
+/// them, or any bit.
+pub fn damage_rows(
+    generator: &mut Generator,
+    rows: &mut Vec<u8>,
+    width: usize,
+    faults: &[(usize, u8)],
+) {
+    let length = rows.len();
+    match generator.below(8) {
+        0 => rows.truncate(length.saturating_sub(1 + generator.below(13) as usize)),
+        1 => rows.resize(length + 1 + generator.below(13) as usize, 0),
+        2 | 3 if length > 0 => put_fault(generator, rows, width, faults),
+        4 | 5 if length > 0 => {
+            let at = generator.below(length as u32) as usize;
+            rows[at] ^= 1 << generator.below(8);
+        }
+        _ => {}
+    }
+}
+
+/// Puts a fault into a field of one of the rows, of which there is at least one.
+fn put_fault(generator: &mut Generator, rows: &mut [u8], width: usize, faults: &[(usize, u8)]) {
+    let row = generator.below((rows.len() / width) as u32) as usize;
+    let (field, value) = generator.choose(faults);
+    rows[width * row + field] = value;
+}
+
 /// Puts one fault into one of the bodies.
 fn damage_body(generator: &mut Generator, bodies: &mut [Vec<u8>; 3]) {
     let body = generator.choose(&[0, 1, 2, 2]);
@@ -264,10 +359,8 @@ fn damage_body(generator: &mut Generator, bodies: &mut [Vec<u8>; 3]) {
             let at = generator.below(length as u32) as usize;
             bodies[body][at] = generator.choose(&[0, 1, 2, 3, 64, 199, 200, 255]);
         }
-        4 if bodies[0].len() >= 11 => {
-            let mark = generator.below(bodies[0].len() as u32 / 11) as usize;
-            let (field, value) = generator.choose(&[(5, 0x40), (5, 0xff), (8, 200), (8, 255)]);
-            bodies[0][11 * mark + field] = value;
+        4 if bodies[0].len() >= MARK_BYTES => {
+            put_fault(generator, &mut bodies[0], MARK_BYTES, &FAULTS_OF_A_MARK);
         }
         _ => damage_tree(generator, &mut bodies[2]),
     }
@@ -291,7 +384,7 @@ fn damage_tree(generator: &mut Generator, body: &mut [u8]) {
 
 /// A sheet with none, one or a few faults anywhere.
 pub fn some_sheet(generator: &mut Generator) -> Vec<u8> {
-    let mut sheet = Bodies::draw(generator).sheet();
+    let mut sheet = SomeBodies::draw(generator).sheet();
     match generator.below(12) {
         0 => sheet.truncate(generator.below(sheet.len() as u32) as usize),
         1 => sheet.extend(vec![0; 1 + generator.below(20) as usize]),
