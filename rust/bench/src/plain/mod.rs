@@ -11,3 +11,6 @@ pub mod schedule;
 pub mod sheet;
 pub mod value;
 pub mod view;
+
+#[cfg(test)]
+mod tests;

@@ -1,0 +1,154 @@
+//! What is raced against the library does the same jobs: all it answers and writes is
+//! the oracle's.
+
+use oracle::label::Label;
+use oracle::mark::{write_marks, Mark};
+use oracle::process::schedule_in_rank_order;
+use oracle::record::write_records;
+use oracle::sample::{marks, Generator, Shape};
+use oracle::sheet::{check, join};
+use oracle::tree;
+use oracle::view::{map_bytes, Edges, Zoom};
+
+use super::schedule::Desk;
+use super::sheet::open;
+use super::view::{view, walk};
+
+/// The sheet of one part with these marks, and the scheduled one.
+fn sheets(marks: &[Mark]) -> [Vec<u8>; 2] {
+    let records = schedule_in_rank_order(marks);
+    let (part_1, part_2) = (write_marks(marks), write_records(&records));
+    let part_3 = tree::write_tree(&tree::build(marks, &records));
+    [join(&[&part_1]), join(&[&part_1, &part_2, &part_3])]
+}
+
+#[test]
+fn every_core_writes_the_scheduled_sheet() {
+    let cores = [
+        Desk::schedule,
+        Desk::schedule_by_cells,
+        Desk::schedule_by_pairs,
+    ];
+    let mut desk = Desk::default();
+    for shape in Shape::ALL {
+        for n in [0, 1, 2, 9, 64, 255, 256, 700] {
+            let [sheet, expected] = sheets(&marks(shape, n, n as u64));
+            for core in cores {
+                let mut out = vec![0xee; expected.len()];
+                assert_eq!(core(&mut desk, &sheet, &mut out), Ok(expected.len()));
+                assert!(out == expected, "{shape:?} {n}");
+                assert_eq!(core(&mut desk, &sheet, &mut out[1..]), Err(13));
+            }
+        }
+    }
+}
+
+/// The number of a sheet, once the oracle is seen to give it too.
+fn opened(sheet: &[u8]) -> u32 {
+    let number = open(sheet).err().unwrap_or(0);
+    assert_eq!(number, check(sheet), "{sheet:02x?}");
+    number
+}
+
+#[test]
+fn sheets_with_a_byte_changed_or_cut_short_are_refused_by_the_same_question() {
+    for shape in Shape::ALL {
+        for mut sheet in sheets(&marks(shape, 6, 3)) {
+            assert_eq!(opened(&sheet), 0);
+            for at in 0..sheet.len() {
+                let own = sheet[at];
+                for value in [0, 1, 2, 3, 5, 11, 64, 200, 255, own ^ 1, own ^ 128] {
+                    sheet[at] = value;
+                    opened(&sheet);
+                }
+                sheet[at] = own;
+                assert_ne!(opened(&sheet[..at]), 0);
+            }
+            sheet.push(0);
+            assert_eq!(opened(&sheet), 3);
+        }
+    }
+}
+
+#[test]
+fn trees_with_two_numbers_exchanged_are_refused() {
+    let n = 40;
+    for shape in Shape::ALL {
+        let [_, mut sheet] = sheets(&marks(shape, n, 4));
+        let start = sheet.len() - 2 * n;
+        for a in 0..n {
+            for b in 0..a {
+                // The numbers are below 256.
+                sheet.swap(start + 2 * a, start + 2 * b);
+                assert_eq!(opened(&sheet), 9);
+                sheet.swap(start + 2 * a, start + 2 * b);
+            }
+        }
+    }
+}
+
+/// A small rectangle about as far from some mark as its label reaches at a stop, or
+/// nearer; or one of which the edges are crossed.
+fn some_edges(generator: &mut Generator, marks: &[Mark], stop: u8) -> Edges {
+    let Label { x, y, radius } = generator.choose(marks).label();
+    let reach = (radius << stop.min(16)) / 64 + 2;
+    let mut side = |place: i32| {
+        let away = generator.below(reach) as i32 * generator.choose(&[1, -1]);
+        let size = generator.choose(&[-1, 0, 5, 300, 300]);
+        let edge = |at: i32| at.clamp(i16::MIN.into(), i16::MAX.into()) as i16;
+        [edge(place + away), edge(place + away + size)]
+    };
+    let ([x0, x1], [y0, y1]) = (side(x), side(y));
+    Edges { x0, x1, y0, y1 }
+}
+
+#[test]
+fn views_show_what_looking_at_every_mark_shows() {
+    let mut generator = Generator::new(5);
+    let numbers = [1, 9, 100, 300];
+    for (shape, n) in Shape::ALL
+        .into_iter()
+        .flat_map(|shape| numbers.map(|n| (shape, n)))
+    {
+        let sample = marks(shape, n, 6);
+        let [bare, sheet] = sheets(&sample);
+        let compare = |sheet: &[u8], edges, stop| {
+            let zoom = Zoom::Stop(stop);
+            let mut map = vec![0xee; map_bytes(n)];
+            let answer = view(sheet, edges, zoom, &mut map);
+            let expected = oracle::view::view(sheet, edges, zoom, map.len());
+            assert_eq!(
+                answer.map(|count| (map, count)),
+                expected,
+                "{shape:?} {edges:?} {stop}"
+            );
+        };
+        for stop in 0..=17 {
+            compare(&bare, Edges::WHOLE, stop);
+            compare(&sheet, Edges::WHOLE, stop);
+            for _ in 0..50 {
+                compare(&sheet, some_edges(&mut generator, &sample, stop), stop);
+            }
+        }
+    }
+    let [bare, empty] = sheets(&[]);
+    assert_eq!(view(&bare, Edges::WHOLE, Zoom::Stop(0), &mut []), Err(10));
+    assert_eq!(view(&empty, Edges::WHOLE, Zoom::Stop(0), &mut []), Ok(0));
+}
+
+#[test]
+fn walks_hand_out_the_set_bits() {
+    let mut generator = Generator::new(7);
+    for _ in 0..300 {
+        let bytes = generator.below(30) as usize;
+        let map: Vec<u8> = (0..bytes)
+            .map(|_| (generator.draw() & generator.draw() & generator.draw()) as u8)
+            .collect();
+        let n = generator.below(8 * bytes as u32 + 1);
+        for start in 0..=n {
+            let found = walk(&map, n as usize, start as usize);
+            let number = found.map_or(oracle::view::NO_MARK, |mark| mark as u32);
+            assert_eq!((0, number), oracle::view::walk(&map, n, start));
+        }
+    }
+}
