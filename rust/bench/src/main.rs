@@ -262,7 +262,7 @@ fn time_view(sheet: &[u8], rectangle: View, k: u32) -> ([usize; 2], [Micros; 3])
         zoom: Zoom::Wheel(wheel),
         ..rectangle
     };
-    let (edges, zoom) = (Edges { x0, x1, y0, y1 }, oracle::view::Zoom::Wheel(wheel));
+    let (edges, zoom) = (Edges { x0, x1, y0, y1 }, oracle::zoom::Zoom::Wheel(wheel));
     let mut map = vec![0; map_bytes(MOST)];
     let mut plain_map = map.clone();
     let count = rollmap::view(sheet, ours, &mut map);

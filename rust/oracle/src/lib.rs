@@ -23,6 +23,7 @@ pub mod fill;
 pub mod fraction;
 pub mod label;
 pub mod log;
+pub mod map;
 pub mod mark;
 pub mod process;
 pub mod record;
@@ -32,6 +33,7 @@ pub mod sample;
 pub mod sheet;
 pub mod tree;
 pub mod view;
+pub mod zoom;
 
 mod bytes;
 

@@ -1,9 +1,10 @@
 //! What the program `schedule` prints (01, 'The printed schedule').
 
-use crate::fraction::{Fraction, Removal};
+use crate::fraction::Removal;
 use crate::process::schedule_by_sorted_pairs;
 use crate::record::Record;
 use crate::sheet::open;
+use crate::zoom::removal_zoom_in_64ths;
 use crate::{ask, Refusal};
 
 /// The longest input the program takes.
@@ -43,39 +44,5 @@ fn line((number, record): (usize, &Record)) -> String {
             value.denominator,
             removal_zoom_in_64ths(value)
         ),
-    }
-}
-
-/// The removal zoom in 64ths, rounded down: the largest k with k² times the
-/// denominator at most 4096 times the numerator. It is found from its highest
-/// bit down; the denominator is above 0.
-pub fn removal_zoom_in_64ths(value: Fraction) -> u64 {
-    let fits = |k: u64| {
-        let square = u128::from(k) * u128::from(k);
-        square * u128::from(value.denominator) <= 4_096 * u128::from(value.numerator)
-    };
-    // The root of 4096 times the largest numerator has 38 bits.
-    (0..38)
-        .rev()
-        .map(|bit| 1 << bit)
-        .fold(0, |k, bit| if fits(k + bit) { k + bit } else { k })
-}
-
-#[cfg(test)]
-mod tests {
-    use super::*;
-
-    #[test]
-    fn the_removal_zoom_is_rounded_down() {
-        let zoom =
-            |numerator, denominator| removal_zoom_in_64ths(Fraction::new(numerator, denominator));
-        assert_eq!(zoom(10_000, 400), 320);
-        assert_eq!(zoom(9_999, 400), 319);
-        assert_eq!(zoom(9, 225), 12);
-        assert_eq!(zoom(0, 4), 0);
-        assert_eq!(zoom(1, 4_097), 0);
-        assert_eq!(zoom(1, 4_096), 1);
-        assert_eq!(zoom(8_589_672_450, 4), 2_965_775);
-        assert_eq!(zoom(u64::MAX, 1), (1 << 38) - 1);
     }
 }

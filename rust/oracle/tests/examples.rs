@@ -2,6 +2,7 @@
 //! false'.
 
 use oracle::fraction::Fraction;
+use oracle::map::is_set;
 use oracle::mark::{outranks, rank_order, touching_value, write_marks, Mark};
 use oracle::process::schedule_by_process;
 use oracle::record::{read_records, removals, write_records, Record};
@@ -10,7 +11,8 @@ use oracle::rules::{keep_both, Breach};
 use oracle::sample::P1;
 use oracle::sheet::{check, join, open, schedule, split};
 use oracle::tree;
-use oracle::view::{is_set, reaches, view, Edges, Zoom};
+use oracle::view::{reaches, view, Edges};
+use oracle::zoom::Zoom;
 
 /// The rectangle of P3 and P4.
 const P3: Edges = Edges {

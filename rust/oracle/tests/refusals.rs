@@ -1,13 +1,15 @@
 //! Each question of 01 answered with no, on both sides of its limits, and in the
 //! order the questions are put.
 
+use oracle::map::walk;
 use oracle::mark::{write_marks, Mark};
 use oracle::record::{write_records, Record};
 use oracle::report::print;
 use oracle::sample::{marks, raw_sheet, Shape, P1};
 use oracle::sheet::{assemble, check, join, schedule};
 use oracle::tree;
-use oracle::view::{view, walk, Edges, Zoom};
+use oracle::view::{view, Edges};
+use oracle::zoom::Zoom;
 
 const UNKNOWN_KIND: Mark = Mark {
     kind: 200,

@@ -2,6 +2,7 @@
 
 use std::collections::BTreeSet;
 
+use oracle::map::{is_set, walk, NO_MARK};
 use oracle::mark::{write_marks, Mark};
 use oracle::process::schedule_by_process;
 use oracle::record::{removals, write_records, Record};
@@ -10,7 +11,8 @@ use oracle::rules::keep_both;
 use oracle::sample::{marks, Generator, Shape};
 use oracle::sheet::{assemble, check, join, open, part_extent, schedule, split};
 use oracle::tree;
-use oracle::view::{is_set, lives, reaches, view, walk, zoom_in_64ths, Edges, Zoom, NO_MARK};
+use oracle::view::{reaches, view, Edges};
+use oracle::zoom::{lives, zoom_in_64ths, Zoom};
 
 /// The numbers of marks that are tried: about whole bytes of a map, and more.
 const NUMBERS: [usize; 8] = [0, 1, 2, 7, 8, 9, 17, 33];

@@ -9,8 +9,10 @@ use std::path::{Path, PathBuf};
 use std::process::{Command, Stdio};
 
 use common::{one_part, scheduled, some_sheet};
+use oracle::map::map_bytes;
 use oracle::sample::{marks, Generator, Shape};
-use oracle::view::{map_bytes, view, Edges, Zoom};
+use oracle::view::{view, Edges};
+use oracle::zoom::Zoom;
 
 use rollmap::Refusal;
 

@@ -7,12 +7,13 @@ use common::{
     three_parts, Lent, Tally,
 };
 use oracle::fraction::Removal;
+use oracle::map::{is_set, map_bytes};
 use oracle::mark::Mark;
 use oracle::process::schedule_in_rank_order;
 use oracle::record::{removals, Record};
-use oracle::report::removal_zoom_in_64ths;
 use oracle::sample::{marks, Generator, Shape, P1};
-use oracle::view::{is_set, map_and_count, map_bytes, zoom_in_64ths, Edges};
+use oracle::view::{map_and_count, Edges};
+use oracle::zoom::{removal_zoom_in_64ths, zoom_in_64ths};
 use rollmap::{View, Zoom};
 
 /// The whole range of places, at stop 0.
@@ -25,10 +26,10 @@ fn edges(view: View) -> Edges {
 }
 
 /// The zoom of a view as the oracle has it.
-fn zoom(view: View) -> oracle::view::Zoom {
+fn zoom(view: View) -> oracle::zoom::Zoom {
     match view.zoom {
-        Zoom::Stop(stop) => oracle::view::Zoom::Stop(stop),
-        Zoom::Wheel(wheel) => oracle::view::Zoom::Wheel(wheel),
+        Zoom::Stop(stop) => oracle::zoom::Zoom::Stop(stop),
+        Zoom::Wheel(wheel) => oracle::zoom::Zoom::Wheel(wheel),
     }
 }
 

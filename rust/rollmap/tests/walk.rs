@@ -3,8 +3,8 @@
 mod common;
 
 use common::number;
+use oracle::map::{is_set, map_bytes, NO_MARK};
 use oracle::sample::Generator;
-use oracle::view::{is_set, map_bytes, NO_MARK};
 
 /// One step of a walk, once it is seen to be the oracle's.
 fn walk(map: &[u8], n: u32, start: u32) -> Option<u32> {
@@ -13,7 +13,7 @@ fn walk(map: &[u8], n: u32, start: u32) -> Option<u32> {
         Ok(Some(mark)) => mark,
         Ok(None) | Err(_) => NO_MARK,
     };
-    let expected = oracle::view::walk(map, n, start);
+    let expected = oracle::map::walk(map, n, start);
     assert_eq!((number(&answer), value), expected, "{map:02x?} {n} {start}");
     answer.ok().flatten()
 }
@@ -22,7 +22,7 @@ fn walk(map: &[u8], n: u32, start: u32) -> Option<u32> {
 fn is_shown(map: &[u8], n: u32, mark: u32) -> bool {
     let answer = rollmap::is_shown(map, n, mark);
     let value = u32::from(answer == Ok(true));
-    let expected = oracle::view::is_shown(map, n, mark);
+    let expected = oracle::map::is_shown(map, n, mark);
     assert_eq!((number(&answer), value), expected, "{map:02x?} {n} {mark}");
     value == 1
 }

@@ -2,13 +2,15 @@
 //! the oracle's.
 
 use oracle::label::Label;
+use oracle::map::map_bytes;
 use oracle::mark::{write_marks, Mark};
 use oracle::process::schedule_in_rank_order;
 use oracle::record::write_records;
 use oracle::sample::{marks, Generator, Shape};
 use oracle::sheet::{check, join};
 use oracle::tree;
-use oracle::view::{map_bytes, Edges, Zoom};
+use oracle::view::Edges;
+use oracle::zoom::Zoom;
 
 use super::schedule::Desk;
 use super::sheet::open;
@@ -147,8 +149,8 @@ fn walks_hand_out_the_set_bits() {
         let n = generator.below(8 * bytes as u32 + 1);
         for start in 0..=n {
             let found = walk(&map, n as usize, start as usize);
-            let number = found.map_or(oracle::view::NO_MARK, |mark| mark as u32);
-            assert_eq!((0, number), oracle::view::walk(&map, n, start));
+            let number = found.map_or(oracle::map::NO_MARK, |mark| mark as u32);
+            assert_eq!((0, number), oracle::map::walk(&map, n, start));
         }
     }
 }

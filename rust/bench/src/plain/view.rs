@@ -1,7 +1,9 @@
 //! Views by a search down the tree, and walking a map.
 
+use oracle::map::{map_bytes, set_bit};
 use oracle::tree::{branches, Axis};
-use oracle::view::{ask_view, lives, map_bytes, reaches, set_bit, Edges, Zoom};
+use oracle::view::{ask_view, reaches, Edges};
+use oracle::zoom::{lives, Zoom};
 use oracle::{ask, Refusal};
 
 use super::index::{number, Block, Indexed};

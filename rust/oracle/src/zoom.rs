@@ -1,0 +1,191 @@
+//! Zooms: which are taken, who lives at one, and the one that is printed (01, 'The view
+//! and its map' and 'The printed schedule'). Zoom z is map units per pixel, and k = 64z.
+
+use crate::fraction::{Fraction, Removal};
+use crate::Refusal;
+
+/// A zoom as the viewer has it: a stop or a wheel value.
+#[derive(Clone, Copy, Debug, PartialEq)]
+pub enum Zoom {
+    Stop(u8),
+    Wheel(f32),
+}
+
+/// The last stop.
+const LAST_STOP: u8 = 16;
+
+/// The largest zoom in 64ths.
+const LARGEST_K: u64 = 65_536;
+
+/// The zoom z in 64ths, k = 64z. Asks 12.
+pub fn zoom_in_64ths(zoom: Zoom) -> Result<u32, Refusal> {
+    let k = match zoom {
+        Zoom::Stop(stop) => stop_in_64ths(stop),
+        Zoom::Wheel(wheel) => wheel_in_64ths(wheel),
+    };
+    k.ok_or(12)
+}
+
+/// Stop s, 0 to 16, means k = 2 to the power s.
+fn stop_in_64ths(stop: u8) -> Option<u32> {
+    (stop <= LAST_STOP).then(|| 1 << stop)
+}
+
+/// A wheel value w is taken if 64w is a whole number from 1 to 65,536. The
+/// float's bits are read as an odd number times a power of two, so nothing is
+/// rounded.
+fn wheel_in_64ths(wheel: f32) -> Option<u32> {
+    let (mantissa, exponent) = magnitude(wheel)?;
+    if wheel.is_sign_negative() || mantissa == 0 {
+        return None;
+    }
+    let twos = mantissa.trailing_zeros();
+    let odd = u64::from(mantissa >> twos);
+    let k = match exponent + twos as i32 + 6 {
+        power @ 0..=16 => odd << power,
+        _ => return None, // not whole, or at least 2 to the power 17
+    };
+    (k <= LARGEST_K).then_some(k as u32)
+}
+
+/// A finite float's magnitude as a whole number and the exponent of the power of
+/// two it is multiplied with; none for infinities and what is no number.
+fn magnitude(float: f32) -> Option<(u32, i32)> {
+    let bits = float.to_bits();
+    let fraction = bits & 0x007f_ffff;
+    match (bits >> 23) & 0xff {
+        0xff => None,
+        0 => Some((fraction, -149)),
+        exponent => Some((fraction | 0x0080_0000, exponent as i32 - 150)),
+    }
+}
+
+/// The squared zoom k²/4096.
+#[inline]
+pub fn zoom_squared(k: u32) -> Fraction {
+    let k = u64::from(k);
+    Fraction::new(k * k, 4_096)
+}
+
+/// Whether a mark with this removal value lives at zoom k/64: the squared zoom is
+/// below the removal value, or it has none.
+#[inline]
+pub fn lives(removal: Removal, k: u32) -> bool {
+    removal.later_than(zoom_squared(k))
+}
+
+/// The removal zoom in 64ths, rounded down: the largest k with k² times the
+/// denominator at most 4096 times the numerator. It is found from its highest
+/// bit down; the denominator is above 0.
+pub fn removal_zoom_in_64ths(value: Fraction) -> u64 {
+    let fits = |k: u64| {
+        let square = u128::from(k) * u128::from(k);
+        square * u128::from(value.denominator) <= 4_096 * u128::from(value.numerator)
+    };
+    // The root of 4096 times the largest numerator has 38 bits.
+    (0..38)
+        .rev()
+        .map(|bit| 1 << bit)
+        .fold(0, |k, bit| if fits(k + bit) { k + bit } else { k })
+}
+
+#[cfg(test)]
+mod tests {
+    use super::*;
+
+    #[test]
+    fn every_whole_k_is_taken_and_its_float_neighbours_are_not() {
+        for k in 1..=65_536_u32 {
+            let wheel = k as f32 / 64.0;
+            assert_eq!(zoom_in_64ths(Zoom::Wheel(wheel)), Ok(k));
+            let above = f32::from_bits(wheel.to_bits() + 1);
+            let below = f32::from_bits(wheel.to_bits() - 1);
+            assert_eq!(zoom_in_64ths(Zoom::Wheel(above)), Err(12));
+            assert_eq!(zoom_in_64ths(Zoom::Wheel(below)), Err(12));
+        }
+    }
+
+    #[test]
+    fn a_stop_is_the_wheel_value_of_the_same_zoom() {
+        for stop in 0..=16 {
+            let wheel = 2_f32.powi(i32::from(stop) - 6);
+            let k = zoom_in_64ths(Zoom::Stop(stop));
+            assert_eq!(k, Ok(1 << stop));
+            assert_eq!(zoom_in_64ths(Zoom::Wheel(wheel)), k);
+        }
+    }
+
+    #[test]
+    fn stops_past_the_last_are_refused_whatever_they_are_as_a_shift() {
+        for stop in 17..=255 {
+            assert_eq!(zoom_in_64ths(Zoom::Stop(stop)), Err(12));
+        }
+    }
+
+    #[test]
+    fn odd_wheel_values_are_refused() {
+        let smallest = f32::from_bits(1);
+        let refused = [
+            f32::NAN,
+            -f32::NAN,
+            f32::INFINITY,
+            f32::NEG_INFINITY,
+            0.0,
+            -0.0,
+            -1.0,
+            -1.0 / 64.0,
+            f32::MAX,
+            f32::MIN_POSITIVE,
+            smallest,
+            65_536.0,
+            1_025.0,
+            2_f32.powi(122),
+        ];
+        for wheel in refused {
+            assert_eq!(zoom_in_64ths(Zoom::Wheel(wheel)), Err(12), "{wheel}");
+        }
+    }
+
+    #[test]
+    fn reading_the_bits_agrees_with_an_exact_product() {
+        // 64w is exact in a double, and so is the test for a whole number.
+        for step in 0..400_000_u32 {
+            let wheel = f32::from_bits(step.wrapping_mul(10_737) ^ 0x3c00_0000);
+            let product = f64::from(wheel) * 64.0;
+            let whole = product.fract() == 0.0 && (1.0..=65_536.0).contains(&product);
+            let expected = if whole { Ok(product as u32) } else { Err(12) };
+            assert_eq!(zoom_in_64ths(Zoom::Wheel(wheel)), expected, "{wheel}");
+        }
+    }
+
+    #[test]
+    fn a_mark_is_gone_at_its_own_removal_zoom() {
+        let five = Removal::At(Fraction::new(10_000, 400));
+        assert!(lives(five, 319));
+        assert!(!lives(five, 320));
+        assert!(!lives(five, 321));
+        assert!(!lives(Removal::At(Fraction::new(0, 4)), 1));
+    }
+
+    #[test]
+    fn the_largest_zoom_is_compared_without_wrapping() {
+        let million = 1 << 20; // z² at k = 65,536
+        assert!(lives(Removal::Never, 65_536));
+        assert!(lives(Removal::At(Fraction::new(million + 1, 1)), 65_536));
+        assert!(!lives(Removal::At(Fraction::new(million, 1)), 65_536));
+    }
+
+    #[test]
+    fn the_removal_zoom_is_rounded_down() {
+        let zoom =
+            |numerator, denominator| removal_zoom_in_64ths(Fraction::new(numerator, denominator));
+        assert_eq!(zoom(10_000, 400), 320);
+        assert_eq!(zoom(9_999, 400), 319);
+        assert_eq!(zoom(9, 225), 12);
+        assert_eq!(zoom(0, 4), 0);
+        assert_eq!(zoom(1, 4_097), 0);
+        assert_eq!(zoom(1, 4_096), 1);
+        assert_eq!(zoom(8_589_672_450, 4), 2_965_775);
+        assert_eq!(zoom(u64::MAX, 1), (1 << 38) - 1);
+    }
+}
