@@ -9,7 +9,8 @@ use native.Mathlib.Decide.{decLt}
 use borrow.Author.Tests.{lt-ltb, le-ltb}
 use lib.Dec.{ltb}
 use lib.ListN.{length, length-append, set}
-use lib.Seq.{sets, length-sets}
+use lib.Seq.{length-sets}
+use Rattle.lists.specs.StoreLaws.{sets-append}
 use Rattle.text.specs.Text.{digits, decimal, denoted, Wrote}
 
 -- ---- digits
@@ -84,14 +85,10 @@ decimal-denotes v h = digits-denote 20 v (omega arith)
 
 -- ---- writing one text behind another
 
-pub sets-then : (a b l : List ℕ) (at : ℕ) → sets (sets l at a) (at + length a) b ≡ sets l at (a ++ b)
-sets-then [] b l at = let e : at + 0 ≡ at = omega arith in rw e
-sets-then (x ∷ a) b l at = let e : at + suc (length a) ≡ suc at + length a = omega arith in rw e (sets-then a b (set l at x) (suc at))
-
 pub wrote-then : {l m n : List ℕ} {at p q : ℕ} {a b : List ℕ} → Wrote l m at a p → Wrote m n p b q → Wrote l n at (a ++ b) q
 wrote-then {l} {m} {n} {at} {p} {q} {a} {b} u v =
     record {
-      holds = v .holds ∙ (rw (u .holds, u .ends) (sets-then a b l at));
+      holds = v .holds ∙ rw (u .holds, u .ends) (sym (sets-append l at a b));
       ends = omega (arith, u .ends, v .ends, length-append a b);
     }
 
