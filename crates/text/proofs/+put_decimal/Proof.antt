@@ -1,158 +1,94 @@
 -- `text::put_decimal`: the digits of a tenth of v, and the last digit behind them. The measure is v. Assumes nothing.
+use Prim.Native.Nat.{ℕ, _<_}
 use mathlib.Core.Path.{ap}
 use native.Mathlib.Omega.{arith}
-use borrow.Author.Needs.{needs}
 use lib.ListN.{length}
-use Rattle.text.specs.Laws.{decimal-one, decimal-more, decimal-longer, wrote-byte, wrote-then, wrote-length}
-use Prim.Native.Nat.{ℕ, _<_}
+use borrow.Author.Needs.{needs}
 use borrow.Fn.Kinds.{In}
 use borrow.Fn.PlainCycle.{Measures, is, falls, and}
-use Rattle.text.proofs.put_decimal.Reads as put-decimal
-use Rattle.text.proofs.put_decimal.Kinds as put-decimal-kinds
-use Rattle.text.proofs.+put_decimal.Lts-put_decimal as put-decimal-lts
-use Rattle.text.proofs.digit.Reads as digit-reads
+use Rattle.text.specs.Laws.{decimal-one, decimal-more, decimal-longer, wrote-byte, wrote-then, wrote-length}
+use Rattle.text.proofs.put_decimal.Reads as reads
+use Rattle.text.proofs.put_decimal.Kinds as kinds
+use Rattle.text.proofs.+put_decimal.Lts-put_decimal as lts
+use Rattle.text.proofs.digit.Reads as digit
 use Rattle.text.proofs.+put_decimal.{statement}
 use Rattle.text.proofs.+put_decimal.Tie.{close}
 
-abbrev μ-put-decimal : Measures 1 put-decimal-kinds.ps ℕ
-μ-put-decimal κs a = a .1 .1 .0
+abbrev number-of : Measures 1 kinds.ps ℕ
+number-of κs a = a .1 .1 .0
 
-abbrev put-decimal-at : ℕ → In 1 put-decimal-kinds.ps
-put-decimal-at t =
-    and 1 put-decimal-kinds.ps (is 1 put-decimal-kinds.ps μ-put-decimal t) put-decimal.Pre
+-- what a call with the number t is given, and what it asks of the calls that it makes
+module _ (t : ℕ) where
+  abbrev given : In 1 kinds.ps
+  given = and 1 kinds.ps (is 1 kinds.ps number-of t) reads.Pre
 
-abbrev put-decimal-below : ℕ → In 1 put-decimal-kinds.ps
-put-decimal-below t =
-    and 1 put-decimal-kinds.ps (falls 1 put-decimal-kinds.ps _<_ μ-put-decimal t) put-decimal.Pre
+  abbrev claims : lts.Claims
+  claims = (digit.Asked, digit.Learnt, and 1 kinds.ps (falls 1 kinds.ps _<_ number-of t) reads.Pre, reads.Post)
 
-put-decimal-digit-requires : (t : ℕ) → put-decimal-lts.Need-digit-requires (
-  digit-reads.Asked,
-  digit-reads.Learnt,
-  put-decimal-below t,
-  put-decimal.Post,
-) (put-decimal-at t) put-decimal.Post
-put-decimal-digit-requires t c κs = c .if1 .taken
+  -- ---- one digit
 
-put-decimal-slice-write-out : (t : ℕ) → put-decimal-lts.Need-slice-write-out (
-  digit-reads.Asked,
-  digit-reads.Learnt,
-  put-decimal-below t,
-  put-decimal.Post,
-) (put-decimal-at t) put-decimal.Post
-put-decimal-slice-write-out t c =
-    let d = decimal-one (c .before .before .before .args .v) (c .before .if1 .taken) in
-    omega (arith, ap length d, c .before .before .before .pre .1)
+  digit-requires : lts.Need-digit-requires claims given reads.Post
+  digit-requires c κs = c .if1 .taken
 
-put-decimal-add-result : (t : ℕ) → put-decimal-lts.Need-add-result (
-  digit-reads.Asked,
-  digit-reads.Learnt,
-  put-decimal-below t,
-  put-decimal.Post,
-) (put-decimal-at t) put-decimal.Post
-put-decimal-add-result t c = search needs
+  slice-write-out : lts.Need-slice-write-out claims given reads.Post
+  slice-write-out c =
+      let d = decimal-one (c .before .before .before .args .v) (c .before .if1 .taken) in
+      omega (arith, ap length d, c .before .before .before .pre .1)
 
-put-decimal-same-length : (t : ℕ) → put-decimal-lts.Need-same-length (
-  digit-reads.Asked,
-  digit-reads.Learnt,
-  put-decimal-below t,
-  put-decimal.Post,
-) (put-decimal-at t) put-decimal.Post
-put-decimal-same-length t c = search needs
+  add-result : lts.Need-add-result claims given reads.Post
+  add-result c = search needs
 
-put-decimal-returns : (t : ℕ) → put-decimal-lts.Need-returns (
-  digit-reads.Asked,
-  digit-reads.Learnt,
-  put-decimal-below t,
-  put-decimal.Post,
-) (put-decimal-at t) put-decimal.Post
-put-decimal-returns t c =
-    let e = c .digit .ensures in
-    rw (decimal-one (c .before .before .before .args .v) (c .before .if1 .taken), e) (wrote-byte _ _ _)
+  same-length : lts.Need-same-length claims given reads.Post
+  same-length c = search needs
 
-put-decimal-put-decimal-requires : (t : ℕ) → put-decimal-lts.Need-put-decimal-requires (
-  digit-reads.Asked,
-  digit-reads.Learnt,
-  put-decimal-below t,
-  put-decimal.Post,
-) (put-decimal-at t) put-decimal.Post
-put-decimal-put-decimal-requires t c κs =
-    let a = c .before .before .before .args in
-    let p = c .before .before .before .pre in
-    let d = decimal-longer (a .v) (c .before .before .before .fits .v .fits) (c .before .if1 .left) in
-    (omega (arith, p .0, c .before .if1 .left), omega (arith, d, p .1))
+  returns : lts.Need-returns claims given reads.Post
+  returns c =
+      rw (decimal-one (c .before .before .before .args .v) (c .before .if1 .taken), c .digit .ensures) (wrote-byte _ _ _)
 
-put-decimal-digit-requires-2 : (t : ℕ) → put-decimal-lts.Need-digit-requires-2 (
-  digit-reads.Asked,
-  digit-reads.Learnt,
-  put-decimal-below t,
-  put-decimal.Post,
-) (put-decimal-at t) put-decimal.Post
-put-decimal-digit-requires-2 t c κs = omega arith
+  -- ---- more
 
-put-decimal-slice-write-out-2 : (t : ℕ) → put-decimal-lts.Need-slice-write-out-2 (
-  digit-reads.Asked,
-  digit-reads.Learnt,
-  put-decimal-below t,
-  put-decimal.Post,
-) (put-decimal-at t) put-decimal.Post
-put-decimal-slice-write-out-2 t c =
-    let a = c .before .before .before .before .before .before .before .args in
-    let p = c .before .before .before .before .before .before .before .pre in
-    let d = decimal-longer (a .v) (c .before .before .before .before .before .before .before .fits .v .fits) (c .before .before .before .before .before .if1 .left) in
-    let w = c .before .before .before .put-decimal .ensures in
-    let l = wrote-length w in
-    omega (arith, d, p .1, w .ends, l)
+  put-decimal-requires : lts.Need-put-decimal-requires claims given reads.Post
+  put-decimal-requires c κs =
+      let a = c .before .before .before in
+      let d = decimal-longer (a .args .v) (a .fits .v .fits) (c .before .if1 .left) in
+      (omega (arith, a .pre .0, c .before .if1 .left), omega (arith, d, a .pre .1))
 
-put-decimal-add-result-2 : (t : ℕ) → put-decimal-lts.Need-add-result-2 (
-  digit-reads.Asked,
-  digit-reads.Learnt,
-  put-decimal-below t,
-  put-decimal.Post,
-) (put-decimal-at t) put-decimal.Post
-put-decimal-add-result-2 t c =
-    let a = c .before .before .before .before .before .before .before .args in
-    let p = c .before .before .before .before .before .before .before .pre in
-    let d = decimal-longer (a .v) (c .before .before .before .before .before .before .before .fits .v .fits) (c .before .before .before .before .before .if1 .left) in
-    let w = c .before .before .before .put-decimal .ensures in
-    let l = wrote-length w in
-    omega (arith, d, p .1, w .ends, l, c .before .before .before .before .before .before .before .good)
+  digit-requires-2 : lts.Need-digit-requires-2 claims given reads.Post
+  digit-requires-2 c κs = omega arith
 
-put-decimal-same-length-2 : (t : ℕ) → put-decimal-lts.Need-same-length-2 (
-  digit-reads.Asked,
-  digit-reads.Learnt,
-  put-decimal-below t,
-  put-decimal.Post,
-) (put-decimal-at t) put-decimal.Post
-put-decimal-same-length-2 t c = search needs
+  slice-write-out-2 : lts.Need-slice-write-out-2 claims given reads.Post
+  slice-write-out-2 c =
+      let a = c .before .before .before .before .before .before .before in
+      let d = decimal-longer (a .args .v) (a .fits .v .fits) (c .before .before .before .before .before .if1 .left) in
+      let w = c .before .before .before .put-decimal .ensures in
+      omega (arith, d, a .pre .1, w .ends, wrote-length w)
 
-put-decimal-returns-2 : (t : ℕ) → put-decimal-lts.Need-returns-2 (
-  digit-reads.Asked,
-  digit-reads.Learnt,
-  put-decimal-below t,
-  put-decimal.Post,
-) (put-decimal-at t) put-decimal.Post
-put-decimal-returns-2 t c =
-    let a = c .before .before .before .before .before .before .before .args in
-    let m = decimal-more (a .v) (c .before .before .before .before .before .before .before .fits .v .fits) (c .before .before .before .before .before .if1 .left) in
-    rw (m, c .digit2 .ensures) (wrote-then (c .before .before .before .put-decimal .ensures) (wrote-byte _ _ _))
+  add-result-2 : lts.Need-add-result-2 claims given reads.Post
+  add-result-2 c =
+      let a = c .before .before .before .before .before .before .before in
+      let d = decimal-longer (a .args .v) (a .fits .v .fits) (c .before .before .before .before .before .if1 .left) in
+      let w = c .before .before .before .put-decimal .ensures in
+      omega (arith, d, a .pre .1, w .ends, wrote-length w, a .good)
+
+  same-length-2 : lts.Need-same-length-2 claims given reads.Post
+  same-length-2 c = search needs
+
+  returns-2 : lts.Need-returns-2 claims given reads.Post
+  returns-2 c =
+      let a = c .before .before .before .before .before .before .before in
+      let m = decimal-more (a .args .v) (a .fits .v .fits) (c .before .before .before .before .before .if1 .left) in
+      rw (m, c .digit2 .ensures) (wrote-then (c .before .before .before .put-decimal .ensures) (wrote-byte _ _ _))
 
 pub +put-decimal-spec : {M : Type 1} → statement M
-+put-decimal-spec = close μ-put-decimal λ t. put-decimal-lts.spec (
-  digit-reads.Asked,
-  digit-reads.Learnt,
-  put-decimal-below t,
-  put-decimal.Post,
-)
-    (put-decimal-at t)
-    put-decimal.Post
-    (put-decimal-digit-requires t)
-    (put-decimal-slice-write-out t)
-    (put-decimal-add-result t)
-    (put-decimal-same-length t)
-    (put-decimal-returns t)
-    (put-decimal-put-decimal-requires t)
-    (put-decimal-digit-requires-2 t)
-    (put-decimal-slice-write-out-2 t)
-    (put-decimal-add-result-2 t)
-    (put-decimal-same-length-2 t)
-    (put-decimal-returns-2 t)
++put-decimal-spec = close number-of λ t. lts.spec (claims t) (given t) reads.Post
+    (digit-requires t)
+    (slice-write-out t)
+    (add-result t)
+    (same-length t)
+    (returns t)
+    (put-decimal-requires t)
+    (digit-requires-2 t)
+    (slice-write-out-2 t)
+    (add-result-2 t)
+    (same-length-2 t)
+    (returns-2 t)
