@@ -148,11 +148,11 @@ pub fn write_marks(marks: &[Mark]) -> Vec<u8> {
     marks.iter().flat_map(Mark::write).collect()
 }
 
-/// The touching value of two marks: that of their labels.
+/// The touching value of two marks, whose radii question 6 takes: that of their labels.
 ///
 /// # Panics
 ///
-/// On marks that questions 5 and 6 refuse.
+/// On marks that question 5 refuses.
 #[inline]
 pub fn touching_value(a: &Mark, b: &Mark) -> Fraction {
     a.label().touching_value(b.label())
@@ -180,6 +180,13 @@ impl RankKey {
 /// Rank as an order of mark numbers, highest rank first.
 pub fn rank_order(marks: &[Mark], a: usize, b: usize) -> Ordering {
     RankKey::of(&marks[a], a).cmp(&RankKey::of(&marks[b], b))
+}
+
+/// The numbers of the marks, highest rank first.
+pub fn ranked(marks: &[Mark]) -> Vec<usize> {
+    let mut numbers: Vec<usize> = (0..marks.len()).collect();
+    numbers.sort_by(|&a, &b| rank_order(marks, a, b));
+    numbers
 }
 
 /// Whether mark number `a` ranks higher than mark number `b`.
@@ -275,9 +282,7 @@ mod tests {
     fn rank_is_by_priority_then_by_lower_number() {
         let of = |priority| Mark { priority, ..MARK };
         let marks = [of(5), of(9), of(5), of(65_535)];
-        let mut numbers = vec![0, 1, 2, 3];
-        numbers.sort_by(|&a, &b| rank_order(&marks, a, b));
-        assert_eq!(numbers, [3, 1, 0, 2]);
+        assert_eq!(ranked(&marks), [3, 1, 0, 2]);
         assert!(outranks(&marks, 0, 2));
         assert!(!outranks(&marks, 2, 0));
         assert!(!outranks(&marks, 2, 2));

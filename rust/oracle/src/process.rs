@@ -4,51 +4,39 @@
 use std::cmp::Ordering;
 
 use crate::fraction::Fraction;
-use crate::mark::{outranks, rank_order, touching_value, Mark};
+use crate::mark::{ranked, touching_value, Mark, RankKey};
 use crate::record::Record;
 
-/// Two marks and their touching value, the higher-ranked mark named first. The
-/// numbers are short because a sheet of 4,096 marks has over 8 million pairs.
+/// Two marks by their ranks, the higher one first, and their touching value.
 #[derive(Clone, Copy, Debug)]
 struct Pair {
     value: Fraction,
-    higher: u16,
-    lower: u16,
+    higher: RankKey,
+    lower: RankKey,
 }
 
 impl Pair {
     fn of(marks: &[Mark], a: usize, b: usize) -> Self {
-        let number = |mark| u16::try_from(mark).expect("a sheet has at most 4,096 marks");
-        let (higher, lower) = if outranks(marks, a, b) {
-            (a, b)
-        } else {
-            (b, a)
-        };
+        let (rank_a, rank_b) = (RankKey::of(&marks[a], a), RankKey::of(&marks[b], b));
         Self {
             value: touching_value(&marks[a], &marks[b]),
-            higher: number(higher),
-            lower: number(lower),
+            higher: rank_a.min(rank_b),
+            lower: rank_a.max(rank_b),
         }
-    }
-
-    /// The number of the mark that ranks higher.
-    fn higher(&self) -> usize {
-        usize::from(self.higher)
-    }
-
-    /// The number of the mark that the pair removes when it is taken.
-    fn lower(&self) -> usize {
-        usize::from(self.lower)
     }
 
     /// The order in which pairs are taken: the least touching value; among equal
     /// values the pair whose higher mark ranks highest; then the pair whose lower
     /// mark does.
-    fn taking_order(&self, other: &Self, marks: &[Mark]) -> Ordering {
-        self.value
-            .compare(other.value)
-            .then_with(|| rank_order(marks, self.higher(), other.higher()))
-            .then_with(|| rank_order(marks, self.lower(), other.lower()))
+    fn taking_order(&self, other: &Self) -> Ordering {
+        let by_value = self.value.compare(other.value);
+        let by_ranks = (self.higher, self.lower).cmp(&(other.higher, other.lower));
+        by_value.then(by_ranks)
+    }
+
+    /// The record of the lower mark, where the pair is taken.
+    fn record(&self) -> Record {
+        Record::removed(self.higher.number(), self.value)
     }
 }
 
@@ -66,11 +54,10 @@ fn pairs_of<'a>(marks: &'a [Mark], numbers: &'a [usize]) -> impl Iterator<Item =
 pub fn schedule_by_process(marks: &[Mark]) -> Vec<Record> {
     let mut living: Vec<usize> = (0..marks.len()).collect();
     let mut records = vec![Record::NEVER; marks.len()];
-    while let Some(pair) =
-        pairs_of(marks, &living).min_by(|one, other| one.taking_order(other, marks))
-    {
-        records[pair.lower()] = Record::removed(pair.higher(), pair.value);
-        living.retain(|&mark| mark != pair.lower());
+    while let Some(pair) = pairs_of(marks, &living).min_by(Pair::taking_order) {
+        let removed = pair.lower.number();
+        records[removed] = pair.record();
+        living.retain(|&mark| mark != removed);
     }
     records
 }
@@ -80,12 +67,12 @@ pub fn schedule_by_process(marks: &[Mark]) -> Vec<Record> {
 pub fn schedule_by_sorted_pairs(marks: &[Mark]) -> Vec<Record> {
     let numbers: Vec<usize> = (0..marks.len()).collect();
     let mut pairs: Vec<Pair> = pairs_of(marks, &numbers).collect();
-    pairs.sort_unstable_by(|one, other| one.taking_order(other, marks));
+    pairs.sort_unstable_by(Pair::taking_order);
     let mut records = vec![Record::NEVER; marks.len()];
     for pair in pairs {
-        let lives = |mark: usize| records[mark] == Record::NEVER;
-        if lives(pair.higher()) && lives(pair.lower()) {
-            records[pair.lower()] = Record::removed(pair.higher(), pair.value);
+        let lives = |mark: RankKey| records[mark.number()] == Record::NEVER;
+        if lives(pair.higher) && lives(pair.lower) {
+            records[pair.lower.number()] = pair.record();
         }
     }
     records
@@ -96,8 +83,7 @@ pub fn schedule_by_sorted_pairs(marks: &[Mark]) -> Vec<Record> {
 /// a higher-ranked mark that is removed later than that value; of equal values
 /// the highest-ranked such mark is the eliminator.
 pub fn schedule_in_rank_order(marks: &[Mark]) -> Vec<Record> {
-    let mut ranked: Vec<usize> = (0..marks.len()).collect();
-    ranked.sort_by(|&a, &b| rank_order(marks, a, b));
+    let ranked = ranked(marks);
     let mut records = vec![Record::NEVER; marks.len()];
     for (place, &mark) in ranked.iter().enumerate() {
         records[mark] = settle(marks, &records, mark, &ranked[..place]);

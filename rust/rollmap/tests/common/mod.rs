@@ -6,7 +6,7 @@
 use std::collections::BTreeMap;
 
 use oracle::fraction::Fraction;
-use oracle::mark::{rank_order, touching_value, write_marks, Mark};
+use oracle::mark::{ranked, touching_value, write_marks, Mark};
 use oracle::process::schedule_in_rank_order;
 use oracle::record::{write_records, Record};
 use oracle::sample::{marks, Generator, Shape};
@@ -190,8 +190,7 @@ pub fn scheduled(marks: &[Mark]) -> Vec<u8> {
 /// Records that question 8 takes and that are most likely not ours: each mark
 /// stays, or goes for some higher-ranked mark that is removed later.
 pub fn foreign_records(generator: &mut Generator, marks: &[Mark]) -> Vec<Record> {
-    let mut ranked: Vec<usize> = (0..marks.len()).collect();
-    ranked.sort_by(|&a, &b| rank_order(marks, a, b));
+    let ranked = ranked(marks);
     let mut records = vec![Record::NEVER; marks.len()];
     for place in 1..ranked.len() {
         let other = ranked[generator.below(place as u32) as usize];
