@@ -44,6 +44,10 @@ pub count-shown : {shown : ℕ → Bool} {n : ℕ} {map : List ℕ} → Shows sh
     → countBits (bitAt map) (8 * mapSize n) ≡ countShown shown n
 count-shown {shown} {n} {map} s = Counts.count-shown shown n map s
 
+-- Of n bits at most n are set.
+pub count-bits-le : (map : List ℕ) (n : ℕ) → countBits (bitAt map) n ≤ n
+count-bits-le map n = Counts.count-le (bitAt map) n (λ i. omega arith)
+
 -- ---- the walk
 
 -- The walk keeps its rule, wherever it starts: from 0 on it hands out exactly the numbers below n with a set bit, rising.

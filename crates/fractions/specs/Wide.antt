@@ -13,7 +13,7 @@ abbrev pub base : ℕ
 base = 4294967296
 
 -- `w` is the number `n`
-pub record Split (n : ℕ) (w : Wide) : Type 0 where
+pub record TwoDigits (n : ℕ) (w : Wide) : Type 0 where
   pub digits : w .high * base + w .low ≡ n
   pub low-digit : w .low < base
 
@@ -47,7 +47,7 @@ eqb-same {a} {b} {c} {d} p q =
     [ yes h ↦ eq-eqb a b h ∙ sym (eq-eqb c d (p h)) | no h ↦ ne-eqb a b h ∙ sym (ne-eqb c d (λ e. h (q e))) ]
 
 -- the high parts decide, and where they are equal the low parts do
-module _ {m n : ℕ} {v w : Wide} (a : Split m v) (b : Split n w) where
+module _ {m n : ℕ} {v w : Wide} (a : TwoDigits m v) (b : TwoDigits n w) where
   pub low-less : v .high ≡ w .high → ltb (v .low) (w .low) ≡ ltb m n
   low-less e = ltb-same {a = v .low} {b = w .low} {c = m} {d = n} (λ h. omega arith) (λ h. omega arith)
 

@@ -2,7 +2,7 @@
 ghost use mathlib.Core.Path.{_≡_};
 ghost use Prim.Native.Nat.{_*_};
 ghost use Rattle.fractions.specs.Order.{less, same, later, level, Small};
-ghost use Rattle.fractions.specs.Wide.{Split};
+ghost use Rattle.fractions.specs.Wide.{TwoDigits};
 
 // A fraction that is never reduced: two whole numbers, as wide as a schedule record holds them.
 pub struct Fraction {
@@ -27,7 +27,7 @@ struct Wide {
 
 // The whole product of a numerator and a denominator: nothing is lost whatever a foreign record holds.
 fn product(num: u64, den: u32) -> Wide
-    ensures { λ r. ⌜ Split (num * den) r ⌝ }
+    ensures { λ r. ⌜ TwoDigits (num * den) r ⌝ }
 {
     let d = den as u64;
     let low = num % BASE * d;

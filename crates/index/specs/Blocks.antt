@@ -13,7 +13,11 @@ use Rattle.index.specs.Valid.{isTree, Split}
 abbrev pub entryAt : List ℕ → ℕ → ℕ
 entryAt t i = leAt 2 t (2 * i)
 
--- the halves of all but the root, the larger first
+-- all but the root
+abbrev pub othersOf : (ℕ → ℕ) → ℕ → ℕ → List ℕ
+othersOf e lo size = block e (lo + 1) (size - 1)
+
+-- their halves, the larger first
 abbrev pub leftOf : (ℕ → ℕ) → ℕ → ℕ → List ℕ
 leftOf e lo size = block e (lo + 1) (size / 2)
 

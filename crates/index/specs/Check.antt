@@ -57,19 +57,19 @@ abbrev pub AllScheduled : List ℕ → List ℕ → Type 0
 AllScheduled p t = (i : ℕ) → 2 * i + 2 ≤ length t → 14 * entryAt t i + 14 ≤ length p
 
 -- the block is in the index, whose numbers are those of marks
-pub record Ready (s p t : List ℕ) (lo size : ℕ) : Type 0 where
+pub record BlockCheckable (s p t : List ℕ) (lo size : ℕ) : Type 0 where
   pub fits : 2 * (lo + size) ≤ length t
   pub marked : AllMarked s t
   pub scheduled : AllScheduled p t
 
 -- the same where a root is compared with the head of a block
-pub record HeadReady (p t : List ℕ) (root lo size : ℕ) : Type 0 where
+pub record HeadCheckable (p t : List ℕ) (root lo size : ℕ) : Type 0 where
   pub root-scheduled : 14 * root + 14 ≤ length p
   pub fits : 2 * (lo + size) ≤ length t
   pub scheduled : AllScheduled p t
 
 -- the parts of a sheet of n marks
-pub record Whole (s p t : List ℕ) (n : ℕ) : Type 0 where
+pub record Checkable (s p t : List ℕ) (n : ℕ) : Type 0 where
   pub few : n ≤ 4096
   pub marks-long : 11 * n ≤ length s
   pub schedule-long : 14 * n ≤ length p

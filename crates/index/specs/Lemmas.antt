@@ -7,6 +7,6 @@ pub mod Beats
 pub mod Blocks
 pub mod Keys
 pub mod Findings
-pub mod Bytes
-pub mod Whole
+pub mod Entries
+pub mod Question9
 pub mod Search

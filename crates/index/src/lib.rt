@@ -8,7 +8,7 @@ ghost use Rattle.lists.specs.Blocks.{block};
 ghost use Rattle.index.specs.Index.{beats, coordinate, axisKey, isIndex};
 ghost use Rattle.index.specs.Valid.{heads};
 ghost use Rattle.index.specs.Blocks.{entryAt};
-ghost use Rattle.index.specs.Check.{keyBound, findingOf, joinSpans, side, joinFindings, HeadReady, Ready, Whole, AllBelow};
+ghost use Rattle.index.specs.Check.{keyBound, findingOf, joinSpans, side, joinFindings, HeadCheckable, BlockCheckable, Checkable, AllBelow};
 
 // ---- who is removed later
 
@@ -121,7 +121,7 @@ fn join_findings(axis: bool, heads: bool, kx: u64, ky: u64, a: Finding, b: Findi
 
 // Does the root beat the head of a half, where the half has one?
 fn beats_head(schedule: &[u8], index: &[u8], root: usize, lo: usize, size: usize) -> bool
-    requires { ⌜ HeadReady (now schedule) (now index) root lo size ⌝ }
+    requires { ⌜ HeadCheckable (now schedule) (now index) root lo size ⌝ }
     ensures { λ r. ⌜ r ≡ heads (beats (now (schedule .entry))) root (block (entryAt (now (index .entry))) lo size) ⌝ }
 {
     if size == 0 {
@@ -139,7 +139,7 @@ fn check_block(
     size: usize,
     axis: bool,
 ) -> Finding
-    requires { ⌜ Ready (now marks) (now schedule) (now index) lo size ⌝ }
+    requires { ⌜ BlockCheckable (now marks) (now schedule) (now index) lo size ⌝ }
     ensures { λ r. ⌜ r ≡ findingOf (now (marks .entry)) (now (schedule .entry)) axis (block (entryAt (now (index .entry))) lo size) ⌝ }
 {
     if size == 0 {
@@ -188,7 +188,7 @@ fn all_below(index: &[u8], n: usize) -> bool
 
 // Is the index the tree that the n marks and their schedule give?
 pub fn is_index(marks: &[u8], schedule: &[u8], index: &[u8], n: usize) -> bool
-    requires { ⌜ Whole (now marks) (now schedule) (now index) n ⌝ }
+    requires { ⌜ Checkable (now marks) (now schedule) (now index) n ⌝ }
     ensures { λ r. ⌜ r ≡ isIndex (now (marks .entry)) (now (schedule .entry)) (now (index .entry)) n ⌝ }
 {
     if all_below(index, n) {

@@ -15,7 +15,7 @@ use Rattle.zoom.specs.Living.{livesAt}
 use Rattle.index.specs.Index.{beats, coordinate, axisKey}
 use Rattle.index.specs.Valid.{isTree}
 use Rattle.index.specs.Blocks.{entryAt}
-use Rattle.index.specs.Check.{Whole, AllBelow}
+use Rattle.index.specs.Check.{Checkable, AllBelow}
 use Rattle.bitmap.specs.Map.{mapSize, bitAt}
 use Rattle.view.specs.declared.Rectangle.{Rectangle}
 use Rattle.view.specs.declared.Bounds.{Bounds}
@@ -80,7 +80,7 @@ pub record BitsSet (shown : ℕ → Bool) (l before after : List ℕ) : Type 0 w
 -- z = k/64, and lies in the bounds.
 pub record Searchable (shown : ℕ → Bool) (s p t map : List ℕ) (b : Bounds) (k lo size : ℕ) (axis : Bool) : Type 0 where
   pub n : ℕ
-  pub whole : Whole s p t n
+  pub whole : Checkable s p t n
   pub below : AllBelow t n
   pub fits : lo + size ≤ n
   pub room : mapSize n ≤ length map

@@ -5,12 +5,12 @@ use mathlib.Core.Bool.{Bool, true}
 use mathlib.Core.List.{List, _++_}
 use lib.ListN.{length, drop}
 use Rattle.index.specs.Index.{isIndex}
-use Rattle.index.specs.Check.{Whole}
+use Rattle.index.specs.Check.{Checkable}
 use Rattle.bitmap.specs.Map.{mapSize, mapBytes, countShown}
 
 -- What the caller must ensure: the parts are those of a sheet that questions 7 and 9 accept, and the map has room.
 pub record Viewable (s p t map : List ℕ) (n : ℕ) : Type 0 where
-  pub whole : Whole s p t n
+  pub whole : Checkable s p t n
   pub index-right : isIndex s p t n ≡ true
   pub room : mapSize n ≤ length map
 

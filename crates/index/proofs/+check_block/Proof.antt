@@ -7,7 +7,7 @@ use borrow.Fn.Kinds.{In}
 use borrow.Fn.PlainCycle.{Measures, is, falls, and}
 use Rattle.index.specs.Valid.{valid, isTree}
 use Rattle.index.specs.Check.{findingOf, spanOf}
-use Rattle.index.specs.Lemmas.Findings.{finding-made, ready-left, ready-right, root-marked, root-scheduled}
+use Rattle.index.specs.Lemmas.Findings.{finding-made, checkable-left, checkable-right, root-marked, root-scheduled}
 use Rattle.index.proofs.check_block.Reads as reads
 use Rattle.index.proofs.check_block.Kinds as kinds
 use Rattle.index.proofs.+check_block.Lts-check_block as lts
@@ -62,12 +62,12 @@ module _ (t : ℕ) where
   check-block-requires : lts.Need-check-block-requires claims given reads.Post
   check-block-requires c κs =
       let r = c .before .before .before .before .before .pre .1 in
-      (omega arith, ready-left r (c .before .if1 .left))
+      (omega arith, checkable-left r (c .before .if1 .left))
 
   check-block-requires-2 : lts.Need-check-block-requires-2 claims given reads.Post
   check-block-requires-2 c κs =
       let r = c .before .before .before .before .before .before .pre .1 in
-      (omega arith, ready-right r (c .before .before .if1 .left))
+      (omega arith, checkable-right r (c .before .before .if1 .left))
 
   beats-head-requires : lts.Need-beats-head-requires claims given reads.Post
   beats-head-requires c κs =

@@ -5,7 +5,7 @@ use native.Mathlib.Omega.{arith}
 use mathlib.Core.Bool.{false≢true}
 use denote.Ref.{now}
 use borrow.Author.Needs.{needs}
-use Rattle.index.specs.Lemmas.Whole.{whole-ready, whole-is, whole-not}
+use Rattle.index.specs.Lemmas.Question9.{checkable-whole, whole-is, whole-not}
 use Rattle.index.proofs.is_index.Statement.{statement}
 use Rattle.index.proofs.is_index.Tie as tie
 
@@ -16,7 +16,7 @@ check-block-requires : tie.Need-check-block-requires
 check-block-requires c κs =
     let k = c .before .before .before .before .before in
     let a = k .args in
-    whole-ready (now (a .marks)) (now (a .schedule)) (now (a .index)) (a .n) (k .pre)
+    checkable-whole (now (a .marks)) (now (a .schedule)) (now (a .index)) (a .n) (k .pre)
     (c .before .all-below .ensures .0 (c .if1 .taken))
 
 returns : tie.Need-returns

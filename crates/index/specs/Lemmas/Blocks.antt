@@ -4,17 +4,13 @@ use native.Mathlib.Omega.{arith}
 use mathlib.Core.Path.{_≡_, refl, sym, ap, ap₂, _∙_}
 use mathlib.Core.Bool.{Bool}
 use mathlib.Core.Logic.{_≢_}
-use mathlib.Core.List.{List, _∷_, _++_}
+use mathlib.Core.List.{_∷_, _++_}
 use lib.ListN.{length, take-append-drop}
 use Rattle.lists.specs.Blocks.{block}
 use Rattle.lists.specs.BlockLaws.{block-length, block-take, block-drop}
 use Rattle.index.specs.Tree.{half, first, second}
 use Rattle.index.specs.Valid.{heads}
-use Rattle.index.specs.Blocks.{leftOf, rightOf}
-
--- all but the root
-abbrev pub othersOf : (ℕ → ℕ) → ℕ → ℕ → List ℕ
-othersOf e lo size = block e (lo + 1) (size - 1)
+use Rattle.index.specs.Blocks.{othersOf, leftOf, rightOf}
 
 module _ (e : ℕ → ℕ) where
   module _ (lo size : ℕ) (some : size ≢ 0) where

@@ -18,12 +18,12 @@ use Rattle.numbers.specs.Laws.{le-bound}
 use Rattle.index.specs.Tree.{half, first, second}
 use Rattle.index.specs.Index.{beats, axisKey}
 use Rattle.index.specs.Valid.{top, low, apart, heads, isTree}
-use Rattle.index.specs.Blocks.{entryAt, leftOf, rightOf}
-use Rattle.index.specs.Check.{keyBound, spanOf, findingOf, joinSpans, side, joinFindings, Ready}
+use Rattle.index.specs.Blocks.{entryAt, othersOf, leftOf, rightOf}
+use Rattle.index.specs.Check.{keyBound, spanOf, findingOf, joinSpans, side, joinFindings, BlockCheckable}
 use Rattle.index.specs.declared.Span.{Span}
 use Rattle.index.specs.declared.Finding.{Finding}
 use Rattle.index.specs.Lemmas.Trees.{count-halves, tree-step}
-use Rattle.index.specs.Lemmas.Blocks.{othersOf, block-root, block-left, block-right}
+use Rattle.index.specs.Lemmas.Blocks.{block-root, block-left, block-right}
 use Rattle.index.specs.Lemmas.Keys.{key-small}
 use Rattle.index.specs.Lemmas.Apart.{under-top}
 
@@ -146,12 +146,12 @@ module _ (s p t : List ℕ) (bytes : Bytes t) (axis : Bool) (lo size : ℕ) (som
 
 -- ---- what the calls at a block that is not empty need
 
-module _ {s p t : List ℕ} {lo size : ℕ} (r : Ready s p t lo size) (some : size ≢ 0) where
-  pub ready-left : Ready s p t (lo + 1) (size / 2)
-  ready-left = record { fits = omega (arith, r .fits); marked = r .marked; scheduled = r .scheduled }
+module _ {s p t : List ℕ} {lo size : ℕ} (r : BlockCheckable s p t lo size) (some : size ≢ 0) where
+  pub checkable-left : BlockCheckable s p t (lo + 1) (size / 2)
+  checkable-left = record { fits = omega (arith, r .fits); marked = r .marked; scheduled = r .scheduled }
 
-  pub ready-right : Ready s p t (lo + 1 + size / 2) (size - 1 - size / 2)
-  ready-right = record { fits = omega (arith, r .fits); marked = r .marked; scheduled = r .scheduled }
+  pub checkable-right : BlockCheckable s p t (lo + 1 + size / 2) (size - 1 - size / 2)
+  checkable-right = record { fits = omega (arith, r .fits); marked = r .marked; scheduled = r .scheduled }
 
   pub root-marked : {root : ℕ} → root ≡ entryAt t lo → 11 * root + 11 ≤ length s
   root-marked e = omega (arith, r .marked lo (omega (arith, r .fits)))

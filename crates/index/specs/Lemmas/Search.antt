@@ -14,9 +14,9 @@ use Rattle.lists.specs.Blocks.{block}
 use Rattle.lists.specs.CountLaws.{count-le, under-le, over-le}
 use Rattle.index.specs.Tree.{first, second}
 use Rattle.index.specs.Valid.{Order, isTree, Split}
-use Rattle.index.specs.Blocks.{leftOf, rightOf, Halves}
+use Rattle.index.specs.Blocks.{othersOf, leftOf, rightOf, Halves}
 use Rattle.index.specs.Lemmas.Unique.{Node, tree-node}
-use Rattle.index.specs.Lemmas.Blocks.{othersOf, block-root, block-left, block-right, block-others, block-whole}
+use Rattle.index.specs.Lemmas.Blocks.{block-root, block-left, block-right, block-others, block-whole}
 
 module _ (beats : ℕ → ℕ → Bool) (key : Bool → ℕ → ℕ) (ord : Order beats) (axis : Bool) (e : ℕ → ℕ) (lo size : ℕ) where
   pub halves : size ≢ 0 → isTree beats key axis (block e lo size) ≡ true → Halves beats key axis e lo size

@@ -15,8 +15,7 @@ use Rattle.numbers.specs.Little.{Bytes}
 use Rattle.numbers.specs.Laws.{le-take, le-drop}
 use Rattle.index.specs.Index.{indexOf, indexBytes}
 use Rattle.index.specs.Blocks.{entryAt}
-use Rattle.index.specs.Lemmas.Bytes.{bytes-back}
-use Rattle.index.specs.Lemmas.Whole.{index-only}
+use Rattle.index.specs.Laws.{index-only, bytes-back}
 use Rattle.indexing.specs.Tail.{scheduleIn, memberAt, withIndex, Buildable}
 use Rattle.indexing.specs.Steps.{Elsewhere, Filled, Members, Ready, Built}
 use Rattle.indexing.specs.Lemmas.Frame.{kept-drop, elsewhere-then, schedule-stays}

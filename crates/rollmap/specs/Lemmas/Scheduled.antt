@@ -1,16 +1,15 @@
 -- What scheduling writes passes the questions: its records are right, and its index is the tree of its own schedule. Assumes nothing.
-use Prim.Native.Nat.{ℕ, zero, suc, _+_, _*_, _<_, _≤_}
+use Prim.Native.Nat.{ℕ, zero, suc, _*_, _<_, _≤_}
 use mathlib.Core.Path.{_≡_, refl, sym, ap, _∙_, subst}
 use mathlib.Core.Bool.{Bool, true, false, true≢false}
 use mathlib.Core.List.{List}
 use mathlib.Core.Logic.{_↔_}
 use native.Mathlib.Omega.{arith}
-use native.Mathlib.Decide.{decLt}
 use borrow.Author.Tests.{lt-ltb, eq-eqb}
-use lib.ListN.{length, take, drop, length-take, List·getD-eq-default}
-use lib.Seq.{getD-take, getD-drop}
+use lib.ListN.{length, drop}
 use Rattle.lists.specs.TestLaws.{or-right, every-of}
 use Rattle.numbers.specs.Little.{Bytes}
+use Rattle.numbers.specs.Laws.{bytes-take, bytes-drop}
 use Rattle.fractions.specs.declared.Fraction.{Fraction}
 use Rattle.fractions.specs.declared.Value.{Value}
 use Rattle.fractions.specs.declared.Value.the-variants.{At}
@@ -25,9 +24,7 @@ use Rattle.elimination.specs.Reel.{Reel, marksOf}
 use Rattle.elimination.specs.Sheet.{sheet-proper}
 use Rattle.elimination.specs.Theorems.{process-eliminator}
 use Rattle.elimination.specs.Schedule.{schedule-length, schedule-stays, schedule-gone, schedule-value}
-use Rattle.index.specs.Index.{indexOf, isIndex}
-use Rattle.index.specs.Lemmas.Bytes.{same-self, index-length}
-use Rattle.index.specs.Lemmas.Whole.{index-size}
+use Rattle.index.specs.Laws.{index-long, index-iff}
 use Rattle.contents.specs.Contents.{offsetAt, lengthAt, split, marksPart}
 use Rattle.contents.specs.Lemmas.Parts.{split-at}
 use Rattle.bodies.specs.Questions.{markCount, namesRight, recordRight, question8, reelOf}
@@ -37,7 +34,7 @@ use Rattle.sheet.specs.Laws.{accepted-iff}
 use Rattle.bitmap.specs.Map.{countShown}
 use Rattle.rollmap.specs.Jobs.{newSchedule, newIndex, newBodies}
 
--- ---- tests, counts and bytes
+-- ---- tests and counts
 
 -- two values that are both later than f, or neither, have the same test
 pub later-same : (v w : Value) (f : Fraction) → Later v f ↔ Later w f → later v (At f) ≡ later w (At f)
@@ -53,16 +50,6 @@ pub count-same : (p q : ℕ → Bool) (n : ℕ) → ((m : ℕ) → m < n → p m
 unfolding countShown
 count-same p q zero h = refl
 count-same p q (suc n) h = rw (count-same p q n (λ m k. h m (omega arith)), h n (omega arith))
-
-bytes-drop : (k : ℕ) (s : List ℕ) → Bytes s → Bytes (drop k s)
-bytes-drop k s b i = rw (getD-drop k s i 0) (b (k + i))
-
-bytes-take : (k : ℕ) (s : List ℕ) → Bytes s → Bytes (take k s)
-bytes-take k s b i =
-    elim (decLt i k) [
-      | yes h ↦ rw (getD-take k s i 0 h) (b i)
-      | no h ↦ (let l : length (take k s) ≤ i = omega (arith, length-take k s) in rw (List·getD-eq-default (take k s) 0 l) (omega arith))
-    ]
 
 -- ---- the parts that scheduling writes for part 1, `s`
 
@@ -101,16 +88,18 @@ module _ (s : List ℕ) (good : GoodMarks s (markCount s)) (long : length s ≡ 
 
   -- the parts that scheduling writes fit one another: questions 4 to 9 say yes
   pub new-fitting : Fitting (newBodies s)
-  unfolding isIndex
   new-fitting =
       record {
         marks = good;
         marks-long = long;
         schedule-long = λ h. schedule-length (reelOf s);
-        index-long = λ h. index-length (indexOf s (newSchedule s) (markCount s)) ∙ ap (λ (k : ℕ). 2 * k) (index-size s (newSchedule s) (markCount s) (omega (arith, good .few)));
+        index-long = λ h. index-long s (newSchedule s) (markCount s) few;
         schedule-right = λ h. new-every;
-        index-right = λ h. same-self (newIndex s);
+        index-right = λ h. index-iff s (newSchedule s) (markCount s) few (newIndex s) .1 refl;
       }
+    where
+      few : markCount s ≤ 65536
+      few = omega (arith, good .few)
 
 -- ---- an accepted sheet's marks
 

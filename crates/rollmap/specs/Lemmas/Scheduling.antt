@@ -15,8 +15,7 @@ use Rattle.lists.specs.StoreLaws.{sets-append, over-sets}
 use Rattle.elimination.specs.Reel.{Reel, scheduleOf}
 use Rattle.elimination.specs.Schedule.{schedule-length}
 use Rattle.index.specs.Index.{indexOf, indexBytes}
-use Rattle.index.specs.Lemmas.Bytes.{index-length}
-use Rattle.index.specs.Lemmas.Whole.{index-size}
+use Rattle.index.specs.Laws as Index
 use Rattle.indexing.specs.Tail.{withIndex}
 use Rattle.contents.specs.Contents.{split, chain, join, marksPart}
 use Rattle.contents.specs.Asking.{answer}
@@ -51,7 +50,7 @@ results-are r t₀ {t₁} first second =
     rw (front, back) at second
 
 index-long : (s : List ℕ) (n : ℕ) → n ≤ 4096 → length (indexBytes (indexOf s (scheduleOf (record { marks = s; count = n })) n)) ≡ 2 * n
-index-long s n few = index-length (indexOf s (scheduleOf (record { marks = s; count = n })) n) ∙ ap (λ (k : ℕ). 2 * k) (index-size s (scheduleOf (record { marks = s; count = n })) n (omega (arith, few)))
+index-long s n few = Index.index-long s (scheduleOf (record { marks = s; count = n })) n (omega (arith, few))
 
 module _ (s : List ℕ) (n : ℕ) (few : n ≤ 4096) (long : length s ≡ 11 * n) where
   count-is : markCount s ≡ n

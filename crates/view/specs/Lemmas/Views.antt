@@ -18,8 +18,7 @@ use Rattle.index.specs.Blocks.{entryAt}
 use Rattle.index.specs.Laws.{index-below, index-once, index-block, block-tree, index-entries}
 use Rattle.bitmap.specs.Map.{mapSize, bitAt}
 use Rattle.bitmap.specs.Facts.{Shows, Cleared, countBits}
-use Rattle.bitmap.specs.Laws.{map-is, cleared-bit, count-shown}
-use Rattle.bitmap.specs.Lemmas.Counts.{count-le as bits-le}
+use Rattle.bitmap.specs.Laws.{map-is, cleared-bit, count-shown, count-bits-le}
 use Rattle.view.specs.View.{Viewable, Viewed}
 use Rattle.view.specs.declared.Bounds.{Bounds}
 use Rattle.view.specs.declared.Rectangle.{Rectangle}
@@ -89,4 +88,4 @@ module _ {s p t map : List ℕ} {n : ℕ} (v : Viewable s p t map n) where
 
 -- the count of a map fits 32 bits
 pub count-fits : (map : List ℕ) {n r : ℕ} → n ≤ 4096 → r ≡ countBits (bitAt map) (8 * mapSize n) → r < 4294967296
-count-fits map {n} few e = omega (arith, e, bits-le (bitAt map) (8 * mapSize n) (λ m. omega arith))
+count-fits map {n} few e = omega (arith, e, count-bits-le map (8 * mapSize n))

@@ -15,12 +15,12 @@ use Rattle.numbers.specs.Little.{Bytes}
 use Rattle.index.specs.Index.{beats, axisKey, indexOf, indexBytes, isIndex}
 use Rattle.index.specs.Valid.{isTree}
 use Rattle.index.specs.Blocks.{entryAt}
-use Rattle.index.specs.Check.{findingOf, Ready, Whole, AllBelow}
+use Rattle.index.specs.Check.{findingOf, BlockCheckable, Checkable, AllBelow}
 use Rattle.index.specs.declared.Finding.{Finding}
 use Rattle.index.specs.Lemmas.TreeOf.{Made, tree-made, tree-is}
 use Rattle.index.specs.Lemmas.Beats.{beats-order}
 use Rattle.index.specs.Lemmas.Keys.{keys-differ}
-use Rattle.index.specs.Lemmas.Bytes.{same-true, same-self, entries-back, bytes-back}
+use Rattle.index.specs.Lemmas.Entries.{same-true, same-self, entries-back, bytes-back}
 
 module _ (s p : List ℕ) (n : ℕ) (few : n ≤ 65536) where
   made : Made (beats p) (axisKey s) n true (upTo n)
@@ -64,9 +64,9 @@ module _ (s p : List ℕ) (n : ℕ) (few : n ≤ 65536) where
     unfolding isIndex
     index-yes h = rw (← h, bytes-back t bytes n len) (same-self t)
 
-module _ (s p t : List ℕ) (n : ℕ) (w : Whole s p t n) where
-  pub whole-ready : AllBelow t n → Ready s p t 0 n
-  whole-ready all =
+module _ (s p t : List ℕ) (n : ℕ) (w : Checkable s p t n) where
+  pub checkable-whole : AllBelow t n → BlockCheckable s p t 0 n
+  checkable-whole all =
       record {
         fits = omega (arith, w .index-long);
         marked = λ i h. omega (arith, all i (omega arith));

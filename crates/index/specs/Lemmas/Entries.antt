@@ -31,10 +31,10 @@ unfolding sameBytes
 same-self [] = refl
 same-self (a ∷ t) = and-both (eq-eqb a a refl) (same-self t)
 
-pub index-length : (l : List ℕ) → length (indexBytes l) ≡ 2 * length l
+pub bytes-length : (l : List ℕ) → length (indexBytes l) ≡ 2 * length l
 unfolding indexBytes
-index-length [] = refl
-index-length (m ∷ l) = omega (arith, length-append (leBytes 2 m) (indexBytes l), le-length 2 m, index-length l)
+bytes-length [] = refl
+bytes-length (m ∷ l) = omega (arith, length-append (leBytes 2 m) (indexBytes l), le-length 2 m, bytes-length l)
 
 -- number i reads back
 pub index-read : (l : List ℕ) → count (non (below 65536)) l ≡ 0 → (i : ℕ) → i < length l → entryAt (indexBytes l) i ≡ getD l i 0
