@@ -36,7 +36,7 @@ use Rattle.bitmap.specs.Map.{mapByte, mapPart, mapBytes, countShown}
 use Rattle.view.specs.Questions as Viewing
 use Rattle.rollmap.specs.Jobs.{outcome, checkJob, scheduled, assembleJob, fillJob, logToMarksJob, marksToLogJob, shownIn, viewJob}
 use Rattle.text.specs.Text.{digits}
-use Rattle.report.specs.Text.{text, line, markLine, markLines, listing, refusal, printQuestions, printed}
+use Rattle.report.specs.Text.{text, line, markLine, markLines, listing, refusalLine, printQuestions, printed}
 
 -- ---- inputs by their fields
 
@@ -251,5 +251,5 @@ unfolding table answers recordOf pairs sheet marks oldSheet ofBits
     Rows.rows filledRadius filled fillQuestions markQuestions part1Questions question7 namesRight recordRight question8
     question9 bodyQuestions checkQuestions check assembleQuestions stopScale wheelScale scaleOf livesAt gapSquared distanceSquared reaches
     shown mapByte mapPart mapBytes countShown Viewing.question10 Viewing.question11 Viewing.viewQuestions outcome checkJob scheduled
-    assembleJob fillJob shownIn viewJob digits line rootStep root zoomDown markLine markLines listing refusal printQuestions printed
+    assembleJob fillJob shownIn viewJob digits line rootStep root zoomDown markLine markLines listing refusalLine printQuestions printed
 examples = refl

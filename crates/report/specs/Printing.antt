@@ -7,13 +7,14 @@ use lib.Dec.{eqb}
 use lib.ListN.{length}
 use Rattle.lists.specs.Stores.{over}
 use Rattle.fractions.specs.Order.{Small}
+use Rattle.text.specs.Text.{numberRoom}
 use Rattle.elimination.specs.Process.{Removal, stays, gone}
 use Rattle.elimination.specs.Records.{eliminatorAt, denAt, fractionAt, isNever}
 use Rattle.elimination.specs.Reel.{scheduleOf}
 use Rattle.contents.specs.Contents.{split, marksPart}
 use Rattle.contents.specs.Asking.{answer}
 use Rattle.bodies.specs.Questions.{reelOf}
-use Rattle.report.specs.Text.{printQuestions, printed}
+use Rattle.report.specs.Text.{mostMarks, printQuestions, printed}
 
 -- ---- a schedule's records
 
@@ -33,19 +34,22 @@ pub record Printable (p : List ℕ) (n : ℕ) : Type 0 where
 
 -- ---- room
 
--- The longest line has five numbers, each of at most 20 digits and one byte behind them.
+-- The longest line has five numbers, each with one byte behind it.
 abbrev pub lineRoom : ℕ
-lineRoom = 105
+lineRoom = 5 * numberRoom
 
 -- The first line has a word of at most 7 letters, a space, and one such number.
+abbrev pub firstRoom : ℕ
+firstRoom = 7 + 1 + numberRoom
+
 abbrev pub textRoom : ℕ → ℕ
-textRoom n = lineRoom * n + 29
+textRoom n = lineRoom * n + firstRoom
 
 -- "at most 2,000 marks": their work buffer, their records and their lines
 pub record Room (work schedule out : List ℕ) : Type 0 where
-  pub work-room : 32 * 2000 + 1024 ≤ length work
-  pub schedule-room : 14 * 2000 ≤ length schedule
-  pub out-room : textRoom 2000 ≤ length out
+  pub work-room : 32 * mostMarks + 1024 ≤ length work
+  pub schedule-room : 14 * mostMarks ≤ length schedule
+  pub out-room : textRoom mostMarks ≤ length out
 
 -- ---- the whole call
 

@@ -43,17 +43,24 @@ unfoldable pub listing : (ℕ → Removal) → ℕ → List ℕ
 listing s n = line (text "marks" ∷ decimal n ∷ []) ++ markLines s n
 
 -- "A refusal prints one line, `refused` and the number."
-unfoldable pub refusal : ℕ → List ℕ
-refusal number = line (text "refused" ∷ decimal number ∷ [])
+unfoldable pub refusalLine : ℕ → List ℕ
+refusalLine number = line (text "refused" ∷ decimal number ∷ [])
 
 -- ---- the program
 
+-- "at most 2,000 marks and 65,536 input bytes"
+abbrev pub mostMarks : ℕ
+mostMarks = 2000
+
+abbrev pub longestInput : ℕ
+longestInput = 65536
+
 -- "asks 1 to 9 and 14": "are there at most 2,000 marks and 65,536 input bytes? A longer input gets 14 before all else."
 unfoldable pub printQuestions : List ℕ → List Question
-printQuestions s = (14 asks leb (length s) 65536) ∷ checkQuestions s ++ ((14 asks leb (sheetCount s) 2000) ∷ [])
+printQuestions s = (14 asks leb (length s) longestInput) ∷ checkQuestions s ++ ((14 asks leb (sheetCount s) mostMarks) ∷ [])
 
 -- what the program writes on an input
 unfoldable pub printed : List ℕ → List ℕ
 printed s =
     let number = answer (printQuestions s) in
-    cond (eqb number 0) (listing (process (marksOf (reelOf (marksPart (split s))))) (sheetCount s)) (refusal number)
+    cond (eqb number 0) (listing (process (marksOf (reelOf (marksPart (split s))))) (sheetCount s)) (refusalLine number)

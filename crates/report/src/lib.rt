@@ -6,7 +6,7 @@ ghost use mathlib.Core.List.{[], _∷_};
 ghost use Prim.Native.Nat.{_+_, _*_, _<_, _≤_};
 ghost use lib.ListN.{length};
 ghost use Rattle.fractions.specs.Order.{Small};
-ghost use Rattle.text.specs.Text.{decimal, Wrote};
+ghost use Rattle.text.specs.Text.{decimal, numberRoom, Wrote};
 ghost use Rattle.elimination.specs.Process.{stays, gone};
 ghost use Rattle.elimination.specs.Records.{isNever};
 ghost use Rattle.contents.specs.Asking.{answer};
@@ -17,7 +17,7 @@ ghost use Rattle.report.specs.Printing.{removalAt, Zoomable, Printable, 
 
 // The first line, a word and a number, at the start of `out`; gives the place behind it.
 fn put_first_line(out: &mut [u8], word: &[u8], number: u64) -> usize
-    requires { ⌜ length (now word) + 22 ≤ length (now out) ⌝ }
+    requires { ⌜ length (now word) + 1 + numberRoom ≤ length (now out) ⌝ }
     ensures { λ r. ⌜ Wrote (now (out .entry)) (now (out .exit)) 0 (line (now (word .entry) ∷ decimal number ∷ [])) r ⌝ }
 {
     let next = contents::put(out, 0, word);

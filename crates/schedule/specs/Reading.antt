@@ -5,18 +5,15 @@ use mathlib.Core.Path.{_≡_}
 use mathlib.Core.Logic.{_⊎_}
 use mathlib.Core.List.{List}
 use lib.ListN.{length, take}
+use Rattle.report.specs.Text.{longestInput}
 use Rattle.report.specs.Printing.{Prints}
 use Rattle.schedule.specs.declared.Reading.{Reading}
 use Rattle.schedule.specs.declared.Reading.the-variants.{Read, Failed}
 
--- "are there at most 2,000 marks and 65,536 input bytes?"
-abbrev pub longestInput : ℕ
-longestInput = 65536
-
 -- what was read lies in the room
-abbrev pub Fitting : Reading → List ℕ → Type 0
-Fitting (Read n) room = n ≤ length room
-Fitting Failed room = Unit {0}
+abbrev pub InRoom : Reading → List ℕ → Type 0
+InRoom (Read n) room = n ≤ length room
+InRoom Failed room = Unit {0}
 
 -- "A longer input gets 14 before all else": bytes that fill the room, so that more may follow, are already too many.
 abbrev pub Told : Reading → List ℕ → Type 0

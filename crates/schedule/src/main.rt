@@ -5,8 +5,9 @@ use libc::STDIN_FILENO;
 use libc::STDOUT_FILENO;
 ghost use Prim.Native.Nat.{_<_, _≤_};
 ghost use lib.ListN.{length};
+ghost use Rattle.report.specs.Text.{longestInput};
 ghost use Rattle.report.specs.Printing.{Room};
-ghost use Rattle.schedule.specs.Reading.{longestInput, Fitting, Told, Reported};
+ghost use Rattle.schedule.specs.Reading.{InRoom, Told, Reported};
 
 // What reading came to: so many bytes at the start of the room for them, or a read that failed.
 enum Reading {
@@ -16,7 +17,7 @@ enum Reading {
 
 // Reads once: Read(0) says that the input has ended.
 fn read_some(fd: i32, room: &mut [u8]) -> Reading
-    ensures { λ r. ⌜ Fitting r (now (room .exit)) ⌝ }
+    ensures { λ r. ⌜ InRoom r (now (room .exit)) ⌝ }
 {
     let got = libc::read(fd, room);
     if got < 0 {

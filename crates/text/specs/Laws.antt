@@ -11,11 +11,11 @@ use lib.Dec.{ltb}
 use lib.ListN.{length, length-append, set}
 use lib.Seq.{length-sets}
 use Rattle.lists.specs.StoreLaws.{sets-append}
-use Rattle.text.specs.Text.{digits, decimal, denoted, Wrote}
+use Rattle.text.specs.Text.{digits, mostDigits, decimal, denoted, Wrote}
 
 -- ---- digits
 
-pub digits-bound : (width v : ℕ) → length (digits width v) ≤ width
+digits-bound : (width v : ℕ) → length (digits width v) ≤ width
 unfolding digits
 digits-bound zero v = omega arith
 digits-bound (suc width) v = cases (ltb v 10) (digits-bound width (v / 10))
@@ -24,16 +24,16 @@ digits-bound (suc width) v = cases (ltb v 10) (digits-bound width (v / 10))
     cases true h = omega arith
     cases false h = omega (arith, length-append (digits width (v / 10)) ((48 + v % 10) ∷ []))
 
-pub digits-one : (width v : ℕ) → v < 10 → digits (suc width) v ≡ (48 + v) ∷ []
+digits-one : (width v : ℕ) → v < 10 → digits (suc width) v ≡ (48 + v) ∷ []
 unfolding digits
 digits-one width v h = let e : v % 10 ≡ v = omega arith in rw (lt-ltb v 10 h, e)
 
-pub digits-more : (width v : ℕ) → 10 ≤ v → digits (suc width) v ≡ digits width (v / 10) ++ ((48 + v % 10) ∷ [])
+digits-more : (width v : ℕ) → 10 ≤ v → digits (suc width) v ≡ digits width (v / 10) ++ ((48 + v % 10) ∷ [])
 unfolding digits
 digits-more width v h = rw (le-ltb v 10 h)
 
 -- room for one digit more than there are changes nothing
-pub digits-room : (k v : ℕ) → v < 10 ^ suc k → digits (suc (suc k)) v ≡ digits (suc k) v
+digits-room : (k v : ℕ) → v < 10 ^ suc k → digits (suc (suc k)) v ≡ digits (suc k) v
 digits-room zero v h = let l : v < 10 = omega arith in digits-one 1 v l ∙ sym (digits-one 0 v l)
 digits-room (suc k) v h =
     elim (decLt v 10) [
@@ -44,6 +44,9 @@ digits-room (suc k) v h =
           let r = digits-room k (v / 10) s in
           digits-more (suc (suc k)) v (omega arith) ∙ ap (λ (d : List ℕ). d ++ ((48 + v % 10) ∷ [])) r ∙ sym (digits-more (suc k) v (omega arith)))
     ]
+
+pub decimal-bound : (v : ℕ) → length (decimal v) ≤ mostDigits
+decimal-bound v = digits-bound mostDigits v
 
 pub decimal-one : (v : ℕ) → v < 10 → decimal v ≡ (48 + v) ∷ []
 decimal-one v h = digits-one 19 v h
@@ -81,7 +84,7 @@ digits-denote (suc width) v h =
 
 -- The decimal digits of a number of up to 8 bytes denote it.
 pub decimal-denotes : (v : ℕ) → v < 18446744073709551616 → denoted 0 (decimal v) ≡ v
-decimal-denotes v h = digits-denote 20 v (omega arith)
+decimal-denotes v h = digits-denote mostDigits v (omega arith)
 
 -- ---- writing one text behind another
 

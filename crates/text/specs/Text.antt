@@ -13,8 +13,15 @@ digits zero v = []
 digits (suc width) v = cond (ltb v 10) [] (digits width (v / 10)) ++ ((48 + v % 10) ∷ [])
 
 -- a number of up to 8 bytes has at most 20 digits
+abbrev pub mostDigits : ℕ
+mostDigits = 20
+
 abbrev pub decimal : ℕ → List ℕ
-decimal v = digits 20 v
+decimal v = digits mostDigits v
+
+-- the room that a number and one byte behind it may take
+abbrev pub numberRoom : ℕ
+numberRoom = mostDigits + 1
 
 -- the number that decimal digits denote, the highest first, where those before them denote v
 unfoldable pub denoted : ℕ → List ℕ → ℕ

@@ -3,7 +3,7 @@ ghost use mathlib.Core.Path.{_≡_};
 ghost use mathlib.Core.List.{[], _∷_, _++_};
 ghost use Prim.Native.Nat.{_+_, _<_, _≤_};
 ghost use lib.ListN.{length};
-ghost use Rattle.text.specs.Text.{decimal, Wrote};
+ghost use Rattle.text.specs.Text.{decimal, numberRoom, Wrote};
 
 // The digit of a number below 10.
 fn digit(v: u64) -> u8
@@ -29,7 +29,7 @@ fn put_decimal(out: &mut [u8], at: usize, v: u64) -> usize
 
 // Writes v and one byte more; gives the place behind them.
 pub fn put_number(out: &mut [u8], at: usize, v: u64, end: u8) -> usize
-    requires { ⌜ at + 21 ≤ length (now out) ⌝ }
+    requires { ⌜ at + numberRoom ≤ length (now out) ⌝ }
     ensures { λ r. ⌜ Wrote (now (out .entry)) (now (out .exit)) at (decimal v ++ (end ∷ [])) r ⌝ }
 {
     let last = put_decimal(out, at, v);

@@ -8,7 +8,7 @@ use borrow.Author.Needs.{needs}
 use Rattle.numbers.specs.Little.{Bytes}
 use Rattle.contents.specs.Asking.{answer}
 use Rattle.bodies.specs.Questions.{markCount}
-use Rattle.report.specs.Text.{printQuestions}
+use Rattle.report.specs.Text.{mostMarks, printQuestions}
 use Rattle.report.specs.Lemmas.Printed.{prints-refusal, taken-laid, part1-few, part1-good, taken-printable, prints-listing}
 use Rattle.report.proofs.print.Statement.{statement}
 use Rattle.report.proofs.print.Tie as tie
@@ -20,7 +20,7 @@ input-bytes c i = c .before .before .before .before .before .shared-slice-known 
 yes : (c : tie.Else1) → answer (printQuestions (now (c .before .before .before .before .before .before .args .input))) ≡ 0
 yes c = sym (c .before .print-answer .ensures) ∙ c .if1 .left
 
-marks-few : (c : tie.After-body) → markCount (now (c .body .result)) ≤ 2000
+marks-few : (c : tie.After-body) → markCount (now (c .body .result)) ≤ mostMarks
 marks-few c = part1-few _ (input-bytes (c .before)) (yes (c .before)) (c .body .ensures)
 
 print-answer-requires : tie.Need-print-answer-requires

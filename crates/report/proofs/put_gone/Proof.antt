@@ -1,29 +1,30 @@
--- `report::put_gone` meets its contract: each number ends at most 21 bytes behind the last, so that there is room for five; together they
+-- `report::put_gone` meets its contract: each number ends at most `numberRoom` bytes behind the last, so that there is room for five; together they
 -- are the line. Assumes nothing.
-use Prim.Native.Nat.{_+_, _≤_}
+use Prim.Native.Nat.{_+_, _*_, _≤_}
 use mathlib.Core.Path.{_≡_, _∙_}
 use native.Mathlib.Omega.{arith}
 use lib.ListN.{length}
 use denote.Ref.{now}
 use borrow.Author.Needs.{needs}
+use Rattle.text.specs.Text.{numberRoom}
 use Rattle.report.specs.Lemmas.Lines.{number-ends, gone-line}
 use Rattle.report.proofs.put_gone.Statement.{statement}
 use Rattle.report.proofs.put_gone.Tie as tie
 
 -- where each next number starts
 second : (c : tie.After-put-number) → let a = c .before .before .before .args in
-    (c .put-number .result ≤ a .at + 21) × (length (c .put-number .last .0) ≡ length (now (a .out)))
+    (c .put-number .result ≤ a .at + numberRoom) × (length (c .put-number .last .0) ≡ length (now (a .out)))
 second c = number-ends _ _ (c .put-number .ensures)
 
 third : (c : tie.After-put-number2) → let a = c .before .before .before .before .before .before .before .args in
-    (c .put-number2 .result ≤ a .at + 42) × (length (c .put-number2 .last .0) ≡ length (now (a .out)))
+    (c .put-number2 .result ≤ a .at + 2 * numberRoom) × (length (c .put-number2 .last .0) ≡ length (now (a .out)))
 third c =
     let s = second (c .before .before .before .before) in
     let e = number-ends _ _ (c .put-number2 .ensures) in
     (omega (arith, s .0, e .0), e .1 ∙ s .1)
 
 fourth : (c : tie.After-put-number3) → let a = c .before .before .before .before .before .before .before .before .before .before .before .args in
-    (c .put-number3 .result ≤ a .at + 63) × (length (c .put-number3 .last .0) ≡ length (now (a .out)))
+    (c .put-number3 .result ≤ a .at + 3 * numberRoom) × (length (c .put-number3 .last .0) ≡ length (now (a .out)))
 fourth c =
     let s = third (c .before .before .before .before) in
     let e = number-ends _ _ (c .put-number3 .ensures) in
@@ -31,7 +32,7 @@ fourth c =
 
 fifth : (c : tie.After-put-number4) → let b = c .before .before .before .before .before in
     let a = b .before .before .before .before .before .before .before .before .before .before .before .args in
-    (c .put-number4 .result ≤ a .at + 84) × (length (c .put-number4 .last .0) ≡ length (now (a .out)))
+    (c .put-number4 .result ≤ a .at + 4 * numberRoom) × (length (c .put-number4 .last .0) ≡ length (now (a .out)))
 fifth c =
     let s = fourth (c .before .before .before .before .before) in
     let e = number-ends _ _ (c .put-number4 .ensures) in

@@ -1,4 +1,4 @@
--- `report::put_stays` meets its contract: the number ends at most 21 bytes on, and the two bytes behind it make the line. Assumes nothing.
+-- `report::put_stays` meets its contract: the number ends at most `numberRoom` bytes on, and the two bytes behind it make the line. Assumes nothing.
 use native.Mathlib.Omega.{arith}
 use lib.ListN.{length-set}
 use borrow.Author.Needs.{needs}

@@ -6,12 +6,12 @@ use native.Mathlib.Numerals.{add-one}
 use native.Mathlib.Omega.{arith}
 use lib.ListN.{length, length-append, set}
 use Rattle.fractions.specs.declared.Fraction.{Fraction}
-use Rattle.text.specs.Text.{decimal, Wrote}
+use Rattle.text.specs.Text.{decimal, numberRoom, Wrote}
 use Rattle.zoom.specs.Printed.{zoomDown}
-use Rattle.text.specs.Laws.{digits-bound, wrote-byte, wrote-then, wrote-length}
+use Rattle.text.specs.Laws.{decimal-bound, wrote-byte, wrote-then, wrote-length}
 use Rattle.elimination.specs.Process.{Removal, stays, gone}
-use Rattle.report.specs.Text.{text, line, markLine, markLines, listing, refusal}
-use Rattle.report.specs.Printing.{lineRoom, textRoom}
+use Rattle.report.specs.Text.{text, line, markLine, markLines, listing, refusalLine}
+use Rattle.report.specs.Printing.{lineRoom, firstRoom, textRoom}
 
 -- ---- writing a line
 
@@ -56,11 +56,11 @@ lines-more s m a b = rw (add-one m) (wrote-then a b)
 -- ---- how long they can be
 
 -- a number with a byte behind it, and a text
-number-room : (v x : ℕ) (rest : List ℕ) → length (decimal v ++ (x ∷ rest)) ≤ length rest + 21
-number-room v x rest = omega (arith, length-append (decimal v) (x ∷ rest), digits-bound 20 v)
+number-room : (v x : ℕ) (rest : List ℕ) → length (decimal v ++ (x ∷ rest)) ≤ length rest + numberRoom
+number-room v x rest = omega (arith, length-append (decimal v) (x ∷ rest), decimal-bound v)
 
 -- where a number ends that was written with a byte behind it
-pub number-ends : (v x : ℕ) {l m : List ℕ} {at p : ℕ} → Wrote l m at (decimal v ++ (x ∷ [])) p → (p ≤ at + 21) × (length m ≡ length l)
+pub number-ends : (v x : ℕ) {l m : List ℕ} {at p : ℕ} → Wrote l m at (decimal v ++ (x ∷ [])) p → (p ≤ at + numberRoom) × (length m ≡ length l)
 number-ends v x w = (omega (arith, w .ends, number-room v x []), wrote-length w)
 
 pub mark-room : (m : ℕ) (r : Removal) → length (markLine m r) ≤ lineRoom
@@ -80,12 +80,12 @@ marks-room s (suc n) =
     omega (arith, length-append (markLines s n) (markLine n (s n)), marks-room s n, mark-room n (s n))
 
 -- the first line, of a word of at most 7 letters
-pub first-room : (word : List ℕ) (v : ℕ) → length word ≤ 7 → length (line (word ∷ decimal v ∷ [])) ≤ 29
+pub first-room : (word : List ℕ) (v : ℕ) → length word ≤ 7 → length (line (word ∷ decimal v ∷ [])) ≤ firstRoom
 unfolding line
 first-room word v h = omega (arith, length-append word (32 ∷ (decimal v ++ (10 ∷ []))), number-room v 10 [])
 
-pub refusal-room : (number : ℕ) → length (refusal number) ≤ 29
-unfolding refusal
+pub refusal-room : (number : ℕ) → length (refusalLine number) ≤ firstRoom
+unfolding refusalLine
 refusal-room number = first-room (text "refused") number (omega arith)
 
 pub listing-room : (s : ℕ → Removal) (n : ℕ) → length (listing s n) ≤ textRoom n

@@ -24,42 +24,42 @@ use Rattle.bodies.specs.Questions.{markCount, reelOf}
 use Rattle.sheet.specs.Questions.{sheetCount, checkQuestions, check}
 use Rattle.sheet.specs.Laws.{check-numbered, accepted-iff}
 use Rattle.rollmap.specs.Lemmas.Scheduled.{good, marks-bytes}
-use Rattle.report.specs.Text.{text, line, listing, refusal, printQuestions, printed}
-use Rattle.report.specs.Printing.{removalAt, Printable, textRoom, workedOut, Prints}
+use Rattle.report.specs.Text.{text, line, listing, refusalLine, mostMarks, longestInput, printQuestions, printed}
+use Rattle.report.specs.Printing.{removalAt, Printable, firstRoom, textRoom, workedOut, Prints}
 use Rattle.report.specs.Lemmas.Lines.{refusal-room, listing-room, listing-same}
 use Rattle.report.specs.Lemmas.Removals.{removal-process, schedule-printable}
 
 module _ (s : List ℕ) where
   last : List Question
-  last = (14 asks leb (sheetCount s) 2000) ∷ []
+  last = (14 asks leb (sheetCount s) mostMarks) ∷ []
 
   -- ---- the first 'no'
 
-  pub answer-long : 65536 < length s → answer (printQuestions s) ≡ 14
+  pub answer-long : longestInput < length s → answer (printQuestions s) ≡ 14
   unfolding printQuestions
-  answer-long h = asked-no 14 _ (lt-leb (length s) 65536 h)
+  answer-long h = asked-no 14 _ (lt-leb (length s) longestInput h)
 
-  module _ (short : length s ≤ 65536) where
+  module _ (short : length s ≤ longestInput) where
     pub answer-refused : 0 < check s → answer (printQuestions s) ≡ check s
     unfolding printQuestions check
-    answer-refused h = asked-yes 14 _ (le-leb (length s) 65536 short) ∙ append-no (checkQuestions s) _ (check-numbered s) h
+    answer-refused h = asked-yes 14 _ (le-leb (length s) longestInput short) ∙ append-no (checkQuestions s) _ (check-numbered s) h
 
     module _ (ok : check s ≡ 0) where
       accepted : answer (printQuestions s) ≡ answer last
       unfolding printQuestions check last
-      accepted = asked-yes 14 _ (le-leb (length s) 65536 short) ∙ append-yes (checkQuestions s) _ (check-numbered s) ok
+      accepted = asked-yes 14 _ (le-leb (length s) longestInput short) ∙ append-yes (checkQuestions s) _ (check-numbered s) ok
 
-      pub answer-many : 2000 < sheetCount s → answer (printQuestions s) ≡ 14
+      pub answer-many : mostMarks < sheetCount s → answer (printQuestions s) ≡ 14
       unfolding last
-      answer-many h = accepted ∙ asked-no 14 _ (lt-leb (sheetCount s) 2000 h)
+      answer-many h = accepted ∙ asked-no 14 _ (lt-leb (sheetCount s) mostMarks h)
 
-      pub answer-taken : sheetCount s ≤ 2000 → answer (printQuestions s) ≡ 0
+      pub answer-taken : sheetCount s ≤ mostMarks → answer (printQuestions s) ≡ 0
       unfolding last
-      answer-taken h = accepted ∙ asked-yes 14 _ (le-leb (sheetCount s) 2000 h) ∙ none-asked
+      answer-taken h = accepted ∙ asked-yes 14 _ (le-leb (sheetCount s) mostMarks h) ∙ none-asked
 
   -- ---- what is printed
 
-  -- the text of `w` at the start of a buffer that has room for it
+  -- the text at the start of a buffer that has room for it
   record Stands (out out-after : List ℕ) (r : ℕ) : Type 0 where
     size : r ≡ length (printed s)
     inside : r ≤ length out-after
@@ -74,7 +74,7 @@ module _ (s : List ℕ) where
       }
 
   module _ {number : ℕ} (e : number ≡ answer (printQuestions s)) (no : 0 < number) where
-    refusal-printed : printed s ≡ refusal number
+    refusal-printed : printed s ≡ refusalLine number
     unfolding printed
     refusal-printed = rw (← e, ne-eqb number 0 (λ z. omega arith))
 
@@ -82,29 +82,29 @@ module _ (s : List ℕ) where
     unfolding workedOut
     none-worked-out = rw (← e, ne-eqb number 0 (λ z. omega arith))
 
-    pub prints-refusal : (work schedule : List ℕ) {out out-after : List ℕ} {r : ℕ} → 29 ≤ length out
+    pub prints-refusal : (work schedule : List ℕ) {out out-after : List ℕ} {r : ℕ} → firstRoom ≤ length out
         → Wrote out out-after 0 (line (text "refused" ∷ decimal number ∷ [])) r → Prints s work schedule out r work schedule out-after
-    unfolding refusal over
+    unfolding refusalLine over
     prints-refusal work schedule room o =
-        let w = stands (refusal number) refusal-printed (omega (arith, refusal-room number)) o in
+        let w = stands (refusalLine number) refusal-printed (omega (arith, refusal-room number)) o in
         record { size = w .size; inside = w .inside; text = w .text; records = rw none-worked-out; long = refl; refused = λ h. refl }
 
   -- no question said 'no'
   module _ (yes : answer (printQuestions s) ≡ 0) where
     asked : (check s ≡ 0) × (answer last ≡ 0)
     unfolding printQuestions check last
-    asked = append-iff (checkQuestions s) _ (check-numbered s) .0 (asked-iff 14 (leb (length s) 65536) _ (omega arith) .0 yes .1)
+    asked = append-iff (checkQuestions s) _ (check-numbered s) .0 (asked-iff 14 (leb (length s) longestInput) _ (omega arith) .0 yes .1)
 
     pub taken-laid : Laid s
     taken-laid = accepted-iff s .0 (asked .0) .laid
 
-    few : sheetCount s ≤ 2000
+    few : sheetCount s ≤ mostMarks
     unfolding last
-    few = leb-true (sheetCount s) 2000 (asked-iff 14 (leb (sheetCount s) 2000) [] (omega arith) .0 (asked .1) .0)
+    few = leb-true (sheetCount s) mostMarks (asked-iff 14 (leb (sheetCount s) mostMarks) [] (omega arith) .0 (asked .1) .0)
 
   -- then `part` is part 1
   module _ (bytes : Bytes s) (yes : answer (printQuestions s) ≡ 0) {part : List ℕ} (is : part ≡ marksPart (split s)) where
-    pub part1-few : markCount part ≤ 2000
+    pub part1-few : markCount part ≤ mostMarks
     part1-few = rw is (few yes)
 
     pub part1-good : GoodMarks part (markCount part)
@@ -131,7 +131,7 @@ module _ (s : List ℕ) where
       unfolding workedOut over
       worked-out = rw (yes, ← is, schedule-length (reelOf part)) schedule
 
-      pub prints-listing : (work work-after : List ℕ) {out out-after : List ℕ} {r : ℕ} → length work-after ≡ length work → textRoom 2000 ≤ length out
+      pub prints-listing : (work work-after : List ℕ) {out out-after : List ℕ} {r : ℕ} → length work-after ≡ length work → textRoom mostMarks ≤ length out
           → Wrote out out-after 0 (listing (removalAt p) (markCount part)) r → Prints s work before out r work-after p out-after
       prints-listing work work-after long room o =
           let w = stands (listing (removalAt p) (markCount part)) (sym same) (omega (arith, listing-room (removalAt p) (markCount part), part1-few)) o in

@@ -9,13 +9,13 @@ use borrow.Author.Needs.{needs}
 use lib.ListN.{length}
 use Rattle.schedule.specs.declared.Reading.{Reading}
 use Rattle.schedule.specs.declared.Reading.the-variants.{Read}
-use Rattle.schedule.specs.Reading.{Fitting}
+use Rattle.schedule.specs.Reading.{InRoom}
 use Rattle.schedule.proofs.read_input.Statement.{statement}
 use Rattle.schedule.proofs.read_input.Tie as tie
 
 -- the bytes of one read lie in the room for them
-lies-in : (reading : Reading) (n : ℕ) (room : List ℕ) → reading ≡ Read n → Fitting reading room → n ≤ length room
-lies-in reading n room e fitting = subst (λ r. Fitting r room) e fitting
+lies-in : (reading : Reading) (n : ℕ) (room : List ℕ) → reading ≡ Read n → InRoom reading room → n ≤ length room
+lies-in reading n room e lies = subst (λ r. InRoom r room) e lies
 
 abbrev Inv-loop : tie.InvT-loop
 Inv-loop fd room₀ size₀ room size = (length room ≡ length room₀) × (size ≤ length room)
