@@ -9,6 +9,15 @@ ghost use Rattle.report.specs.Text.{longestInput};
 ghost use Rattle.report.specs.Printing.{Room};
 ghost use Rattle.schedule.specs.Reading.{InRoom, Told, Reported};
 
+// The buffers of `MARKS` marks: 32 bytes of work each and 1,024, 14 bytes a record, 105 bytes a line and 29 for the first line.
+const MARKS: usize = 2000;
+
+const WORK: usize = 32 * MARKS + 1024;
+
+const SCHEDULE: usize = 14 * MARKS;
+
+const TEXT: usize = 105 * MARKS + 29;
+
 // What reading came to: so many bytes at the start of the room for them, or a read that failed.
 enum Reading {
     Read(usize),
@@ -81,10 +90,9 @@ fn complain(reading: Reading, is_written: bool) {
 fn main() {
     let mut input = [0u8; 65537];
     let reading = read_input(STDIN_FILENO, &mut input);
-    // For 2,000 marks: 32 bytes of work each and 1,024, 14 bytes a record, 105 bytes a line and 29 for the first line.
-    let mut work = [0u8; 65024];
-    let mut schedule = [0u8; 28000];
-    let mut out = [0u8; 210029];
+    let mut work = [0u8; WORK];
+    let mut schedule = [0u8; SCHEDULE];
+    let mut out = [0u8; TEXT];
     let length = print_read(reading, &input, &mut work, &mut schedule, &mut out);
     let is_written = io::write_all(STDOUT_FILENO, &out[..length]);
     complain(reading, is_written);
