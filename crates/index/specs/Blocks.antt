@@ -7,11 +7,12 @@ use mathlib.Core.List.{List, _∷_, _++_}
 use Rattle.lists.specs.Counting.{count, non}
 use Rattle.lists.specs.Blocks.{block}
 use Rattle.numbers.specs.Little.{leAt}
+use Rattle.index.specs.Index.{entrySize}
 use Rattle.index.specs.Valid.{isTree, Split}
 
--- "2 bytes a mark": number i of the index `t`
+-- number i of the index `t`
 abbrev pub entryAt : List ℕ → ℕ → ℕ
-entryAt t i = leAt 2 t (2 * i)
+entryAt t i = leAt entrySize t (entrySize * i)
 
 -- all but the root
 abbrev pub othersOf : (ℕ → ℕ) → ℕ → ℕ → List ℕ

@@ -5,4 +5,4 @@ pub mod Reorder
 pub mod Best
 pub mod Sort
 pub mod Build
-pub mod Whole
+pub mod Result

@@ -1,5 +1,4 @@
--- Read Tail: what is built where. Steps says what the code's own steps do. To be used: Laws.
-pub mod Tail
+-- Read Buffer: what is built where. Steps says what the code's own steps do.
+pub mod Buffer
 pub mod Steps
 pub mod Lemmas
-pub mod Laws

@@ -1,12 +1,12 @@
 -- Runs of stores: one after another, turn by turn, and what they leave as it was. Assumes nothing.
 use Prim.Native.Nat.{ℕ, suc, _+_, _<_, _≤_}
-use mathlib.Core.Path.{_≡_, refl, _∙_}
+use mathlib.Core.Path.{_≡_, refl, sym, _∙_}
 use mathlib.Core.List.{List, [], _∷_, _++_}
 use native.Mathlib.Nat.{add-zero, zero-add}
 use native.Mathlib.Numerals.{add-one}
 use native.Mathlib.Omega.{arith}
-use lib.ListN.{length, getD, set, drop, length-set}
-use lib.Seq.{sets, sets-eq, drop-cons, getD-set-other}
+use lib.ListN.{length, getD, set, take, drop, length-set, length-take, length-drop}
+use lib.Seq.{sets, sets-eq, ext-getD, drop-cons, getD-take, getD-drop, getD-set-other}
 use Rattle.lists.specs.Stores.{over, Clear, Kept}
 
 -- ---- runs
@@ -45,6 +45,25 @@ kept-wide k h l = record { long = k .long; rest = λ p o. k .rest p (omega arith
 
 pub kept-then : {s t u : List ℕ} {a b : ℕ} → Kept s t a b → Kept t u a b → Kept s u a b
 kept-then k l = record { long = l .long ∙ k .long; rest = λ p o. l .rest p o ∙ k .rest p o }
+
+-- before the range and behind it
+module _ {s t : List ℕ} {a b : ℕ} (k : Kept s t a b) where
+  pub kept-cut : (from m : ℕ) → from + m ≤ a → take m (drop from t) ≡ take m (drop from s)
+  kept-cut from m h =
+      ext-getD 0 (take m (drop from t)) (take m (drop from s))
+      (omega (arith, length-take m (drop from t), length-take m (drop from s), length-drop from t, length-drop from s))
+      (λ i g.
+      let l : i < m = omega (arith, length-take m (drop from t)) in
+      getD-take m (drop from t) i 0 l ∙ getD-drop from t i 0 ∙ k .rest (from + i) (omega arith)
+      ∙ sym (getD-take m (drop from s) i 0 l ∙ getD-drop from s i 0))
+
+  pub kept-take : (m : ℕ) → m ≤ a → take m t ≡ take m s
+  kept-take m h = kept-cut 0 m (omega arith)
+
+  pub kept-drop : (m : ℕ) → b ≤ m → drop m t ≡ drop m s
+  kept-drop m h =
+      ext-getD 0 (drop m t) (drop m s) (omega (arith, length-drop m s, length-drop m t))
+      (λ i g. getD-drop m t i 0 ∙ k .rest (m + i) (omega arith) ∙ sym (getD-drop m s i 0))
 
 pub kept-one : (s : List ℕ) (i v : ℕ) → Kept s (set s i v) i (suc i)
 kept-one s i v = record { long = length-set s i v; rest = λ p o. getD-set-other s i p v 0 (omega arith) }

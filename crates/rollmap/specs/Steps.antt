@@ -13,10 +13,10 @@ use Rattle.view.specs.Shown.{shown}
 use Rattle.bitmap.specs.Map.{mapSize, mapBytes, countShown}
 use Rattle.rollmap.specs.Jobs.{Outcome, outcome}
 
--- parts 2 and 3 of a reel at the start of a buffer
+-- the three parts of a reel at the start of a buffer
 unfoldable pub resultsOver : Reel → List ℕ → List ℕ
 resultsOver r buffer =
-    scheduleOf r ++ (indexBytes (indexOf (r .marks) (scheduleOf r) (r .count)) ++ drop (16 * r .count) buffer)
+    r .marks ++ (scheduleOf r ++ (indexBytes (indexOf (r .marks) (scheduleOf r) (r .count)) ++ drop (27 * r .count) buffer))
 
 -- viewing an accepted sheet at a zoom that is taken: 13 is all that is left to ask
 unfoldable pub viewAt : List ℕ → Rectangle → ℕ → ℕ → Outcome

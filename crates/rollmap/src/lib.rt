@@ -5,10 +5,9 @@ use zoom::Scale;
 use zoom::Zoom;
 ghost use mathlib.Core.Path.{_≡_};
 ghost use Prim.Native.Nat.{_+_, _*_, _≤_};
-ghost use lib.ListN.{length};
+ghost use lib.ListN.{length, take};
 ghost use Rattle.lists.specs.Stores.{over};
 ghost use Rattle.marks.specs.Good.{GoodMarks};
-ghost use Rattle.scheduling.specs.Filling.{Schedulable};
 ghost use Rattle.contents.specs.Contents.{countAt, join, given};
 ghost use Rattle.sheet.specs.Questions.{check};
 ghost use Rattle.sheet.specs.Layout.{opened, placeOf, Located};
@@ -93,13 +92,15 @@ pub extern "C" fn rollmap_assemble(
 
 // ---- scheduling
 
-// Writes part 2, the schedule of the n marks, at the start of `tail`, and part 3, their index, behind it.
-fn put_results(marks: &[u8], work: &mut [u8], tail: &mut [u8], n: usize)
-    requires { ⌜ Schedulable (now marks) (now work) (now tail) n × (16 * n ≤ length (now tail)) ⌝ }
-    ensures { λ _. ⌜ now (tail .exit) ≡ resultsOver (record { marks = now (marks .entry); count = n }) (now (tail .entry)) ⌝ }
+// Writes part 2, the schedule of the n marks that `all` begins with, and part 3, their index, behind them.
+fn put_results(marks: &[u8], all: &mut [u8], work: &mut [u8], n: usize)
+    requires { ⌜ GoodMarks (now marks) n × (length (now marks) ≡ 11 * n) × (32 * n ≤ length (now work)) ⌝ }
+    requires { ⌜ (27 * n ≤ length (now all)) × (take (11 * n) (now all) ≡ now marks) ⌝ }
+    ensures { λ _. ⌜ now (all .exit) ≡ resultsOver (record { marks = now (marks .entry); count = n }) (now (all .entry)) ⌝ }
 {
-    scheduling::schedule(marks, work, tail, n);
-    indexing::build(marks, work, tail, n);
+    let rest = 11 * n;
+    scheduling::schedule(marks, work, &mut all[rest..], n);
+    indexing::build(all, work, n);
 }
 
 // Writes the scheduled sheet of the n marks that part 1 of an accepted sheet has.
@@ -110,8 +111,8 @@ fn put_scheduled(marks: &[u8], work: &mut [u8], out: &mut [u8], n: usize)
 {
     let sizes = [marks.len(), 14 * n, 2 * n];
     let start = contents::put_contents(out, &sizes);
-    let rest = contents::put(out, start, marks);
-    put_results(marks, work, &mut out[rest..], n);
+    contents::put(out, start, marks);
+    put_results(marks, &mut out[start..], work, n);
 }
 
 // 13. Are the work buffer and the written one long enough for n marks?

@@ -1,19 +1,19 @@
--- `rollmap::put_scheduled`: the contents, part 1, and then parts 2 and 3 in the rest of the buffer are the sheet. Assumes nothing.
+-- `rollmap::put_scheduled`: the contents, part 1, and then parts 2 and 3 behind it are the sheet. Assumes nothing.
 use Prim.Native.Nat.{_-_}
 use mathlib.Core.Path.{refl}
 use lib.ListN.{length}
 use native.Mathlib.Omega.{arith}
 use borrow.Author.Needs.{needs}
 use denote.Ref.{now}
-use Rattle.rollmap.specs.Lemmas.Scheduling.{rest-long, size-small, begun, finished}
+use Rattle.rollmap.specs.Lemmas.Scheduling.{rest-long, size-small, begun, marks-first, finished}
 use Rattle.rollmap.proofs.put_scheduled.Statement.{statement}
 use Rattle.rollmap.proofs.put_scheduled.Tie as tie
 
-mul-t9 : tie.Need-mul-t9
-mul-t9 c = search needs
+mul-t8 : tie.Need-mul-t8
+mul-t8 c = search needs
 
-mul-t10 : tie.Need-mul-t10
-mul-t10 c = search needs
+mul-put-results : tie.Need-mul-put-results
+mul-put-results c = search needs
 
 slice-aggregate-put-contents : tie.Need-slice-aggregate-put-contents
 slice-aggregate-put-contents c = search needs
@@ -25,9 +25,7 @@ put-contents-requires c κs =
     ((omega arith, omega (arith, p .1 .1)), size-small (b .args .marks .now) (b .args .n) (p .0 .0 .few) (p .0 .1))
 
 put-requires : tie.Need-put-requires
-put-requires c κs =
-    let b = c .before .before .before .before .before .before .before .before .before in
-    omega (arith, b .pre .1 .1, b .pre .0 .1, c .before .before .before .put-contents .ensures .0)
+put-requires c κs = search needs
 
 sub-put-results : tie.Need-sub-put-results
 sub-put-results c = search needs
@@ -44,16 +42,14 @@ put-results-requires c κs =
     let d = o .before .before .before .before in
     let b = d .before .before .before .before .before .before in
     let p = b .pre in
-    let rest = rest-long (o .put .last .0) (o .put .result) in
-    let from = o .put .ensures .0 in
-    let start = d .put-contents .ensures .0 in (
-      record {
-        good = p .0 .0;
-        work-room = omega (arith, p .1 .0);
-        out-room = omega (arith, rest, from, start, p .1 .1, p .0 .1, c .before .before .before .out2 .given);
-      },
-      omega (arith, rest, from, start, p .1 .1, p .0 .1),
-    )
+    let start = d .put-contents .ensures .0 in
+    let rest = rest-long (o .put .last .0) (d .put-contents .result) in
+    let s = now (b .args .marks) in
+    let held = now (b .args .out) in
+    let h = begun s (b .args .n) (p .0 .0 .few) (p .0 .1) held (p .1 .1) (d .put-contents .ensures .1) (rw start at (o .put .ensures .1)) in
+    let k = length (o .put .last .0) - d .put-contents .result in
+    let first = marks-first s (b .args .n) (p .0 .0 .few) (p .0 .1) held (p .1 .1) (d .put-contents .result) k start refl h in
+    ((p .0 .0, p .0 .1, omega (arith, p .1 .0)), (omega (arith, rest, start, p .1 .1, c .before .before .before .out2 .given), first))
 
 same-length : tie.Need-same-length
 same-length c = search needs
@@ -68,16 +64,19 @@ returns c =
     let d = o .before .before .before .before in
     let b = d .before .before .before .before .before .before in
     let p = b .pre in
-    let m = p .0 in
-    let h = begun (now (b .args .marks)) (b .args .n) (m .0 .few) (m .1) (now (b .args .out)) (p .1 .1) (d .put-contents .ensures .1) (rw (d .put-contents .ensures .0) at (o .put .ensures .1)) in
-    finished (now (b .args .marks)) (b .args .n) (m .0 .few) (m .1) (now (b .args .out)) (p .1 .1) (o .put .result) (length (o .put .last .0) - o .put .result) (omega (arith, m .1, o .put .ensures .0, d .put-contents .ensures .0)) refl h (r .put-results .ensures)
+    let start = d .put-contents .ensures .0 in
+    let s = now (b .args .marks) in
+    let held = now (b .args .out) in
+    let h = begun s (b .args .n) (p .0 .0 .few) (p .0 .1) held (p .1 .1) (d .put-contents .ensures .1) (rw start at (o .put .ensures .1)) in
+    let k = length (o .put .last .0) - d .put-contents .result in
+    finished s (b .args .n) (p .0 .0 .few) (p .0 .1) held (p .1 .1) (d .put-contents .result) k start refl h (r .put-results .ensures)
 
 pub put-scheduled-spec : {M : Type 1} → statement M
 put-scheduled-spec =
     tie.close
     (tie.spec
-    mul-t9
-    mul-t10
+    mul-t8
+    mul-put-results
     slice-aggregate-put-contents
     put-contents-requires
     put-requires

@@ -1,6 +1,6 @@
 -- Scheduling: the written pieces are the sheet that is defined, and each way out answers as the job says. Assumes nothing.
 use Prim.Native.Nat.{ℕ, zero, suc, _+_, _-_, _*_, _<_, _≤_}
-use mathlib.Core.Path.{_≡_, ap, _∙_}
+use mathlib.Core.Path.{_≡_, sym, ap, _∙_}
 use mathlib.Core.Bool.{true, false, cond}
 use mathlib.Core.List.{List, [], _∷_, _++_, append-nil, append-assoc}
 use native.Mathlib.Omega.{arith}
@@ -16,7 +16,7 @@ use Rattle.elimination.specs.Reel.{Reel, scheduleOf}
 use Rattle.elimination.specs.Schedule.{schedule-length}
 use Rattle.index.specs.Index.{indexOf, indexBytes}
 use Rattle.index.specs.Laws as Index
-use Rattle.indexing.specs.Tail.{withIndex}
+use Rattle.indexing.specs.Buffer.{withIndex}
 use Rattle.contents.specs.Contents.{split, chain, join, marksPart}
 use Rattle.contents.specs.Asking.{answer}
 use Rattle.contents.specs.Written.{contentsOf}
@@ -36,18 +36,43 @@ use Rattle.rollmap.specs.Lemmas.Outcomes.{refused-gives, written-gives}
 pub rest-long : (l : List ℕ) (a : ℕ) → length (take (length l - a) (drop a l)) ≡ length l - a
 rest-long l a = ap length (take-all (length l - a) (drop a l) (omega (arith, length-drop a l))) ∙ length-drop a l
 
--- part 2 and then part 3
-pub results-are : (r : Reel) (t₀ : List ℕ) {t₁ t₂ : List ℕ} → t₁ ≡ scheduleOf r ++ drop (14 * r .count) t₀
-    → t₂ ≡ withIndex (r .marks) t₁ (r .count) → t₂ ≡ resultsOver r t₀
-unfolding resultsOver
-results-are r t₀ {t₁} first second =
+-- part 2, written by a call that was lent the rest of the buffer behind the marks
+pub scheduled-behind : (r : Reel) (a₀ : List ℕ) (rest k : ℕ) {t : List ℕ} → rest ≡ 11 * r .count → k ≡ length a₀ - rest
+    → take (11 * r .count) a₀ ≡ r .marks → t ≡ scheduleOf r ++ drop (14 * r .count) (midOf rest k a₀)
+    → putMid rest k a₀ t ≡ r .marks ++ (scheduleOf r ++ drop (25 * r .count) a₀)
+scheduled-behind r a₀ rest k {t} r-is k-is front t-is =
     let n = r .count in
-    let long : length (scheduleOf r) ≡ 14 * n = schedule-length r in
-    let front : take (14 * n) t₁ ≡ scheduleOf r = rw first (take-at (scheduleOf r) (drop (14 * n) t₀) (14 * n) long) in
-    let sixteen : 16 * n ≡ length (scheduleOf r) + 2 * n = omega (arith, long) in
-    let back : drop (16 * n) t₁ ≡ drop (16 * n) t₀ =
-    rw (first, sixteen, drop-append-add (scheduleOf r) (drop (14 * n) t₀) (2 * n), drop-drop (2 * n) (14 * n) t₀, long) in
-    rw (front, back) at second
+    let less : length (drop rest a₀) ≤ k = omega (arith, k-is, length-drop rest a₀) in
+    let lent : take k (drop rest a₀) ≡ drop rest a₀ = take-all k (drop rest a₀) less in
+    let none : drop k (drop rest a₀) ≡ [] = drop-of-length-le (drop rest a₀) less in
+    let sum : rest + 14 * n ≡ 25 * n = omega (arith, r-is) in
+    let first : take rest a₀ ≡ r .marks = rw r-is front in
+    rw (t-is, none, append-nil _, lent, drop-drop (14 * n) rest a₀, sum, first)
+
+-- and then part 3
+pub results-are : (r : Reel) (a₀ : List ℕ) {a₁ a₂ : List ℕ} → length (r .marks) ≡ 11 * r .count
+    → a₁ ≡ r .marks ++ (scheduleOf r ++ drop (25 * r .count) a₀) → a₂ ≡ withIndex a₁ (r .count) → a₂ ≡ resultsOver r a₀
+unfolding resultsOver
+results-are r a₀ {a₁} {a₂} long first second =
+    let n = r .count in
+    let s = r .marks in
+    let p = scheduleOf r in
+    let rest = drop (25 * n) a₀ in
+    let p-long : length p ≡ 14 * n = schedule-length r in
+    let both-long : length (s ++ p) ≡ 25 * n = omega (arith, length-append s p) in
+    let whole : a₁ ≡ (s ++ p) ++ rest = first ∙ sym (append-assoc s p rest) in
+    let marks : take (11 * n) a₁ ≡ s = rw first (take-at s (p ++ rest) (11 * n) long) in
+    let behind : drop (11 * n) a₁ ≡ p ++ rest = rw first (drop-at s (p ++ rest) (11 * n) long) in
+    let schedule : take (14 * n) (drop (11 * n) a₁) ≡ p = rw behind (take-at p rest (14 * n) p-long) in
+    let front : take (25 * n) a₁ ≡ s ++ p = rw whole (take-at (s ++ p) rest (25 * n) both-long) in
+    let end : 27 * n ≡ length (s ++ p) + 2 * n = omega arith in
+    let sum : 25 * n + 2 * n ≡ 27 * n = omega arith in
+    let back : drop (27 * n) a₁ ≡ drop (27 * n) a₀ =
+    ap (drop (27 * n)) whole ∙ ap (λ (k : ℕ). drop k ((s ++ p) ++ rest)) end ∙ drop-append-add (s ++ p) rest (2 * n)
+    ∙ drop-drop (2 * n) (25 * n) a₀ ∙ ap (λ (k : ℕ). drop k a₀) sum in
+    let index : List ℕ = indexBytes (indexOf s p n) in
+    let is : a₂ ≡ (s ++ p) ++ (index ++ drop (27 * n) a₀) = rw (marks, schedule, front, back) at second in
+    is ∙ append-assoc s p (index ++ drop (27 * n) a₀)
 
 index-long : (s : List ℕ) (n : ℕ) → n ≤ 4096 → length (indexBytes (indexOf s (scheduleOf (record { marks = s; count = n })) n)) ≡ 2 * n
 index-long s n few = Index.index-long s (scheduleOf (record { marks = s; count = n })) n (omega (arith, few))
@@ -100,30 +125,49 @@ module _ (s : List ℕ) (n : ℕ) (few : n ≤ 4096) (long : length s ≡ 11 * n
         let a : sets o₀ 0 start ≡ sets (sets o₀ 0 (contentsOf sizes)) 32 s = rw (contents-length sizes) at (sets-append o₀ 0 (contentsOf sizes) s) in
         rw (f, e, ← a, over-sets start o₀ (omega (arith, start-long, room)), start-long)
 
-    -- and then parts 2 and 3, written by a call that was lent the rest of the buffer
-    pub finished : (rest k : ℕ) {o₂ t : List ℕ} → rest ≡ 11 * n + 32 → k ≡ length o₂ - rest → o₂ ≡ start ++ drop (11 * n + 32) o₀
-        → t ≡ resultsOver (record { marks = s; count = n }) (midOf rest k o₂) → putMid rest k o₂ t ≡ over (join (newBodies s)) o₀
-    unfolding over resultsOver
-    finished rest k {o₂} {t} r-is k-is o-is t-is =
-        let front : take rest o₂ ≡ start = rw (o-is, r-is) (take-at start (drop (11 * n + 32) o₀) (11 * n + 32) start-long) in
-        let back : drop rest o₂ ≡ drop (11 * n + 32) o₀ = rw (o-is, r-is) (drop-at start (drop (11 * n + 32) o₀) (11 * n + 32) start-long) in
-        let less : length (drop rest o₂) ≤ k = omega (arith, k-is, length-drop rest o₂) in
-        let lent : take k (drop rest o₂) ≡ drop (11 * n + 32) o₀ = take-all k (drop rest o₂) less ∙ back in
-        let none : drop k (drop rest o₂) ≡ [] = drop-of-length-le (drop rest o₂) less in
-        let end : 11 * n + 32 + 16 * n ≡ 27 * n + 32 = omega arith in
-        rw (
-          sheet-long,
-          sheet-is,
-          front,
-          none,
-          append-nil t,
-          t-is,
-          lent,
-          drop-drop (16 * n) (11 * n + 32) o₀,
-          end,
-          append-assoc start results (drop (27 * n + 32) o₀),
-          append-assoc (scheduleOf (record { marks = s; count = n })) (indexBytes (indexOf s (scheduleOf (record { marks = s; count = n })) n)) (drop (27 * n + 32) o₀),
-        )
+    -- what a call is lent that is lent all but the contents
+    module _ (from k : ℕ) {o₂ : List ℕ} (from-is : from ≡ 32) (k-is : k ≡ length o₂ - from) (o-is : o₂ ≡ start ++ drop (11 * n + 32) o₀) where
+      contents-first : take from o₂ ≡ contentsOf sizes
+      contents-first =
+          rw (from-is, o-is, append-assoc (contentsOf sizes) s (drop (11 * n + 32) o₀))
+          (take-at (contentsOf sizes) (s ++ drop (11 * n + 32) o₀) 32 (contents-length sizes))
+
+      behind : drop from o₂ ≡ s ++ drop (11 * n + 32) o₀
+      behind =
+          rw (from-is, o-is, append-assoc (contentsOf sizes) s (drop (11 * n + 32) o₀))
+          (drop-at (contentsOf sizes) (s ++ drop (11 * n + 32) o₀) 32 (contents-length sizes))
+
+      less : length (drop from o₂) ≤ k
+      less = omega (arith, length-drop from o₂)
+
+      lent : midOf from k o₂ ≡ s ++ drop (11 * n + 32) o₀
+      lent = take-all k (drop from o₂) less ∙ behind
+
+      pub marks-first : take (11 * n) (midOf from k o₂) ≡ s
+      marks-first = rw lent (take-at s (drop (11 * n + 32) o₀) (11 * n) long)
+
+      -- and then parts 2 and 3
+      pub finished : {t : List ℕ} → t ≡ resultsOver (record { marks = s; count = n }) (midOf from k o₂) → putMid from k o₂ t ≡ over (join (newBodies s)) o₀
+      unfolding over resultsOver
+      finished {t} t-is =
+          let none : drop k (drop from o₂) ≡ [] = drop-of-length-le (drop from o₂) less in
+          let end : 11 * n + 32 + 16 * n ≡ 27 * n + 32 = omega arith in
+          let sum : 27 * n ≡ length s + 16 * n = omega arith in
+          let rest : drop (27 * n) (midOf from k o₂) ≡ drop (27 * n + 32) o₀ =
+          ap (drop (27 * n)) lent ∙ ap (λ (j : ℕ). drop j (s ++ drop (11 * n + 32) o₀)) sum ∙ drop-append-add s (drop (11 * n + 32) o₀) (16 * n)
+          ∙ drop-drop (16 * n) (11 * n + 32) o₀ ∙ ap (λ (j : ℕ). drop j o₀) end in
+          rw (
+            sheet-long,
+            sheet-is,
+            contents-first,
+            none,
+            append-nil t,
+            t-is,
+            rest,
+            append-assoc start results (drop (27 * n + 32) o₀),
+            append-assoc (contentsOf sizes) s (results ++ drop (27 * n + 32) o₀),
+            append-assoc (scheduleOf (record { marks = s; count = n })) (indexBytes (indexOf s (scheduleOf (record { marks = s; count = n })) n)) (drop (27 * n + 32) o₀),
+          )
 
 -- ---- the ways out
 
