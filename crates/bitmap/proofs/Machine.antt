@@ -13,7 +13,7 @@ use lib.Pow.{pow-pos, pow-lt, pow-mono, shr-lt}
 use lib.Seq.{getD-set-same, getD-set-other}
 use Rattle.bitmap.specs.Map.{bitAt}
 use Rattle.bitmap.specs.Facts.{bitOf, countBits, BitSet, NextBit}
-use Rattle.bitmap.specs.Lemmas.Bits.{bit-shift, bit-half, bit-low, bit-past, bit-zero, half-small}
+use Rattle.bitmap.specs.Lemmas.Bits.{bit-shift, bit-half, bit-low, bit-past, no-bit, half-small}
 
 -- ---- `set_bit`: the bits of an or, and of a power of two
 
@@ -30,7 +30,7 @@ power-off : (j i : ℕ) → i ≢ j → bitOf (2 ^ j) i ≡ 0
 power-off j i h =
     let e : 2 ^ j ≡ 0 + 1 * 2 ^ j = omega arith in
     dite (decLt i j)
-    (λ l. ap (λ (x : ℕ). bitOf x i) e ∙ bit-low j 0 1 i l ∙ bit-zero 0 i refl)
+    (λ l. ap (λ (x : ℕ). bitOf x i) e ∙ bit-low j 0 1 i l ∙ no-bit 0 i refl)
     (λ l. bit-past (2 ^ j) (suc j) i (pow-lt (omega arith)) (omega arith))
 
 -- the mask of one bit loses nothing in a byte
@@ -115,7 +115,7 @@ module _ (n from : ℕ) (small : n < 2 ^ 64) (inside : from < 64) where
       record {
         after = omega arith;
         within = omega arith;
-        skipped = λ k h l. shifted k h ∙ bit-zero (n / 2 ^ from) (k - from) z;
+        skipped = λ k h l. shifted k h ∙ no-bit (n / 2 ^ from) (k - from) z;
         found = λ h. absurd (lt-irrefl 64 h);
       }
 

@@ -11,7 +11,7 @@ use Rattle.numbers.specs.Little.{leAt, Bytes}
 use Rattle.bitmap.specs.Map.{mapSize, bitAt, walk}
 use Rattle.bitmap.specs.Facts.{bitOf, countBits, Cleared, NextBit}
 use Rattle.bitmap.specs.Laws.{walked-is}
-use Rattle.bitmap.specs.Lemmas.Counts.{count-same, count-add, count-past, count-le}
+use Rattle.bitmap.specs.Lemmas.Counts.{count-bits-same, count-bits-add, count-bits-past, count-bits-le}
 use Rattle.bitmap.proofs.Words.{bit-inside, bit-outside, word-bit}
 
 -- ---- `clear`: the first i bytes are cleared
@@ -36,9 +36,9 @@ clear-more {i} {before} {map} c h =
 pub record Counting (map : List ℕ) (size sum q : ℕ) : Type 0 where
   pub value : sum ≡ countBits (bitAt (take size map)) (8 * q)
 
-pub count-none : (map : List ℕ) (size : ℕ) → Counting map size 0 0
+pub count-bits-none : (map : List ℕ) (size : ℕ) → Counting map size 0 0
 unfolding countBits
-count-none map size = record { value = refl }
+count-bits-none map size = record { value = refl }
 
 module _ {map : List ℕ} {size sum q : ℕ} (c : Counting map size sum q) where
   part : ℕ → ℕ
@@ -46,22 +46,22 @@ module _ {map : List ℕ} {size sum q : ℕ} (c : Counting map size sum q) where
 
   pub count-room : sum ≤ 8 * q
   unfolding part
-  count-room = rw (c .value) (count-le part (8 * q) (λ m. omega arith))
+  count-room = rw (c .value) (count-bits-le part (8 * q) (λ m. omega arith))
 
   pub count-more : {word r : ℕ} → Bytes map → word ≡ leAt 8 (take size map) q → r ≡ countBits (bitOf word) 64
       → Counting map size (sum + r) (q + 8)
   unfolding part
   count-more b is ones =
       let e : 8 * (q + 8) ≡ 8 * q + 64 = omega arith in
-      let more = count-same _ (λ i. part (8 * q + i)) 64 (word-bit map size q b) in
-      record { value = rw (ones, is, e, count-add part (8 * q) 64, more, c .value) }
+      let more = count-bits-same _ (λ i. part (8 * q + i)) 64 (word-bit map size q b) in
+      record { value = rw (ones, is, e, count-bits-add part (8 * q) 64, more, c .value) }
 
   pub count-all : size ≤ q → sum ≡ countBits (bitAt map) (8 * size)
   unfolding part
   count-all h =
       c .value
-      ∙ count-past part (8 * size) (8 * q) (omega arith) (λ m l _. bit-outside map size m l)
-      ∙ count-same part (bitAt map) (8 * size) (bit-inside map size)
+      ∙ count-bits-past part (8 * size) (8 * q) (omega arith) (λ m l _. bit-outside map size m l)
+      ∙ count-bits-same part (bitAt map) (8 * size) (bit-inside map size)
 
 -- ---- `walk`: no bit from `start` up to i is set
 

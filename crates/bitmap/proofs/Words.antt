@@ -12,7 +12,7 @@ use Rattle.numbers.specs.Little.{leAt, Bytes}
 use Rattle.numbers.specs.Laws.{le-take}
 use Rattle.bitmap.specs.Map.{bitAt}
 use Rattle.bitmap.specs.Facts.{bitOf}
-use Rattle.bitmap.specs.Lemmas.Bits.{bit-zero, bit-low, bit-high}
+use Rattle.bitmap.specs.Lemmas.Bits.{no-bit, bit-low, bit-high}
 
 -- the bits of a number of w bytes are those of the bytes
 number-bit : (w : ℕ) (s : List ℕ) (q i : ℕ) → Bytes s → i < 8 * w → bitOf (leAt w s q) i ≡ bitAt s (8 * q + i)
@@ -45,7 +45,7 @@ module _ (s : List ℕ) (end : ℕ) where
   bit-inside m h = ap (λ (x : ℕ). bitOf x (m % 8)) (getD-take end s (m / 8) 0 (omega arith))
 
   pub bit-outside : (m : ℕ) → 8 * end ≤ m → bitAt (take end s) m ≡ 0
-  bit-outside m h = bit-zero (getD (take end s) (m / 8) 0) (m % 8) (past-end (m / 8) (omega arith))
+  bit-outside m h = no-bit (getD (take end s) (m / 8) 0) (m % 8) (past-end (m / 8) (omega arith))
 
   bytes-before : Bytes s → Bytes (take end s)
   bytes-before b i =

@@ -10,7 +10,7 @@ use Rattle.lists.specs.Tests.{bit}
 use Rattle.numbers.specs.Little.{Bytes}
 use Rattle.bitmap.specs.Map.{mapSize, mapBytes, countShown, shownFrom, bitAt, isSet, nextSet, walk}
 use Rattle.bitmap.specs.Facts.{Shows, Cleared, Walked, countBits}
-use Rattle.bitmap.specs.Lemmas.Bits.{bit-zero}
+use Rattle.bitmap.specs.Lemmas.Bits.{no-bit}
 use Rattle.bitmap.specs.Lemmas.Counts as Counts
 use Rattle.bitmap.specs.Lemmas.Maps as Maps
 use Rattle.bitmap.specs.Lemmas.Walks as Walks
@@ -35,7 +35,7 @@ map-is = Maps.map-is
 -- After clearing, the bits of the cleared bytes are 0.
 pub cleared-bit : {size : ℕ} {before after : List ℕ} → Cleared size before after
     → (m : ℕ) → m < 8 * size → bitAt after m ≡ 0
-cleared-bit {after = after} c m h = bit-zero (getD after (m / 8) 0) (m % 8) (c .zeros (m / 8) (omega arith))
+cleared-bit {after = after} c m h = no-bit (getD after (m / 8) 0) (m % 8) (c .zeros (m / 8) (omega arith))
 
 -- ---- the count
 
@@ -46,7 +46,7 @@ count-shown {shown} {n} {map} s = Counts.count-shown shown n map s
 
 -- Of n bits at most n are set.
 pub count-bits-le : (map : List ℕ) (n : ℕ) → countBits (bitAt map) n ≤ n
-count-bits-le map n = Counts.count-le (bitAt map) n (λ i. omega arith)
+count-bits-le map n = Counts.count-bits-le (bitAt map) n (λ i. omega arith)
 
 -- ---- the walk
 

@@ -6,9 +6,7 @@ use mathlib.Core.Bool.{Bool, true, false, not}
 use mathlib.Core.Logic.{_↔_, _≢_}
 use mathlib.Core.List.{List, _∷_, _++_}
 use lib.ListN.{length, take, drop}
-use lib.Dec.{eqb, leb}
-use lib.IntN.{ℤ}
-use lib.Signed.{mag, leZ}
+use lib.Dec.{eqb}
 use Rattle.lists.specs.Counting.{count, _≈_, times, non, below, keyed}
 use Rattle.lists.specs.Blocks.{upTo, block}
 use Rattle.lists.specs.BlockLaws.{upTo-times}
@@ -18,14 +16,12 @@ use Rattle.fractions.specs.declared.Fraction.{Fraction}
 use Rattle.fractions.specs.declared.Value.the-variants.{At}
 use Rattle.fractions.specs.Order.{later}
 use Rattle.elimination.specs.Records.{valueAt}
-use Rattle.marks.specs.Marks.{shifted}
 use Rattle.index.specs.Tree.{first, second}
 use Rattle.index.specs.Index.{beats, coordinate, axisKey, indexOf, indexBytes, isIndex}
 use Rattle.index.specs.Valid.{Order, isTree, Split}
 use Rattle.index.specs.Blocks.{entryAt, othersOf, leftOf, rightOf, Halves}
 use Rattle.index.specs.Check.{AllBelow}
 use Rattle.index.specs.Lemmas.Beats as Beats
-use Rattle.index.specs.Lemmas.Keys as Keys
 use Rattle.index.specs.Lemmas.Blocks as Blocks
 use Rattle.index.specs.Lemmas.Apart as Apart
 use Rattle.index.specs.Lemmas.TreeOf as TreeOf
@@ -138,7 +134,3 @@ module _ (beats : ℕ → ℕ → Bool) (key : Bool → ℕ → ℕ) (ord : Orde
 -- The numbers that 2n bytes hold give the bytes back.
 pub bytes-back : (t : List ℕ) → Bytes t → (n : ℕ) → length t ≡ 2 * n → indexBytes (block (entryAt t) 0 n) ≡ t
 bytes-back = Entries.bytes-back
-
--- Coordinates of 16 bits keep their order.
-pub shifted-order : (x y : ℤ) → mag x < 32768 → mag y < 32768 → leZ x y ≡ leb (shifted x) (shifted y)
-shifted-order = Keys.shifted-order

@@ -96,10 +96,6 @@ bit-false e = ap bit e
 pub bit-not-true : {b : Bool} → b ≡ true → bit (not b) ≡ 0
 bit-not-true e = ap (λ (b : Bool). bit (not b)) e
 
-pub bit-one : (b : Bool) → 0 < bit b → b ≡ true
-bit-one true h = refl
-bit-one false h = absurd (omega arith)
-
 pub bit-zero : (b : Bool) → bit b ≡ 0 → b ≡ false
 bit-zero true h = absurd (omega arith)
 bit-zero false h = refl

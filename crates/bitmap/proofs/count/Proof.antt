@@ -2,7 +2,7 @@
 use Prim.Native.Nat.{_-_}
 use native.Mathlib.Omega.{arith}
 use borrow.Author.Needs.{needs}
-use Rattle.bitmap.proofs.Turns.{Counting, count-none, count-room, count-more, count-all}
+use Rattle.bitmap.proofs.Turns.{Counting, count-bits-none, count-room, count-more, count-all}
 use Rattle.bitmap.proofs.count.Statement.{statement}
 use Rattle.bitmap.proofs.count.Tie as tie
 
@@ -13,7 +13,7 @@ abbrev μ-loop : tie.MeasureT-loop
 μ-loop map size sum₀ q₀ sum q = size - q
 
 loop-holds : tie.Need-loop-holds Inv-loop μ-loop
-loop-holds c = count-none _ _
+loop-holds c = count-bits-none _ _
 
 word-at-requires : tie.Need-word-at-requires Inv-loop μ-loop
 word-at-requires c κs = search needs

@@ -20,8 +20,8 @@ half-small k n h = let e = pow-suc 2 k in omega arith
 pub bit-past : (n j i : ℕ) → n < 2 ^ j → j ≤ i → bitOf n i ≡ 0
 bit-past n j i h k = ap (λ (x : ℕ). x % 2) (div-eq-of-lt (lt-of-lt-of-le h (pow-mono k)))
 
-pub bit-zero : (n i : ℕ) → n ≡ 0 → bitOf n i ≡ 0
-bit-zero n i z = bit-past n 0 i (omega arith) (omega arith)
+pub no-bit : (n i : ℕ) → n ≡ 0 → bitOf n i ≡ 0
+no-bit n i z = bit-past n 0 i (omega arith) (omega arith)
 
 -- a bit depends on the lower part of the number alone
 low-part : (n i : ℕ) → n % 2 ^ suc i / 2 ^ i ≡ bitOf n i

@@ -9,42 +9,42 @@ use Rattle.lists.specs.Tests.{bit}
 use Rattle.bitmap.specs.Map.{mapSize, bitAt, countShown}
 use Rattle.bitmap.specs.Facts.{Shows, countBits}
 
-pub count-same : (f g : ℕ → ℕ) (n : ℕ) → ((i : ℕ) → i < n → f i ≡ g i) → countBits f n ≡ countBits g n
+pub count-bits-same : (f g : ℕ → ℕ) (n : ℕ) → ((i : ℕ) → i < n → f i ≡ g i) → countBits f n ≡ countBits g n
 unfolding countBits
-count-same f g zero h = refl
-count-same f g (suc n) h = omega (arith, h n (omega arith), count-same f g n (λ i l. h i (omega arith)))
+count-bits-same f g zero h = refl
+count-bits-same f g (suc n) h = omega (arith, h n (omega arith), count-bits-same f g n (λ i l. h i (omega arith)))
 
-pub count-add : (f : ℕ → ℕ) (a b : ℕ) → countBits f (a + b) ≡ countBits f a + countBits (λ i. f (a + i)) b
+pub count-bits-add : (f : ℕ → ℕ) (a b : ℕ) → countBits f (a + b) ≡ countBits f a + countBits (λ i. f (a + i)) b
 unfolding countBits
-count-add f a zero = rw (add-zero a) (omega arith)
-count-add f a (suc b) = rw (add-suc a b) (omega (arith, count-add f a b))
+count-bits-add f a zero = rw (add-zero a) (omega arith)
+count-bits-add f a (suc b) = rw (add-suc a b) (omega (arith, count-bits-add f a b))
 
-count-none : (f : ℕ → ℕ) (n : ℕ) → ((i : ℕ) → i < n → f i ≡ 0) → countBits f n ≡ 0
+count-bits-none : (f : ℕ → ℕ) (n : ℕ) → ((i : ℕ) → i < n → f i ≡ 0) → countBits f n ≡ 0
 unfolding countBits
-count-none f zero h = refl
-count-none f (suc n) h = omega (arith, h n (omega arith), count-none f n (λ i l. h i (omega arith)))
+count-bits-none f zero h = refl
+count-bits-none f (suc n) h = omega (arith, h n (omega arith), count-bits-none f n (λ i l. h i (omega arith)))
 
 -- bits that are 0 do not count
-pub count-past : (f : ℕ → ℕ) (a b : ℕ) → a ≤ b → ((i : ℕ) → a ≤ i → i < b → f i ≡ 0)
+pub count-bits-past : (f : ℕ → ℕ) (a b : ℕ) → a ≤ b → ((i : ℕ) → a ≤ i → i < b → f i ≡ 0)
     → countBits f b ≡ countBits f a
-count-past f a b l h =
+count-bits-past f a b l h =
     let e : b ≡ a + (b - a) = omega arith in
-    let z = count-none (λ i. f (a + i)) (b - a) (λ i k. h (a + i) (omega arith) (omega arith)) in
-    ap (countBits f) e ∙ omega (arith, count-add f a (b - a), z)
+    let z = count-bits-none (λ i. f (a + i)) (b - a) (λ i k. h (a + i) (omega arith) (omega arith)) in
+    ap (countBits f) e ∙ omega (arith, count-bits-add f a (b - a), z)
 
-pub count-le : (f : ℕ → ℕ) (n : ℕ) → ((i : ℕ) → f i ≤ 1) → countBits f n ≤ n
+pub count-bits-le : (f : ℕ → ℕ) (n : ℕ) → ((i : ℕ) → f i ≤ 1) → countBits f n ≤ n
 unfolding countBits
-count-le f zero h = omega arith
-count-le f (suc n) h = omega (arith, h n, count-le f n h)
+count-bits-le f zero h = omega arith
+count-bits-le f (suc n) h = omega (arith, h n, count-bits-le f n h)
 
-count-marks : (shown : ℕ → Bool) (n : ℕ) → countBits (λ m. bit (shown m)) n ≡ countShown shown n
+count-bits-marks : (shown : ℕ → Bool) (n : ℕ) → countBits (λ m. bit (shown m)) n ≡ countShown shown n
 unfolding countBits countShown
-count-marks shown zero = refl
-count-marks shown (suc n) = omega (arith, count-marks shown n)
+count-bits-marks shown zero = refl
+count-bits-marks shown (suc n) = omega (arith, count-bits-marks shown n)
 
 pub count-shown : (shown : ℕ → Bool) (n : ℕ) (map : List ℕ) → Shows shown n map
     → countBits (bitAt map) (8 * mapSize n) ≡ countShown shown n
 count-shown shown n map s =
-    count-past (bitAt map) n (8 * mapSize n) (omega arith) (s .unused)
-    ∙ count-same (bitAt map) (λ m. bit (shown m)) n (s .bits)
-    ∙ count-marks shown n
+    count-bits-past (bitAt map) n (8 * mapSize n) (omega arith) (s .unused)
+    ∙ count-bits-same (bitAt map) (λ m. bit (shown m)) n (s .bits)
+    ∙ count-bits-marks shown n
