@@ -8,7 +8,8 @@ use Rattle.lists.specs.Tests.{every}
 use Rattle.fractions.specs.declared.Fraction.{Fraction}
 use Rattle.fractions.specs.Order.{later}
 use Rattle.marks.specs.Marks.{kindAt, radiusAt, isKind, isRadius, outranks, touching}
-use Rattle.elimination.specs.Records.{eliminatorAt, fractionAt, isNever, valueAt}
+use Rattle.elimination.specs.declared.Record.{Record}
+use Rattle.elimination.specs.Records.{fractionOf, isNever, markRecord, valueAt}
 use Rattle.elimination.specs.Reel.{Reel}
 use Rattle.index.specs.Index.{isIndex}
 use Rattle.contents.specs.Contents.{has, marksPart, schedulePart, indexPart}
@@ -55,13 +56,16 @@ abbrev pub exactly : Fraction → Fraction → Bool
 exactly f g = eqb (f .num) (g .num) && eqb (f .den) (g .den)
 
 -- "does it name a higher-ranked mark below n, with their touching value as its two unreduced numbers"
-unfoldable pub namesRight : Reel → List ℕ → ℕ → Bool
-namesRight r p m =
-    (ltb (eliminatorAt p m) (r .count) && outranks (r .marks) (eliminatorAt p m) m) && exactly (fractionAt p m) (touching (r .marks) (eliminatorAt p m) m)
+unfoldable pub namesRight : Reel → Record → ℕ → Bool
+namesRight r d m =
+    let by = d .eliminator in
+    (ltb by (r .count) && outranks (r .marks) by m) && exactly (fractionOf d) (touching (r .marks) by m)
 
 -- "Is each schedule record the 'never' record, or else .., and is that mark removed later?"
 unfoldable pub recordRight : Reel → List ℕ → ℕ → Bool
-recordRight r p m = isNever p m || (namesRight r p m && later (valueAt p (eliminatorAt p m)) (valueAt p m))
+recordRight r p m =
+    let d = markRecord p m in
+    isNever d || (namesRight r d m && later (valueAt p (d .eliminator)) (valueAt p m))
 
 -- 8.
 unfoldable pub question8 : Reel → List ℕ → Bool

@@ -1,4 +1,6 @@
 // The bodies of a sheet: questions 4 to 9.
+use elimination::RECORD_SIZE;
+use elimination::Record;
 use fractions::Fraction;
 use marks::House;
 ghost use mathlib.Core.Path.{_≡_};
@@ -6,7 +8,7 @@ ghost use mathlib.Core.Bool.{true};
 ghost use Prim.Native.Nat.{_+_, _*_, _<_, _≤_};
 ghost use lib.ListN.{length};
 ghost use Rattle.marks.specs.Good.{GoodMarks};
-ghost use Rattle.elimination.specs.Records.{eliminatorAt, fractionAt, isNever};
+ghost use Rattle.elimination.specs.Records.{recordSize};
 ghost use Rattle.contents.specs.Contents.{given};
 ghost use Rattle.contents.specs.Asking.{answer};
 ghost use Rattle.contents.specs.Questions.{isCount};
@@ -72,25 +74,6 @@ pub fn part1_answer(s: &[u8]) -> u32
 
 // ---- question 8, of part 2
 
-// The number of the mark that removes mark m.
-pub fn eliminator_at(schedule: &[u8], m: usize) -> usize
-    requires { ⌜ 14 * m + 14 ≤ length (now schedule) ⌝ }
-    ensures { λ r. ⌜ r ≡ eliminatorAt (now (schedule .entry)) m ⌝ }
-{
-    numbers::read(schedule, 14 * m, 2) as usize
-}
-
-// The two numbers of mark m's record as they stand.
-pub fn fraction_at(schedule: &[u8], m: usize) -> Fraction
-    requires { ⌜ 14 * m + 14 ≤ length (now schedule) ⌝ }
-    ensures { λ r. ⌜ r ≡ fractionAt (now (schedule .entry)) m ⌝ }
-{
-    Fraction {
-        num: numbers::read(schedule, 14 * m + 2, 8),
-        den: numbers::read_u32(schedule, 14 * m + 10),
-    }
-}
-
 // Are these the same two numbers?
 fn exactly(f: Fraction, g: Fraction) -> bool
     ensures { λ r. ⌜ r ≡ exactly f g ⌝ }
@@ -98,51 +81,43 @@ fn exactly(f: Fraction, g: Fraction) -> bool
     f.num == g.num && f.den == g.den
 }
 
-// Is mark m's record the 'never' record?
-pub fn is_never(schedule: &[u8], m: usize) -> bool
-    requires { ⌜ 14 * m + 14 ≤ length (now schedule) ⌝ }
-    ensures { λ r. ⌜ r ≡ isNever (now (schedule .entry)) m ⌝ }
+// Does mark m's record d name a higher-ranked mark below n, with their touching value as it is, unreduced?
+fn names_right(marks: &[u8], n: usize, d: Record, m: usize) -> bool
+    requires { ⌜ GoodMarks (now marks) n × (m < n) ⌝ }
+    ensures { λ r. ⌜ r ≡ namesRight (record { marks = now (marks .entry); count = n }) d m ⌝ }
 {
-    let zero = Fraction { num: 0, den: 0 };
-    eliminator_at(schedule, m) == 65535 && exactly(fraction_at(schedule, m), zero)
-}
-
-// Does mark m's record name a higher-ranked mark below n, with their touching value as it is, unreduced?
-fn names_right(marks: &[u8], schedule: &[u8], n: usize, m: usize) -> bool
-    requires { ⌜ GoodMarks (now marks) n × (14 * n ≤ length (now schedule)) × (m < n) ⌝ }
-    ensures { λ r. ⌜ r ≡ namesRight (record { marks = now (marks .entry); count = n }) (now (schedule .entry)) m ⌝ }
-{
-    let by = eliminator_at(schedule, m);
+    let by = d.eliminator as usize;
     if n <= by {
         return false;
     }
     if !marks::outranks(marks, by, m) {
         return false;
     }
-    exactly(fraction_at(schedule, m), marks::touching(marks, by, m))
+    exactly(elimination::fraction_of(d), marks::touching(marks, by, m))
 }
 
 // Is mark m's record the 'never' record, or does it name a mark rightly that is removed later?
 fn record_right(marks: &[u8], schedule: &[u8], n: usize, m: usize) -> bool
-    requires { ⌜ GoodMarks (now marks) n × (14 * n ≤ length (now schedule)) × (m < n) ⌝ }
+    requires { ⌜ GoodMarks (now marks) n × (recordSize * n ≤ length (now schedule)) × (m < n) ⌝ }
     ensures { λ r. ⌜ r ≡ recordRight (record { marks = now (marks .entry); count = n }) (now (schedule .entry)) m ⌝ }
 {
-    if is_never(schedule, m) {
+    let d = elimination::record_at(schedule, RECORD_SIZE * m);
+    if elimination::is_never(d) {
         return true;
     }
-    if !names_right(marks, schedule, n, m) {
+    if !names_right(marks, n, d, m) {
         return false;
     }
-    let by = eliminator_at(schedule, m);
+    let by = d.eliminator as usize;
     fractions::later(
         elimination::value_at(schedule, by),
-        elimination::value_at(schedule, m),
+        elimination::value_of(d),
     )
 }
 
 // 8. Is each record right?
 pub fn is_schedule(marks: &[u8], schedule: &[u8], n: usize) -> bool
-    requires { ⌜ GoodMarks (now marks) n × (14 * n ≤ length (now schedule)) ⌝ }
+    requires { ⌜ GoodMarks (now marks) n × (recordSize * n ≤ length (now schedule)) ⌝ }
     ensures { λ r. ⌜ r ≡ question8 (record { marks = now (marks .entry); count = n }) (now (schedule .entry)) ⌝ }
 {
     let mut m = 0;

@@ -7,7 +7,8 @@ use lib.Seq.{sets}
 use Rattle.lists.specs.StoreLaws.{sets-append}
 use Rattle.numbers.specs.Little.{leBytes}
 use Rattle.numbers.specs.Laws.{le-length}
-use Rattle.elimination.specs.Records.{recordBytes}
+use Rattle.elimination.specs.declared.Record.{Record}
+use Rattle.elimination.specs.Records.{numOffset, denOffset, recordBytes}
 
 -- a number, and the rest behind it
 pub write-then : (w v : ℕ) (s : List ℕ) (at : ℕ) (rest : List ℕ) → sets s at (leBytes w v ++ rest) ≡ sets (sets s at (leBytes w v)) (at + w) rest
@@ -18,6 +19,7 @@ pub joined : (w v : ℕ) (s : List ℕ) (at : ℕ) (rest : List ℕ) {t u : List
 joined w v s at rest n e f =
     f ∙ ap₂ (λ l i. sets l i rest) e n ∙ sym (write-then w v s at rest)
 
-pub record-put : (s : List ℕ) (at e n d : ℕ) {t u v : List ℕ}
-    → t ≡ sets s at (leBytes 2 e) → u ≡ sets t (at + 2) (leBytes 8 n) → v ≡ sets u (at + 10) (leBytes 4 d) → v ≡ sets s at (recordBytes e n d)
-record-put s at e n d {t} p q r = joined 2 e s at _ refl p (joined 8 n t (at + 2) _ (omega arith) q r)
+pub record-put : (s : List ℕ) (at : ℕ) (r : Record) {t u v : List ℕ}
+    → t ≡ sets s at (leBytes 2 (r .eliminator)) → u ≡ sets t (at + numOffset) (leBytes 8 (r .num))
+    → v ≡ sets u (at + denOffset) (leBytes 4 (r .den)) → v ≡ sets s at (recordBytes r)
+record-put s at r {t} p q w = joined 2 (r .eliminator) s at _ refl p (joined 8 (r .num) t (at + numOffset) _ (omega arith) q w)

@@ -10,15 +10,20 @@ use Rattle.fractions.specs.declared.Value.{Value}
 use Rattle.fractions.specs.Order.{Later, Equal, Small}
 use Rattle.marks.specs.Good.{GoodMarks}
 use Rattle.marks.specs.Laws.{touching-small, touching-positive}
+use Rattle.elimination.specs.declared.Record.{Record}
 use Rattle.elimination.specs.Process.{Removal, stays, gone, when, process}
-use Rattle.elimination.specs.Records.{valueAt}
+use Rattle.elimination.specs.Records.{recordSize, recordBytes, valueAt, Reads, removalRecord}
 use Rattle.elimination.specs.Reel.{Reel, marksOf, scheduleOf}
 use Rattle.elimination.specs.Rules.{FirstRule, SecondRule, AllSound}
 use Rattle.elimination.specs.Sheet.{sheet-proper}
 use Rattle.elimination.specs.Theorems.{process-eliminator, process-iff, process-later}
-use Rattle.elimination.specs.Lemmas.Records.{Fits, stays-fits, gone-fits, Reads, records-length, reads-stays, reads-gone, value-is}
+use Rattle.elimination.specs.Lemmas.Records as Records
+use Rattle.elimination.specs.Lemmas.Records.{Fits, stays-fits, gone-fits, records-length, records-read, value-is}
 
-pub schedule-length : (r : Reel) → length (scheduleOf r) ≡ 14 * r .count
+pub record-length : (r : Record) → length (recordBytes r) ≡ recordSize
+record-length = Records.record-length
+
+pub schedule-length : (r : Reel) → length (scheduleOf r) ≡ recordSize * r .count
 unfolding scheduleOf
 schedule-length r = records-length (process (marksOf r)) (r .count)
 
@@ -37,14 +42,10 @@ module _ (r : Reel) (good : GoodMarks (r .marks) (r .count)) (bytes : Bytes (r .
           let z : 0 < f .den = rw (x .exact) (touching-positive s g i) in
           gone-fits {h = g} {f = f} (omega (arith, x .inside, good .few)) (omega (arith, y .num-small)) z (omega (arith, y .den-small))
 
-  -- record i as its three numbers
-  pub schedule-stays : (i : ℕ) → i < n → process (marksOf r) i ≡ stays → Reads (scheduleOf r) i 65535 0 0
+  -- record i is that of the process's removal
+  pub schedule-reads : (i : ℕ) → i < n → Reads (scheduleOf r) i (removalRecord (process (marksOf r) i))
   unfolding scheduleOf
-  schedule-stays i h e = reads-stays (process (marksOf r)) n i h e
-
-  pub schedule-gone : (i g : ℕ) (f : Fraction) → i < n → process (marksOf r) i ≡ gone g f → Reads (scheduleOf r) i g (f .num) (f .den)
-  unfolding scheduleOf
-  schedule-gone i g f h e = reads-gone (process (marksOf r)) n i g f h e (subst Fits e (process-fits i h))
+  schedule-reads i h = records-read (process (marksOf r)) n i h (process-fits i h)
 
   -- the removal value that record i names is the process's
   pub schedule-value : (i : ℕ) → i < n → valueAt (scheduleOf r) i ≡ when (process (marksOf r) i)

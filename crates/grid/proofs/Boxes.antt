@@ -8,11 +8,13 @@ use native.Mathlib.Nat.{mul-le-mul}
 use native.Mathlib.Decide.{ℕ-discrete}
 use borrow.Author.Tests.{ltb-true, ltb-false}
 use lib.Dec.{ltb}
-use lib.IntN.{ℤ, pos, negsuc, natAbs, subℕ, _-ℤ_}
+use lib.IntN.{ℤ, pos, negsuc, natAbs, subℕ}
 use Rattle.lists.specs.StoreLaws.{kept-wide, kept-then}
-use Rattle.marks.specs.Marks.{shifted, square, touchingOf}
-use Rattle.grid.specs.Table.{entry, radiusAt, Boxed}
-use Rattle.grid.specs.Steps.{Put, Grown, Widened, gap, AwayFrom, Apart, Bound}
+use Rattle.marks.specs.declared.Label.{Label}
+use Rattle.marks.specs.Marks.{shifted, apart, distance, touchingOf}
+use Rattle.marks.specs.Laws.{distance-grows, distance-bound}
+use Rattle.grid.specs.Table.{cellCount, westFrom, eastFrom, southFrom, northFrom, radiiFrom, linksFrom, entry, radiusAt, Boxed}
+use Rattle.grid.specs.Steps.{Put, Grown, Widened, gap, AwayFrom, OffBox, Bound}
 use Rattle.grid.proofs.Entries.{entry-other}
 
 -- ---- growing
@@ -21,15 +23,15 @@ abbrev Raised : List ℕ → List ℕ → ℕ → ℕ → ℕ → Type 0
 Raised w v at i x = Put w v at i (max (entry w at i) x)
 
 -- one side of a box, or for i from 480 on a radius
-grown-one : {w v : List ℕ} {at i x : ℕ} → 160 ≤ i → i < 560 → (480 ≤ i → x ≤ 16383) → Raised w v at i x → Grown w v at
+grown-one : {w v : List ℕ} {at i x : ℕ} → westFrom ≤ i → i < linksFrom → (radiiFrom ≤ i → x ≤ 16383) → Raised w v at i x → Grown w v at
 grown-one {w} {v} {at} {i} {x} h l low k =
     record {
       kept = kept-wide (k .kept) (omega arith) (omega arith);
       more = λ j. elim (ℕ-discrete j i) [ yes e ↦ rw (e, k .here) (omega arith) | no e ↦ rw (entry-other k j e) (omega arith) ];
       low = λ c b s.
-          elim (ℕ-discrete (480 + c) i) [
+          elim (ℕ-discrete (radiiFrom + c) i) [
             | yes e ↦ (let z = low (omega arith) in rw (e, k .here) (let z2 = rw e at s in omega arith))
-            | no e ↦ rw (entry-other k (480 + c) e) s
+            | no e ↦ rw (entry-other k (radiiFrom + c) e) s
           ];
     }
 
@@ -41,9 +43,9 @@ grown-then x y =
       low = λ c h s. y .low c h (x .low c h s);
     }
 
-module _ {w w1 w2 w3 w4 w5 : List ℕ} {at c x y r : ℕ} (hc : c < 80) (hx : x < 65536) (hy : y < 65536) (hr : r ≤ 16383)
-    (k1 : Raised w w1 at (160 + c) (65535 - x)) (k2 : Raised w1 w2 at (240 + c) x) (k3 : Raised w2 w3 at (320 + c) (65535 - y))
-    (k4 : Raised w3 w4 at (400 + c) y) (k5 : Raised w4 w5 at (480 + c) r) where
+module _ {w w1 w2 w3 w4 w5 : List ℕ} {at c x y r : ℕ} (hc : c < cellCount) (hx : x < 65536) (hy : y < 65536) (hr : r ≤ 16383)
+    (k1 : Raised w w1 at (westFrom + c) (65535 - x)) (k2 : Raised w1 w2 at (eastFrom + c) x) (k3 : Raised w2 w3 at (southFrom + c) (65535 - y))
+    (k4 : Raised w3 w4 at (northFrom + c) y) (k5 : Raised w4 w5 at (radiiFrom + c) r) where
   g5 : Grown w4 w5 at
   g5 = grown-one (omega arith) (omega arith) (λ h. hr) k5
 
@@ -61,10 +63,10 @@ module _ {w w1 w2 w3 w4 w5 : List ℕ} {at c x y r : ℕ} (hc : c < 80) (hx : x 
       record {
         grown = grown-then (grown-one (omega arith) (omega arith) (λ h. absurd (omega arith)) k1) g2;
         boxed = record {
-          west = omega (arith, k1 .here, g2 .more (160 + c));
-          east = omega (arith, k2 .here, g3 .more (240 + c));
-          south = omega (arith, k3 .here, g4 .more (320 + c));
-          north = omega (arith, k4 .here, g5 .more (400 + c));
+          west = omega (arith, k1 .here, g2 .more (westFrom + c));
+          east = omega (arith, k2 .here, g3 .more (eastFrom + c));
+          south = omega (arith, k3 .here, g4 .more (southFrom + c));
+          north = omega (arith, k4 .here, g5 .more (northFrom + c));
           radius = omega (arith, k5 .here);
         };
       }
@@ -72,11 +74,11 @@ module _ {w w1 w2 w3 w4 w5 : List ℕ} {at c x y r : ℕ} (hc : c < 80) (hx : x 
 pub boxed-grown : {w v : List ℕ} {at c x y r : ℕ} → Grown w v at → Boxed w at c x y r → Boxed v at c x y r
 boxed-grown {c = c} g b =
     record {
-      west = omega (arith, g .more (160 + c), b .west);
-      east = omega (arith, g .more (240 + c), b .east);
-      south = omega (arith, g .more (320 + c), b .south);
-      north = omega (arith, g .more (400 + c), b .north);
-      radius = omega (arith, g .more (480 + c), b .radius);
+      west = omega (arith, g .more (westFrom + c), b .west);
+      east = omega (arith, g .more (eastFrom + c), b .east);
+      south = omega (arith, g .more (southFrom + c), b .south);
+      north = omega (arith, g .more (northFrom + c), b .north);
+      radius = omega (arith, g .more (radiiFrom + c), b .radius);
     }
 
 -- ---- the distance
@@ -89,7 +91,7 @@ sub-gap a b = go (ltb a b) refl
     go false e = let l = ltb-false a b e in omega arith
 
 -- shifting moves no two places further apart
-gap-shifted : (a b : ℤ) → gap (shifted a) (shifted b) ≤ natAbs (a -ℤ b)
+gap-shifted : (a b : ℤ) → gap (shifted a) (shifted b) ≤ apart a b
 gap-shifted (pos a) (pos zero) = omega arith
 gap-shifted (pos a) (pos (suc b)) = omega (arith, sub-gap a (suc b))
 gap-shifted (pos a) (negsuc b) = omega arith
@@ -97,28 +99,25 @@ gap-shifted (negsuc a) (pos zero) = omega (arith, sub-gap 0 (suc a))
 gap-shifted (negsuc a) (pos (suc b)) = omega arith
 gap-shifted (negsuc a) (negsuc b) = omega (arith, sub-gap (suc b) (suc a))
 
-pub apart : {w : List ℕ} {at c a b g h : ℕ} → AwayFrom a (entry w at (160 + c)) (entry w at (240 + c)) g
-    → AwayFrom b (entry w at (320 + c)) (entry w at (400 + c)) h → Apart w at c a b (g * g + h * h)
-apart p q =
+pub off-box : {w : List ℕ} {at c a b g h : ℕ} → AwayFrom a (entry w at (westFrom + c)) (entry w at (eastFrom + c)) g
+    → AwayFrom b (entry w at (southFrom + c)) (entry w at (northFrom + c)) h → OffBox w at c a b (distance g h)
+off-box p q =
     record {
-      small = omega (arith, mul-le-mul (p .small) (p .small), mul-le-mul (q .small) (q .small));
-      least = λ u v s k.
-          let e = p .least u (k .west) (k .east) in
-          let f = q .least v (k .south) (k .north) in
-          omega (arith, mul-le-mul e e, mul-le-mul f f);
+      small = distance-bound (p .small) (q .small);
+      least = λ u v s k. distance-grows (p .least u (k .west) (k .east)) (q .least v (k .south) (k .north));
     }
 
-pub bound-is : {w : List ℕ} {at c : ℕ} (x y : ℤ) {r d radius : ℕ} → radius ≡ radiusAt w at c → radius ≤ 16383 → r ≤ 16383
-    → Apart w at c (shifted x) (shifted y) d → Bound w at c x y r (record { num = d; den = (radius + r) * (radius + r) })
-unfolding touchingOf square
-bound-is {w} {at} {c} x y {r} {d} {radius} e hs hr a =
+pub bound-is : {w : List ℕ} {at c : ℕ} (a : Label) {d radius : ℕ} → radius ≡ radiusAt w at c → radius ≤ 16383 → a .radius ≤ 16383
+    → OffBox w at c (shifted (a .x)) (shifted (a .y)) d
+    → Bound w at c a (record { num = d; den = (radius + a .radius) * (radius + a .radius) })
+unfolding touchingOf
+bound-is {w} {at} {c} a {d} {radius} e hs hr o =
     record {
-      small = (let k : radius + r ≤ 32766 = omega arith in record { num-small = a .small; den-small = omega (arith, mul-le-mul k k) });
-      least = λ u v s k.
-          let l : s + r ≤ radius + r = omega (arith, k .radius) in
-          let p = gap-shifted u x in
-          let q = gap-shifted v y in
-          let far = a .least (shifted u) (shifted v) s k in
-          let n : d ≤ natAbs (u -ℤ x) * natAbs (u -ℤ x) + natAbs (v -ℤ y) * natAbs (v -ℤ y) = omega (arith, far, mul-le-mul p p, mul-le-mul q q) in
+      small = (let k : radius + a .radius ≤ 32766 = omega arith in record { num-small = o .small; den-small = omega (arith, mul-le-mul k k) });
+      least = λ b k.
+          let l : b .radius + a .radius ≤ radius + a .radius = omega (arith, k .radius) in
+          let far = o .least (shifted (b .x)) (shifted (b .y)) (b .radius) k in
+          let grows = distance-grows (gap-shifted (b .x) (a .x)) (gap-shifted (b .y) (a .y)) in
+          let n : d ≤ distance (apart (b .x) (a .x)) (apart (b .y) (a .y)) = omega (arith, far, grows) in
           record { cross = mul-le-mul n (mul-le-mul l l) };
     }

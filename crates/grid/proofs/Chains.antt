@@ -8,48 +8,48 @@ use native.Mathlib.Decide.{ℕ-discrete}
 use borrow.Author.Count.{below-more}
 use borrow.Author.Tests.{eq-eqb, ne-eqb}
 use lib.ListN.{length}
-use lib.IntN.{ℤ}
 use Rattle.lists.specs.Stores.{Kept}
 use Rattle.lists.specs.StoreLaws.{kept-wide, kept-then}
 use Rattle.numbers.specs.Laws.{number-kept}
+use Rattle.marks.specs.declared.Label.{Label}
 use Rattle.marks.specs.Marks.{shifted}
-use Rattle.grid.specs.Table.{entry, headAt, countAt, linkAt, Ready, Chained, assign, Boxed}
+use Rattle.grid.specs.Table.{cellCount, countsFrom, westFrom, eastFrom, southFrom, northFrom, radiiFrom, linksFrom, tableSize, entry, headAt, countAt, linkAt, EntriesLow, Chained, assign, Boxed}
 use Rattle.grid.specs.Steps.{Put, Grown, Widened, Linked, Added}
 use Rattle.grid.proofs.Entries.{entry-other}
 use Rattle.grid.proofs.Boxes.{boxed-grown}
 
 -- ---- the link
 
-module _ {w t u v : List ℕ} {at p c h k : ℕ} (hc : c < 80) (room : at + 1122 + 2 * p ≤ length w) (rd : Ready w at p)
-    (eh : h ≡ headAt w at c) (ek : k ≡ countAt w at c) (k1 : Put w t at (560 + p) h) (k2 : Put t u at c (p + 1))
-    (k3 : Put u v at (80 + c) (k + 1)) where
-  other : (i : ℕ) → i ≢ 560 + p → i ≢ c → i ≢ 80 + c → entry v at i ≡ entry w at i
+module _ {w t u v : List ℕ} {at p c h k : ℕ} (hc : c < cellCount) (room : at + tableSize + 2 * p + 2 ≤ length w) (rd : EntriesLow w at p)
+    (eh : h ≡ headAt w at c) (ek : k ≡ countAt w at c) (k1 : Put w t at (linksFrom + p) h) (k2 : Put t u at c (p + 1))
+    (k3 : Put u v at (countsFrom + c) (k + 1)) where
+  other : (i : ℕ) → i ≢ linksFrom + p → i ≢ c → i ≢ countsFrom + c → entry v at i ≡ entry w at i
   other i d e f = entry-other k3 i f ∙ entry-other k2 i e ∙ entry-other k1 i d
 
   link-same : (j : ℕ) → j < p → linkAt v at j ≡ linkAt w at j
-  link-same j h = other (560 + j) (λ e. omega arith) (λ e. omega arith) (λ e. omega arith)
+  link-same j h = other (linksFrom + j) (λ e. omega arith) (λ e. omega arith) (λ e. omega arith)
 
   link-here : linkAt v at p ≡ headAt w at c
-  link-here = entry-other k3 (560 + p) (λ e. omega arith) ∙ entry-other k2 (560 + p) (λ e. omega arith) ∙ k1 .here ∙ eh
+  link-here = entry-other k3 (linksFrom + p) (λ e. omega arith) ∙ entry-other k2 (linksFrom + p) (λ e. omega arith) ∙ k1 .here ∙ eh
 
-  head-same : (d : ℕ) → d < 80 → d ≢ c → headAt v at d ≡ headAt w at d
+  head-same : (d : ℕ) → d < cellCount → d ≢ c → headAt v at d ≡ headAt w at d
   head-same d h n = other d (λ e. omega arith) n (λ e. omega arith)
 
   head-here : headAt v at c ≡ p + 1
   head-here = entry-other k3 c (λ e. omega arith) ∙ k2 .here
 
-  count-same : (d : ℕ) → d < 80 → d ≢ c → countAt v at d ≡ countAt w at d
-  count-same d h n = other (80 + d) (λ e. omega arith) (λ e. omega arith) (λ e. n (omega arith))
+  count-same : (d : ℕ) → d < cellCount → d ≢ c → countAt v at d ≡ countAt w at d
+  count-same d h n = other (countsFrom + d) (λ e. omega arith) (λ e. omega arith) (λ e. n (omega arith))
 
-  boxes : (i : ℕ) → 160 ≤ i → i < 560 → entry v at i ≡ entry w at i
+  boxes : (i : ℕ) → westFrom ≤ i → i < linksFrom → entry v at i ≡ entry w at i
   boxes i h l = other i (λ e. omega arith) (λ e. omega arith) (λ e. omega arith)
 
-  kept : Kept w v at (at + 1122 + 2 * p)
+  kept : Kept w v at (at + tableSize + 2 * p + 2)
   kept =
       kept-then (kept-wide (k1 .kept) (omega arith) (omega arith))
       (kept-then (kept-wide (k2 .kept) (omega arith) (omega arith)) (kept-wide (k3 .kept) (omega arith) (omega arith)))
 
-  ready : Ready v at (p + 1)
+  ready : EntriesLow v at (p + 1)
   ready =
       record {
         room = omega (arith, kept .long);
@@ -62,7 +62,7 @@ module _ {w t u v : List ℕ} {at p c h k : ℕ} (hc : c < 80) (room : at + 1122
               | yes e ↦ rw (e, k3 .here) (omega (arith, ek, rd .count-low c hc))
               | no e ↦ rw (count-same d h e) (omega (arith, rd .count-low d h))
             ];
-        radius-low = λ d h. rw (boxes (480 + d) (omega arith) (omega arith)) (rd .radius-low d h);
+        radius-low = λ d h. rw (boxes (radiiFrom + d) (omega arith) (omega arith)) (rd .radius-low d h);
       }
 
   module _ (cell : ℕ → ℕ) (ch : Chained w at p cell) where
@@ -80,7 +80,7 @@ module _ {w t u v : List ℕ} {at p c h k : ℕ} (hc : c < 80) (room : at + 1122
           | no e ↦ rw (head-same (cell q) (ch .cell-low q h) e) (ch .head-all q h)
         ])
 
-    head-in : (d : ℕ) → d < 80 → (i : ℕ) → headAt v at d ≡ suc i → assign cell p c i ≡ d
+    head-in : (d : ℕ) → d < cellCount → (i : ℕ) → headAt v at d ≡ suc i → assign cell p c i ≡ d
     head-in d h i e =
         elim (ℕ-discrete d c) [
           | yes f ↦
@@ -121,19 +121,19 @@ module _ {w t u v : List ℕ} {at p c h k : ℕ} (hc : c < 80) (room : at + 1122
 -- ---- the row
 
 module _ {w v : List ℕ} {at : ℕ} (g : Grown w v at) (p : ℕ) where
-  low-same : (i : ℕ) → i < 160 → entry v at i ≡ entry w at i
+  low-same : (i : ℕ) → i < westFrom → entry v at i ≡ entry w at i
   low-same i h = number-kept (g .kept) 2 (at + 2 * i) (omega arith)
 
   link-still : (j : ℕ) → linkAt v at j ≡ linkAt w at j
-  link-still j = number-kept (g .kept) 2 (at + 2 * (560 + j)) (omega arith)
+  link-still j = number-kept (g .kept) 2 (at + 2 * (linksFrom + j)) (omega arith)
 
-  pub ready-grown : Ready w at p → Ready v at p
+  pub ready-grown : EntriesLow w at p → EntriesLow v at p
   ready-grown r =
       record {
         room = omega (arith, g .kept .long, r .room);
         head-low = λ c h. rw (low-same c (omega arith)) (r .head-low c h);
         link-low = λ j h. rw (link-still j) (r .link-low j h);
-        count-low = λ c h. rw (low-same (80 + c) (omega arith)) (r .count-low c h);
+        count-low = λ c h. rw (low-same (countsFrom + c) (omega arith)) (r .count-low c h);
         radius-low = λ c h. g .low c h (r .radius-low c h);
       }
 
@@ -147,19 +147,19 @@ module _ {w v : List ℕ} {at : ℕ} (g : Grown w v at) (p : ℕ) where
         link-all = λ j h q l e. rw (link-still j) (r .link-all j h q l e);
       }
 
-  boxed-linked : {u : List ℕ} {c d x y r : ℕ} → d < 80 → Linked v u at p c → Boxed v at d x y r → Boxed u at d x y r
+  boxed-linked : {u : List ℕ} {c d x y r : ℕ} → d < cellCount → Linked v u at p c → Boxed v at d x y r → Boxed u at d x y r
   boxed-linked {d = d} h l b =
       record {
-        west = rw (l .boxes (160 + d) (omega arith) (omega arith)) (b .west);
-        east = rw (l .boxes (240 + d) (omega arith) (omega arith)) (b .east);
-        south = rw (l .boxes (320 + d) (omega arith) (omega arith)) (b .south);
-        north = rw (l .boxes (400 + d) (omega arith) (omega arith)) (b .north);
-        radius = rw (l .boxes (480 + d) (omega arith) (omega arith)) (b .radius);
+        west = rw (l .boxes (westFrom + d) (omega arith) (omega arith)) (b .west);
+        east = rw (l .boxes (eastFrom + d) (omega arith) (omega arith)) (b .east);
+        south = rw (l .boxes (southFrom + d) (omega arith) (omega arith)) (b .south);
+        north = rw (l .boxes (northFrom + d) (omega arith) (omega arith)) (b .north);
+        radius = rw (l .boxes (radiiFrom + d) (omega arith) (omega arith)) (b .radius);
       }
 
-pub added : {w v u : List ℕ} {at p c : ℕ} (x y : ℤ) {r : ℕ} → c < 80 → Widened w v at c (shifted x) (shifted y) r → Linked v u at p c
-    → Added w u at p c x y r
-added {p = p} x y hc g l =
+pub added : {w v u : List ℕ} {at p c : ℕ} (a : Label) → c < cellCount → Widened w v at c (shifted (a .x)) (shifted (a .y)) (a .radius) → Linked v u at p c
+    → Added w u at p c a
+added {p = p} a hc g l =
     record {
       kept = kept-then (kept-wide (g .grown .kept) (omega arith) (omega arith)) (l .kept);
       ready = l .ready;

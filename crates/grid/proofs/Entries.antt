@@ -12,7 +12,7 @@ use Rattle.lists.specs.Stores.{Clear}
 use Rattle.lists.specs.StoreLaws.{kept-none, kept-wide, kept-then}
 use Rattle.numbers.specs.Little.{leBytes}
 use Rattle.numbers.specs.Laws.{read-back-sets, kept-write, number-kept}
-use Rattle.grid.specs.Table.{entry}
+use Rattle.grid.specs.Table.{linksFrom, tableSize, entry}
 use Rattle.grid.specs.Steps.{Put, Cleared}
 
 pub put-is : {w v : List ℕ} (at i x : ℕ) → at + 2 * i + 2 ≤ length w → x < 65536 → v ≡ sets w (at + 2 * i) (leBytes 2 x) → Put w v at i x
@@ -28,9 +28,9 @@ entry-other {w} {v} {at} {i} k j d = number-kept (k .kept) 2 (at + 2 * j) (entri
 -- ---- the entries of the cells, one after the other
 
 pub cleared-none : (w : List ℕ) (at : ℕ) → Cleared w w at 0
-cleared-none w at = record { kept = kept-none w at (at + 1120); zeros = λ j h. absurd (omega arith) }
+cleared-none w at = record { kept = kept-none w at (at + tableSize); zeros = λ j h. absurd (omega arith) }
 
-pub cleared-more : {w v u : List ℕ} {at i : ℕ} → i < 560 → Cleared w v at i → Put v u at i 0 → Cleared w u at (i + 1)
+pub cleared-more : {w v u : List ℕ} {at i : ℕ} → i < linksFrom → Cleared w v at i → Put v u at i 0 → Cleared w u at (i + 1)
 cleared-more {w} {v} {u} {at} {i} h c k =
     record {
       kept = kept-then (c .kept) (kept-wide (k .kept) (omega arith) (omega arith));

@@ -6,20 +6,20 @@ use native.Mathlib.Omega.{arith}
 use lib.ListN.{length}
 use Rattle.lists.specs.Stores.{Kept}
 use Rattle.numbers.specs.Laws.{number-kept}
-use Rattle.grid.specs.Table.{entry, Ready, Chained, Boxed}
+use Rattle.grid.specs.Table.{countsFrom, westFrom, eastFrom, southFrom, northFrom, radiiFrom, linksFrom, tableSize, entry, EntriesLow, Chained, Boxed}
 use Rattle.grid.specs.Steps.{Cleared}
 
 -- ---- the empty table
 
-module _ {w v : List ℕ} {at : ℕ} (k : Cleared w v at 560) where
-  pub ready-none : at + 1120 ≤ length w → Ready v at 0
+module _ {w v : List ℕ} {at : ℕ} (k : Cleared w v at linksFrom) where
+  pub ready-none : at + tableSize ≤ length w → EntriesLow v at 0
   ready-none room =
       record {
         room = omega (arith, k .kept .long);
         head-low = λ c h. omega (arith, k .zeros c (omega arith));
         link-low = λ j h. absurd (omega arith);
-        count-low = λ c h. omega (arith, k .zeros (80 + c) (omega arith));
-        radius-low = λ c h. omega (arith, k .zeros (480 + c) (omega arith));
+        count-low = λ c h. omega (arith, k .zeros (countsFrom + c) (omega arith));
+        radius-low = λ c h. omega (arith, k .zeros (radiiFrom + c) (omega arith));
       }
 
   pub chained-none : (cell : ℕ → ℕ) → Chained v at 0 cell
@@ -38,14 +38,14 @@ module _ {w v : List ℕ} {a b : ℕ} (k : Kept w v a b) (at : ℕ) (o : b ≤ a
   pub entry-kept : (i : ℕ) → entry v at i ≡ entry w at i
   entry-kept i = number-kept k 2 (at + 2 * i) (omega arith)
 
-  pub ready-kept : {p : ℕ} → Ready w at p → Ready v at p
+  pub ready-kept : {p : ℕ} → EntriesLow w at p → EntriesLow v at p
   ready-kept {p} r =
       record {
         room = omega (arith, k .long, r .room);
         head-low = λ c h. rw (entry-kept c) (r .head-low c h);
-        link-low = λ j h. rw (entry-kept (560 + j)) (r .link-low j h);
-        count-low = λ c h. rw (entry-kept (80 + c)) (r .count-low c h);
-        radius-low = λ c h. rw (entry-kept (480 + c)) (r .radius-low c h);
+        link-low = λ j h. rw (entry-kept (linksFrom + j)) (r .link-low j h);
+        count-low = λ c h. rw (entry-kept (countsFrom + c)) (r .count-low c h);
+        radius-low = λ c h. rw (entry-kept (radiiFrom + c)) (r .radius-low c h);
       }
 
   pub chained-kept : {p : ℕ} {cell : ℕ → ℕ} → Chained w at p cell → Chained v at p cell
@@ -54,16 +54,16 @@ module _ {w v : List ℕ} {a b : ℕ} (k : Kept w v a b) (at : ℕ) (o : b ≤ a
         cell-low = r .cell-low;
         head-in = λ c h i e. r .head-in c h i (sym (entry-kept c) ∙ e);
         head-all = λ q h. rw (entry-kept (cell q)) (r .head-all q h);
-        link-in = λ j h i e. r .link-in j h i (sym (entry-kept (560 + j)) ∙ e);
-        link-all = λ j h q l e. rw (entry-kept (560 + j)) (r .link-all j h q l e);
+        link-in = λ j h i e. r .link-in j h i (sym (entry-kept (linksFrom + j)) ∙ e);
+        link-all = λ j h q l e. rw (entry-kept (linksFrom + j)) (r .link-all j h q l e);
       }
 
   pub boxed-kept : {c x y r : ℕ} → Boxed w at c x y r → Boxed v at c x y r
   boxed-kept {c} b =
       record {
-        west = rw (entry-kept (160 + c)) (b .west);
-        east = rw (entry-kept (240 + c)) (b .east);
-        south = rw (entry-kept (320 + c)) (b .south);
-        north = rw (entry-kept (400 + c)) (b .north);
-        radius = rw (entry-kept (480 + c)) (b .radius);
+        west = rw (entry-kept (westFrom + c)) (b .west);
+        east = rw (entry-kept (eastFrom + c)) (b .east);
+        south = rw (entry-kept (southFrom + c)) (b .south);
+        north = rw (entry-kept (northFrom + c)) (b .north);
+        radius = rw (entry-kept (radiiFrom + c)) (b .radius);
       }

@@ -7,10 +7,40 @@ use mathlib.Core.Path.{_≡_}
 use mathlib.Core.Bool.{cond}
 use mathlib.Core.List.{List}
 use lib.Dec.{eqb}
-use lib.IntN.{ℤ}
 use lib.ListN.{length}
 use Rattle.numbers.specs.Little.{leAt}
+use Rattle.marks.specs.declared.Label.{Label}
 use Rattle.marks.specs.Marks.{shifted}
+
+-- how many cells there are
+abbrev pub cellCount : ℕ
+cellCount = 80
+
+-- Where the entries of each kind begin: a cell's last row is the entry of its number.
+abbrev pub countsFrom : ℕ
+countsFrom = 80
+
+abbrev pub westFrom : ℕ
+westFrom = 160
+
+abbrev pub eastFrom : ℕ
+eastFrom = 240
+
+abbrev pub southFrom : ℕ
+southFrom = 320
+
+abbrev pub northFrom : ℕ
+northFrom = 400
+
+abbrev pub radiiFrom : ℕ
+radiiFrom = 480
+
+abbrev pub linksFrom : ℕ
+linksFrom = 560
+
+-- the bytes of the entries of all cells; those of the rows' links stand behind them
+abbrev pub tableSize : ℕ
+tableSize = 1120
 
 abbrev pub entry : List ℕ → ℕ → ℕ → ℕ
 entry w at i = leAt 2 w (at + 2 * i)
@@ -19,28 +49,28 @@ abbrev pub headAt : List ℕ → ℕ → ℕ → ℕ
 headAt w at c = entry w at c
 
 abbrev pub countAt : List ℕ → ℕ → ℕ → ℕ
-countAt w at c = entry w at (80 + c)
+countAt w at c = entry w at (countsFrom + c)
 
 abbrev pub radiusAt : List ℕ → ℕ → ℕ → ℕ
-radiusAt w at c = entry w at (480 + c)
+radiusAt w at c = entry w at (radiiFrom + c)
 
 abbrev pub linkAt : List ℕ → ℕ → ℕ → ℕ
-linkAt w at q = entry w at (560 + q)
+linkAt w at q = entry w at (linksFrom + q)
 
 -- ---- the chains
 
 -- no entry leads past the p rows that were put in
-pub record Ready (w : List ℕ) (at p : ℕ) : Type 0 where
-  pub room : at + 1120 + 2 * p ≤ length w
-  pub head-low : (c : ℕ) → c < 80 → headAt w at c ≤ p
+pub record EntriesLow (w : List ℕ) (at p : ℕ) : Type 0 where
+  pub room : at + tableSize + 2 * p ≤ length w
+  pub head-low : (c : ℕ) → c < cellCount → headAt w at c ≤ p
   pub link-low : (j : ℕ) → j < p → linkAt w at j ≤ j
-  pub count-low : (c : ℕ) → c < 80 → countAt w at c ≤ p
-  pub radius-low : (c : ℕ) → c < 80 → radiusAt w at c ≤ 16383
+  pub count-low : (c : ℕ) → c < cellCount → countAt w at c ≤ p
+  pub radius-low : (c : ℕ) → c < cellCount → radiusAt w at c ≤ 16383
 
 -- row q is in cell `cell q`: a cell's head is its last row, and a row's link is the row before it in its cell
 pub record Chained (w : List ℕ) (at p : ℕ) (cell : ℕ → ℕ) : Type 0 where
-  pub cell-low : (q : ℕ) → q < p → cell q < 80
-  pub head-in : (c : ℕ) → c < 80 → (i : ℕ) → headAt w at c ≡ suc i → cell i ≡ c
+  pub cell-low : (q : ℕ) → q < p → cell q < cellCount
+  pub head-in : (c : ℕ) → c < cellCount → (i : ℕ) → headAt w at c ≡ suc i → cell i ≡ c
   pub head-all : (q : ℕ) → q < p → q < headAt w at (cell q)
   pub link-in : (j : ℕ) → j < p → (i : ℕ) → linkAt w at j ≡ suc i → cell i ≡ cell j
   pub link-all : (j : ℕ) → j < p → (q : ℕ) → q < j → cell q ≡ cell j → q < linkAt w at j
@@ -54,12 +84,12 @@ assign cell p c q = cond (eqb q p) c (cell q)
 -- The shifted place (u, v) lies in the box of cell c, and r is at most its largest radius. The lower sides are kept as their distance from
 -- 65,535, so that every side of an empty box is 0, and each grows.
 pub record Boxed (w : List ℕ) (at c u v r : ℕ) : Type 0 where
-  pub west : 65535 ≤ entry w at (160 + c) + u
-  pub east : u ≤ entry w at (240 + c)
-  pub south : 65535 ≤ entry w at (320 + c) + v
-  pub north : v ≤ entry w at (400 + c)
+  pub west : 65535 ≤ entry w at (westFrom + c) + u
+  pub east : u ≤ entry w at (eastFrom + c)
+  pub south : 65535 ≤ entry w at (southFrom + c) + v
+  pub north : v ≤ entry w at (northFrom + c)
   pub radius : r ≤ radiusAt w at c
 
--- the same of a mark's place and used radius
-abbrev pub Inside : List ℕ → ℕ → ℕ → ℤ → ℤ → ℕ → Type 0
-Inside w at c x y r = Boxed w at c (shifted x) (shifted y) r
+-- the same of a label
+abbrev pub Inside : List ℕ → ℕ → ℕ → Label → Type 0
+Inside w at c a = Boxed w at c (shifted (a .x)) (shifted (a .y)) (a .radius)

@@ -2,12 +2,17 @@
 // rows, a box around their places and their largest radius, so that a search can pass over a cell in which nothing touches soon enough.
 // Nothing but speed rests on the choice of a row's cell. The table stands in lent bytes `w`, from `at` on.
 use fractions::Fraction;
+use marks::Label;
 ghost use mathlib.Core.Path.{_≡_};
 ghost use Prim.Native.Nat.{_+_, _*_, _<_, _≤_, max};
+ghost use lib.IntN.{natAbs};
 ghost use lib.ListN.{length};
-ghost use Rattle.grid.specs.Table.{entry, headAt, countAt, radiusAt, linkAt, Ready};
+ghost use Rattle.grid.specs.Table.{cellCount, linksFrom, tableSize, entry, headAt, countAt, radiusAt, linkAt, EntriesLow};
 ghost use Rattle.grid.specs.Plan.{Divides};
-ghost use Rattle.grid.specs.Steps.{Put, Cleared, Widened, Linked, Added, AwayFrom, Apart, Bound};
+ghost use Rattle.grid.specs.Steps.{Put, Cleared, Widened, Linked, Added, AwayFrom, OffBox, Bound};
+
+// How many cells there are.
+pub const CELLS: usize = 80;
 
 // Where the entries of each kind begin: a cell's last row stands at its number, a row's link at LINKS and its number.
 const COUNTS: usize = 80;
@@ -42,8 +47,8 @@ fn put(w: &mut [u8], at: usize, i: usize, v: u16)
 
 // No row is in any cell.
 pub fn clear(w: &mut [u8], at: usize)
-    requires { ⌜ at + 1120 ≤ length (now w) ⌝ }
-    ensures { λ _. ⌜ Cleared (now (w .entry)) (now (w .exit)) at 560 ⌝ }
+    requires { ⌜ at + tableSize ≤ length (now w) ⌝ }
+    ensures { λ _. ⌜ Cleared (now (w .entry)) (now (w .exit)) at linksFrom ⌝ }
 {
     let mut i = 0;
     while i < LINKS {
@@ -56,7 +61,7 @@ pub fn clear(w: &mut [u8], at: usize)
 
 // One more than the last row of cell c, or 0.
 pub fn last_row(w: &[u8], at: usize, c: usize) -> usize
-    requires { ⌜ (c < 80) × (at + 1120 ≤ length (now w)) ⌝ }
+    requires { ⌜ (c < cellCount) × (at + tableSize ≤ length (now w)) ⌝ }
     ensures { λ r. ⌜ r ≡ headAt (now (w .entry)) at c ⌝ }
 {
     get(w, at, c) as usize
@@ -64,7 +69,7 @@ pub fn last_row(w: &[u8], at: usize, c: usize) -> usize
 
 // One more than the row before row q in its cell, or 0.
 pub fn previous_row(w: &[u8], at: usize, q: usize) -> usize
-    requires { ⌜ at + 1120 + 2 * q + 2 ≤ length (now w) ⌝ }
+    requires { ⌜ at + tableSize + 2 * q + 2 ≤ length (now w) ⌝ }
     ensures { λ r. ⌜ r ≡ linkAt (now (w .entry)) at q ⌝ }
 {
     get(w, at, LINKS + q) as usize
@@ -72,7 +77,7 @@ pub fn previous_row(w: &[u8], at: usize, q: usize) -> usize
 
 // How many rows cell c has.
 pub fn row_count(w: &[u8], at: usize, c: usize) -> usize
-    requires { ⌜ (c < 80) × (at + 1120 ≤ length (now w)) ⌝ }
+    requires { ⌜ (c < cellCount) × (at + tableSize ≤ length (now w)) ⌝ }
     ensures { λ r. ⌜ r ≡ countAt (now (w .entry)) at c ⌝ }
 {
     get(w, at, COUNTS + c) as usize
@@ -80,7 +85,7 @@ pub fn row_count(w: &[u8], at: usize, c: usize) -> usize
 
 // Row p becomes the last of cell c.
 fn link(w: &mut [u8], at: usize, p: usize, c: usize)
-    requires { ⌜ (p < 4096) × (c < 80) × (at + 1122 + 2 * p ≤ length (now w)) × Ready (now w) at p ⌝ }
+    requires { ⌜ (p < 4096) × (c < cellCount) × (at + tableSize + 2 * p + 2 ≤ length (now w)) × EntriesLow (now w) at p ⌝ }
     ensures { λ _. ⌜ Linked (now (w .entry)) (now (w .exit)) at p c ⌝ }
 {
     let head = get(w, at, c);
@@ -112,7 +117,7 @@ fn raise(w: &mut [u8], at: usize, i: usize, v: u16)
 
 // The box of cell c takes in the shifted place x, y, and its largest radius r.
 fn widen_box(w: &mut [u8], at: usize, c: usize, x: u16, y: u16, r: u16)
-    requires { ⌜ (c < 80) × (at + 1120 ≤ length (now w)) × (r ≤ 16383) ⌝ }
+    requires { ⌜ (c < cellCount) × (at + tableSize ≤ length (now w)) × (r ≤ 16383) ⌝ }
     ensures { λ _. ⌜ Widened (now (w .entry)) (now (w .exit)) at c x y r ⌝ }
 {
     raise(w, at, WEST + c, 65535 - x);
@@ -122,47 +127,54 @@ fn widen_box(w: &mut [u8], at: usize, c: usize, x: u16, y: u16, r: u16)
     raise(w, at, RADII + c, r);
 }
 
-// Row p, with the place x, y and the radius r, goes into cell c.
-pub fn add(w: &mut [u8], at: usize, p: usize, c: usize, x: i16, y: i16, r: u16)
-    requires { ⌜ (p < 4096) × (c < 80) × (r ≤ 16383) × (at + 1122 + 2 * p ≤ length (now w)) ⌝ }
-    requires { ⌜ Ready (now w) at p ⌝ }
-    ensures { λ _. ⌜ Added (now (w .entry)) (now (w .exit)) at p c x y r ⌝ }
+// Row p, with this label, goes into cell c.
+pub fn add(w: &mut [u8], at: usize, p: usize, c: usize, label: Label)
+    requires { ⌜ (p < 4096) × (c < cellCount) × (label .radius ≤ 16383) × (at + tableSize + 2 * p + 2 ≤ length (now w)) ⌝ }
+    requires { ⌜ EntriesLow (now w) at p ⌝ }
+    ensures { λ _. ⌜ Added (now (w .entry)) (now (w .exit)) at p c label ⌝ }
 {
-    widen_box(w, at, c, marks::shifted(x), marks::shifted(y), r);
+    widen_box(
+        w,
+        at,
+        c,
+        marks::shifted(label.x),
+        marks::shifted(label.y),
+        label.radius,
+    );
     link(w, at, p, c);
 }
 
 // How far a lies from the range from 65,535 - low to high.
-fn away_from(a: u16, low: u16, high: u16) -> u64
-    ensures { λ r. ⌜ AwayFrom a low high r ⌝ }
+fn away_from(a: u16, low: u16, high: u16) -> i32
+    ensures { λ r. ⌜ AwayFrom a low high (natAbs r) ⌝ }
 {
     let least = 65535 - low;
     if a < least {
-        return (least - a) as u64;
+        return (least - a) as i32;
     }
     if high < a {
-        return (a - high) as u64;
+        return (a - high) as i32;
     }
     0
 }
 
-// The squared distance of the shifted place x, y from the box of cell c.
-fn distance(w: &[u8], at: usize, c: usize, x: u16, y: u16) -> u64
-    requires { ⌜ (c < 80) × (at + 1120 ≤ length (now w)) ⌝ }
-    ensures { λ d. ⌜ Apart (now (w .entry)) at c x y d ⌝ }
+// The distance of the shifted place x, y from the box of cell c.
+fn off_box(w: &[u8], at: usize, c: usize, x: u16, y: u16) -> u64
+    requires { ⌜ (c < cellCount) × (at + tableSize ≤ length (now w)) ⌝ }
+    ensures { λ d. ⌜ OffBox (now (w .entry)) at c x y d ⌝ }
 {
     let dx = away_from(x, get(w, at, WEST + c), get(w, at, EAST + c));
     let dy = away_from(y, get(w, at, SOUTH + c), get(w, at, NORTH + c));
-    dx * dx + dy * dy
+    marks::distance(dx, dy)
 }
 
-// The touching value of the place x, y with radius r and the nearest place of the box of cell c, with its largest radius.
-pub fn bound(w: &[u8], at: usize, c: usize, x: i16, y: i16, r: u16) -> Fraction
-    requires { ⌜ (c < 80) × (at + 1120 ≤ length (now w)) × (r ≤ 16383) × (radiusAt (now w) at c ≤ 16383) ⌝ }
-    ensures { λ f. ⌜ Bound (now (w .entry)) at c x y r f ⌝ }
+// The touching value of a label and one at the nearest place of the box of cell c, with its largest radius.
+pub fn bound(w: &[u8], at: usize, c: usize, label: Label) -> Fraction
+    requires { ⌜ (c < cellCount) × (at + tableSize ≤ length (now w)) × (label .radius ≤ 16383) × (radiusAt (now w) at c ≤ 16383) ⌝ }
+    ensures { λ f. ⌜ Bound (now (w .entry)) at c label f ⌝ }
 {
-    let num = distance(w, at, c, marks::shifted(x), marks::shifted(y));
-    let radii = get(w, at, RADII + c) as u32 + r as u32;
+    let num = off_box(w, at, c, marks::shifted(label.x), marks::shifted(label.y));
+    let radii = get(w, at, RADII + c) as u32 + label.radius as u32;
     let den = radii * radii;
     Fraction { num: num, den: den }
 }
@@ -170,7 +182,7 @@ pub fn bound(w: &[u8], at: usize, c: usize, x: i16, y: i16, r: u16) -> Fraction
 // ---- the choice of a cell
 
 // What the rows fill: the sides as a box has them, and the sum of the radii.
-pub struct Extent {
+pub struct Cover {
     pub west: u16,
     pub east: u16,
     pub south: u16,
@@ -178,15 +190,15 @@ pub struct Extent {
     pub radii: u64,
 }
 
-// The extent with one place more. Of the sides nothing is said, since nothing but speed rests on them.
-pub fn extended(e: Extent, x: i16, y: i16, r: u16) -> Extent
+// The same with one label more. Of the sides nothing is said, since nothing but speed rests on them.
+pub fn extended(e: Cover, label: Label) -> Cover
     requires { ⌜ e .radii ≤ 4294967296 ⌝ }
-    ensures { λ f. ⌜ f .radii ≡ e .radii + r ⌝ }
+    ensures { λ f. ⌜ f .radii ≡ e .radii + label .radius ⌝ }
 {
-    let u = marks::shifted(x);
-    let v = marks::shifted(y);
-    let radii = e.radii + r as u64;
-    Extent {
+    let u = marks::shifted(label.x);
+    let v = marks::shifted(label.y);
+    let radii = e.radii + label.radius as u64;
+    Cover {
         west: larger(e.west, 65535 - u),
         east: larger(e.east, u),
         south: larger(e.south, 65535 - v),
@@ -242,8 +254,8 @@ fn cells_along(side: u64, other: u64) -> u8
     }
 }
 
-// The cells over the extent of n rows. A mark is large from four times the average radius on.
-pub fn plan_of(e: Extent, n: usize) -> Plan
+// The cells over what n rows fill. A mark is large from four times the average radius on.
+pub fn plan_of(e: Cover, n: usize) -> Plan
     requires { ⌜ (e .radii ≤ 4294967296) × (n ≤ 4096) ⌝ }
     ensures { λ r. ⌜ Divides r ⌝ }
 {
@@ -273,7 +285,7 @@ fn cells_between(low: u16, a: u16, size: u64) -> usize
     ((a - low) as u64 / size) as usize
 }
 
-// One of the 64 cells. No place of the extent that was planned for lies beyond the last.
+// One of the 64 cells. No place that was planned for lies beyond the last.
 fn among_cells(c: usize) -> usize
     ensures { λ r. ⌜ r < 64 ⌝ }
 {
@@ -283,17 +295,17 @@ fn among_cells(c: usize) -> usize
     63
 }
 
-// The cell of the place x, y with radius r, or for a large radius one behind these for each four of them.
-pub fn cell_of(plan: Plan, x: i16, y: i16, r: u16) -> usize
+// The cell of a label, or for a large radius one behind these for each four of them.
+pub fn cell_of(plan: Plan, label: Label) -> usize
     requires { ⌜ Divides plan ⌝ }
-    ensures { λ c. ⌜ c < 80 ⌝ }
+    ensures { λ c. ⌜ c < cellCount ⌝ }
 {
     let large = plan.large;
     let rows = plan.rows as usize;
-    let column = cells_between(plan.x, marks::shifted(x), plan.width);
-    let row = cells_between(plan.y, marks::shifted(y), plan.height);
+    let column = cells_between(plan.x, marks::shifted(label.x), plan.width);
+    let row = cells_between(plan.y, marks::shifted(label.y), plan.height);
     let cell = among_cells(rows * column + row);
-    if large < r as u64 {
+    if large < label.radius as u64 {
         return 64 + cell / 4;
     }
     cell

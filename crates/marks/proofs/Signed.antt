@@ -1,7 +1,8 @@
 -- What the machine makes of signed places, their differences and their squares, which it keeps as bits. Assumes nothing.
-use Prim.Native.Nat.{ℕ, _≤_, _<_}
-use mathlib.Core.Path.{_≡_, refl, ap, _∙_}
+use Prim.Native.Nat.{_*_, _≤_, _<_}
+use mathlib.Core.Path.{_≡_, refl, _∙_}
 use native.Mathlib.Omega.{arith}
+use native.Mathlib.Nat.{mul-le-mul}
 use borrow.Author.Needs.{sfits-of}
 use lib.Dec.{T, leb}
 use lib.IntN.{ℤ, pos, negsuc, natAbs, _-ℤ_, _*ℤ_}
@@ -9,8 +10,7 @@ use lib.Signed.{mag}
 use mir.Syntax.{Width, w16, w32, w64}
 use mir.Val.{hbits, SFits, toZ, ofZ}
 use mir.Facts.{sfits-widen, toZ-ofZ}
-use Rattle.marks.specs.Marks.{square}
-use Rattle.marks.specs.Laws.{difference-bound, square-bound}
+use Rattle.marks.specs.Laws.{difference-bound}
 
 -- ---- a cast to a wider type keeps the number
 
@@ -37,25 +37,24 @@ difference-fits {a} {b} p q = record { sfits = omega (arith, mag-le (a -ℤ b), 
 
 -- ---- its square fits 64 bits and is not negative
 
-square-is : (d : ℤ) → d *ℤ d ≡ pos (square d)
-unfolding square
+pub square-bound : (d : ℤ) → natAbs d ≤ 65535 → natAbs d * natAbs d ≤ 4294836225
+square-bound d h = mul-le-mul h h
+
+square-is : (d : ℤ) → d *ℤ d ≡ pos (natAbs d * natAbs d)
 square-is (pos n) = refl
 square-is (negsuc n) = refl
 
 pub square-fits : (d : ℤ) → natAbs d ≤ 65535 → SFits w64 (d *ℤ d)
 square-fits d h = rw (square-is d) (record { sfits = omega (arith, square-bound d h) })
 
-pub square-back : (d : ℤ) → natAbs d ≤ 65535 → toZ w64 (ofZ w64 (d *ℤ d)) ≡ pos (square d)
+pub square-back : (d : ℤ) → natAbs d ≤ 65535 → toZ w64 (ofZ w64 (d *ℤ d)) ≡ pos (natAbs d * natAbs d)
 square-back d h = toZ-ofZ (square-fits d h) ∙ square-is d
 
--- ---- what a call of `difference` gives, and a call of `squared` on that
+-- ---- what a call of `difference` gives, as the next call reads it
 
 module _ {a b d : ℤ} (p : SFits w16 a) (q : SFits w16 b) (e : d ≡ toZ w16 (ofZ w16 a) -ℤ toZ w16 (ofZ w16 b)) where
-  told : toZ w32 (ofZ w32 d) ≡ a -ℤ b
+  pub told : toZ w32 (ofZ w32 d) ≡ a -ℤ b
   told = rw (e, toZ-ofZ p, toZ-ofZ q) (toZ-ofZ (difference-fits p q))
 
   pub told-bound : natAbs (toZ w32 (ofZ w32 d)) ≤ 65535
   told-bound = rw told (difference-bound a b p q)
-
-  pub told-square : {r : ℕ} → r ≡ square (toZ w32 (ofZ w32 d)) → r ≡ square (a -ℤ b)
-  told-square f = f ∙ ap square told

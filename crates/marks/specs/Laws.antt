@@ -17,10 +17,11 @@ use Rattle.lists.specs.TestLaws.{or-and}
 use Rattle.numbers.specs.Little.{leAt, signed, Bytes}
 use Rattle.numbers.specs.Laws.{le-bound, signed-fits}
 use Rattle.fractions.specs.Order.{Small}
-use Rattle.marks.specs.Marks.{xAt, yAt, radiusAt, kindAt, priorityAt, usedAt, houseOf, houseValue, isKind, isRadius, usedRadius}
+use Rattle.marks.specs.Marks.{markSize, yOffset, priorityOffset, radiusAt, kindAt, priorityAt, usedAt, houseOf, houseValue, isKind, isRadius, usedRadius}
 use Rattle.marks.specs.declared.House.the-variants.{Radius, Refused}
+use Rattle.marks.specs.declared.Label.{Label}
 use Rattle.marks.specs.Marks.{Group, note, spot, streak, patch, break, kindGroup, groupRadius, houseRadius, oldGroupRadius, oldRadius}
-use Rattle.marks.specs.Marks.{square, touchingOf, touching, outranks, rankKey}
+use Rattle.marks.specs.Marks.{labelAt, apart, distance, touchingOf, touching, outranks, rankKey}
 
 -- ---- kinds
 
@@ -90,7 +91,7 @@ unfolding usedRadius isRadius
 used-bound zero kind h = omega (arith, house-size kind)
 used-bound (suc radius) kind h = rw (eqb·suc-zero radius) (leb-true (suc radius) 16383 h)
 
--- ---- places, their differences and the squares of these
+-- ---- places and their differences
 
 -- a place as read is a number of 16 bits with a sign
 pub place-fits : (s : List ℕ) (at : ℕ) → Bytes s → SFits w16 (signed 2 (leAt 2 s at))
@@ -112,12 +113,8 @@ difference-abs (negsuc a) (pos (suc b)) half p q = omega arith
 difference-abs (negsuc a) (negsuc b) half p q = omega (arith, sub-abs (suc b) (suc a) half (omega arith))
 
 -- two places are at most 65,535 apart on an axis
-pub difference-bound : (a b : ℤ) → SFits w16 a → SFits w16 b → natAbs (a -ℤ b) ≤ 65535
+pub difference-bound : (a b : ℤ) → SFits w16 a → SFits w16 b → apart a b ≤ 65535
 difference-bound a b p q = omega (arith, difference-abs a b 32768 (p .sfits) (q .sfits))
-
-pub square-bound : (d : ℤ) → natAbs d ≤ 65535 → square d ≤ 4294836225
-unfolding square
-square-bound d h = mul-le-mul h h
 
 abs-negℤ : (z : ℤ) → natAbs (negℤ z) ≡ natAbs z
 abs-negℤ (pos zero) = refl
@@ -128,23 +125,30 @@ difference-turned : (a b : ℤ) → b -ℤ a ≡ negℤ (a -ℤ b)
 difference-turned a b =
     sym (negℤ-+ℤ a (negℤ b) ∙ ap (λ (z : ℤ). negℤ a +ℤ z) (negℤ-negℤ b) ∙ +ℤ-comm (negℤ a) b)
 
-square-symmetric : (a b : ℤ) → square (a -ℤ b) ≡ square (b -ℤ a)
-unfolding square
-square-symmetric a b = rw (difference-turned a b, abs-negℤ (a -ℤ b))
+apart-symmetric : (a b : ℤ) → apart a b ≡ apart b a
+apart-symmetric a b = rw (difference-turned a b, abs-negℤ (a -ℤ b))
+
+-- ---- distances
+
+pub distance-grows : {a b c d : ℕ} → a ≤ c → b ≤ d → distance a b ≤ distance c d
+unfolding distance
+distance-grows p q = omega (arith, mul-le-mul p p, mul-le-mul q q)
+
+pub distance-bound : {a b : ℕ} → a ≤ 65535 → b ≤ 65535 → distance a b ≤ 8589672450
+unfolding distance
+distance-bound p q = omega (arith, mul-le-mul p p, mul-le-mul q q)
 
 -- ---- touching values
 
-pub touchingOf-symmetric : (ax ay : ℤ) (ar : ℕ) (bx by : ℤ) (br : ℕ)
-    → touchingOf ax ay ar bx by br ≡ touchingOf bx by br ax ay ar
+pub touchingOf-symmetric : (a b : Label) → touchingOf a b ≡ touchingOf b a
 unfolding touchingOf
-touchingOf-symmetric ax ay ar bx by br =
-    let e : ar + br ≡ br + ar = omega arith in
-    rw (square-symmetric ax bx, square-symmetric ay by, e)
+touchingOf-symmetric a b =
+    let e : a .radius + b .radius ≡ b .radius + a .radius = omega arith in
+    rw (apart-symmetric (a .x) (b .x), apart-symmetric (a .y) (b .y), e)
 
 pub touching-symmetric : (s : List ℕ) (a b : ℕ) → touching s a b ≡ touching s b a
 unfolding touching
-touching-symmetric s a b =
-    touchingOf-symmetric (xAt s a) (yAt s a) (usedAt s a) (xAt s b) (yAt s b) (usedAt s b)
+touching-symmetric s a b = touchingOf-symmetric (labelAt s a) (labelAt s b)
 
 -- for all s a b: a mark past the end of s has a used radius above 0 too
 pub touching-positive : (s : List ℕ) (a b : ℕ) → 0 < (touching s a b) .den
@@ -153,23 +157,25 @@ touching-positive s a b =
     let h : 0 < usedAt s a + usedAt s b = omega (arith, used-positive (radiusAt s a) (kindAt s a)) in
     mul-pos h h
 
-pub touchingOf-small : (ax ay : ℤ) (ar : ℕ) (bx by : ℤ) (br : ℕ)
-    → SFits w16 ax → SFits w16 ay → ar ≤ 16383 → SFits w16 bx → SFits w16 by → br ≤ 16383
-    → Small (touchingOf ax ay ar bx by br)
+-- places of 16 bits
+pub record Placed (a : Label) : Type 0 where
+  pub x-fits : SFits w16 (a .x)
+  pub y-fits : SFits w16 (a .y)
+
+pub touchingOf-small : (a b : Label) → Placed a → Placed b → a .radius ≤ 16383 → b .radius ≤ 16383 → Small (touchingOf a b)
 unfolding touchingOf
-touchingOf-small ax ay ar bx by br hax hay har hbx hby hbr =
-    let x = square-bound (ax -ℤ bx) (difference-bound ax bx hax hbx) in
-    let y = square-bound (ay -ℤ by) (difference-bound ay by hay hby) in
-    let r : ar + br ≤ 32766 = omega arith in
-    record { num-small = omega arith; den-small = omega (arith, mul-le-mul r r) }
+touchingOf-small a b p q ra rb =
+    let d = distance-bound (difference-bound (a .x) (b .x) (p .x-fits) (q .x-fits)) (difference-bound (a .y) (b .y) (p .y-fits) (q .y-fits)) in
+    let r : a .radius + b .radius ≤ 32766 = omega arith in
+    record { num-small = d; den-small = omega (arith, mul-le-mul r r) }
+
+label-placed : (s : List ℕ) (m : ℕ) → Bytes s → Placed (labelAt s m)
+label-placed s m b = record { x-fits = place-fits s (markSize * m) b; y-fits = place-fits s (markSize * m + yOffset) b }
 
 pub touching-small : (s : List ℕ) (a b : ℕ) → Bytes s → usedAt s a ≤ 16383 → usedAt s b ≤ 16383
     → Small (touching s a b)
 unfolding touching
-touching-small s a b k p q =
-    touchingOf-small (xAt s a) (yAt s a) (usedAt s a) (xAt s b) (yAt s b) (usedAt s b)
-    (place-fits s (11 * a) k) (place-fits s (11 * a + 2) k) p
-    (place-fits s (11 * b) k) (place-fits s (11 * b + 2) k) q
+touching-small s a b k = touchingOf-small (labelAt s a) (labelAt s b) (label-placed s a k) (label-placed s b k)
 
 -- ---- rank
 
@@ -195,6 +201,6 @@ pub outranks-key : (s : List ℕ) (a b : ℕ) → Bytes s → a < 4096 → b < 4
     → (outranks s a b ≡ true) ↔ (rankKey s a < rankKey s b)
 unfolding outranks rankKey
 outranks-key s a b k p q =
-    let x = le-bound 2 s (11 * a + 6) k in
-    let y = le-bound 2 s (11 * b + 6) k in
+    let x = le-bound 2 s (markSize * a + priorityOffset) k in
+    let y = le-bound 2 s (markSize * b + priorityOffset) k in
     (key-of-rank (priorityAt s a) (priorityAt s b) a b x y p q, rank-of-key (priorityAt s a) (priorityAt s b) a b x y p q)

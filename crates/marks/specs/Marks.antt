@@ -7,16 +7,33 @@ use lib.IntN.{ℤ, pos, negsuc, _-ℤ_, natAbs}
 use Rattle.numbers.specs.Little.{leAt, signed}
 use Rattle.fractions.specs.declared.Fraction.{Fraction}
 use Rattle.marks.specs.declared.House.{House}
+use Rattle.marks.specs.declared.Label.{Label}
 use Rattle.marks.specs.declared.House.the-variants.{Radius, Refused}
 
 -- ---- "A mark takes 11 bytes: place x and y (signed, 2 bytes each, map units), radius (2, screen pixels),
 -- priority (2, higher is more important), kind (1), tag (2, not interpreted)."
 
+abbrev pub markSize : ℕ
+markSize = 11
+
+-- where the fields behind x begin
+abbrev pub yOffset : ℕ
+yOffset = 2
+
+abbrev pub radiusOffset : ℕ
+radiusOffset = 4
+
+abbrev pub priorityOffset : ℕ
+priorityOffset = 6
+
+abbrev pub kindOffset : ℕ
+kindOffset = 8
+
 abbrev pub xAt : List ℕ → ℕ → ℤ
-xAt s m = signed 2 (leAt 2 s (11 * m))
+xAt s m = signed 2 (leAt 2 s (markSize * m))
 
 abbrev pub yAt : List ℕ → ℕ → ℤ
-yAt s m = signed 2 (leAt 2 s (11 * m + 2))
+yAt s m = signed 2 (leAt 2 s (markSize * m + yOffset))
 
 -- a coordinate, shifted to be at least 0: the order stays
 abbrev pub shifted : ℤ → ℕ
@@ -24,13 +41,13 @@ shifted (pos a) = a + 32768
 shifted (negsuc a) = 32768 - suc a
 
 abbrev pub radiusAt : List ℕ → ℕ → ℕ
-radiusAt s m = leAt 2 s (11 * m + 4)
+radiusAt s m = leAt 2 s (markSize * m + radiusOffset)
 
 abbrev pub priorityAt : List ℕ → ℕ → ℕ
-priorityAt s m = leAt 2 s (11 * m + 6)
+priorityAt s m = leAt 2 s (markSize * m + priorityOffset)
 
 abbrev pub kindAt : List ℕ → ℕ → ℕ
-kindAt s m = leAt 1 s (11 * m + 8)
+kindAt s m = leAt 1 s (markSize * m + kindOffset)
 
 -- ---- the kind and the radius
 
@@ -98,17 +115,32 @@ usedAt s m = usedRadius (radiusAt s m) (kindAt s m)
 
 -- ---- touching
 
-unfoldable pub square : ℤ → ℕ
-square d = natAbs d * natAbs d
+-- the label of mark m: its place and its used radius
+abbrev pub labelAt : List ℕ → ℕ → Label
+labelAt s m = record { x = xAt s m; y = yAt s m; radius = usedAt s m }
+
+-- how far two places lie apart on an axis
+abbrev pub apart : ℤ → ℤ → ℕ
+apart a b = natAbs (a -ℤ b)
+
+-- "The squared distance" of two places that lie so far apart on the axes. It grows with each of the two: `distance-grows` of Laws.
+unfoldable pub distance : ℕ → ℕ → ℕ
+distance dx dy = dx * dx + dy * dy
 
 -- "Two marks touch first where z² equals their touching value: the squared distance over the squared sum of radii,
 -- kept as these two whole numbers, never reduced."
-unfoldable pub touchingOf : ℤ → ℤ → ℕ → ℤ → ℤ → ℕ → Fraction
-touchingOf ax ay ar bx by br =
-    record { num = square (ax -ℤ bx) + square (ay -ℤ by); den = (ar + br) * (ar + br) }
+unfoldable pub touchingOf : Label → Label → Fraction
+touchingOf a b =
+    record {
+      num = distance (apart (a .x) (b .x)) (apart (a .y) (b .y));
+      den = (a .radius + b .radius) * (a .radius + b .radius);
+    }
 
 unfoldable pub touching : List ℕ → ℕ → ℕ → Fraction
-touching s a b = touchingOf (xAt s a) (yAt s a) (usedAt s a) (xAt s b) (yAt s b) (usedAt s b)
+touching s a b = touchingOf (labelAt s a) (labelAt s b)
+
+unfoldable pub square : ℤ → ℕ
+square d = natAbs d * natAbs d
 
 -- ---- rank
 

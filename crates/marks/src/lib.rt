@@ -5,23 +5,34 @@ ghost use Prim.Native.Nat.{_+_, _*_, _<_, _≤_};
 ghost use lib.ListN.{length};
 ghost use lib.IntN.{_-ℤ_, natAbs};
 ghost use Rattle.fractions.specs.Order.{Small};
-ghost use Rattle.marks.specs.Marks.{xAt, yAt, shifted, radiusAt, priorityAt, kindAt, houseOf, oldRadius, usedRadius, usedAt};
-ghost use Rattle.marks.specs.Marks.{square, touchingOf, touching, outranks, rankKey};
+ghost use Rattle.marks.specs.Marks.{markSize, xAt, yAt, shifted, radiusAt, priorityAt, kindAt, houseOf, oldRadius, usedRadius, usedAt};
+ghost use Rattle.marks.specs.Marks.{labelAt, distance, touchingOf, touching, outranks, rankKey};
+
+// The bytes of a mark, and where the fields behind x begin.
+pub const MARK_SIZE: usize = 11;
+
+pub const Y_OFFSET: usize = 2;
+
+const RADIUS_OFFSET: usize = 4;
+
+const PRIORITY_OFFSET: usize = 6;
+
+const KIND_OFFSET: usize = 8;
 
 // ---- the fields
 
 pub fn place_x(s: &[u8], m: usize) -> i16
-    requires { ⌜ 11 * m + 11 ≤ length (now s) ⌝ }
+    requires { ⌜ markSize * m + markSize ≤ length (now s) ⌝ }
     ensures { λ r. ⌜ r ≡ xAt (now (s .entry)) m ⌝ }
 {
-    numbers::read_i16(s, 11 * m)
+    numbers::read_i16(s, MARK_SIZE * m)
 }
 
 pub fn place_y(s: &[u8], m: usize) -> i16
-    requires { ⌜ 11 * m + 11 ≤ length (now s) ⌝ }
+    requires { ⌜ markSize * m + markSize ≤ length (now s) ⌝ }
     ensures { λ r. ⌜ r ≡ yAt (now (s .entry)) m ⌝ }
 {
-    numbers::read_i16(s, 11 * m + 2)
+    numbers::read_i16(s, MARK_SIZE * m + Y_OFFSET)
 }
 
 // A coordinate, shifted to be at least 0.
@@ -33,24 +44,24 @@ pub fn shifted(v: i16) -> u16
 
 // The radius as written, which may be 0.
 pub fn written_radius_at(s: &[u8], m: usize) -> u16
-    requires { ⌜ 11 * m + 11 ≤ length (now s) ⌝ }
+    requires { ⌜ markSize * m + markSize ≤ length (now s) ⌝ }
     ensures { λ r. ⌜ r ≡ radiusAt (now (s .entry)) m ⌝ }
 {
-    numbers::read_u16(s, 11 * m + 4)
+    numbers::read_u16(s, MARK_SIZE * m + RADIUS_OFFSET)
 }
 
 pub fn priority_at(s: &[u8], m: usize) -> u16
-    requires { ⌜ 11 * m + 11 ≤ length (now s) ⌝ }
+    requires { ⌜ markSize * m + markSize ≤ length (now s) ⌝ }
     ensures { λ r. ⌜ r ≡ priorityAt (now (s .entry)) m ⌝ }
 {
-    numbers::read_u16(s, 11 * m + 6)
+    numbers::read_u16(s, MARK_SIZE * m + PRIORITY_OFFSET)
 }
 
 pub fn kind_at(s: &[u8], m: usize) -> u8
-    requires { ⌜ 11 * m + 11 ≤ length (now s) ⌝ }
+    requires { ⌜ markSize * m + markSize ≤ length (now s) ⌝ }
     ensures { λ r. ⌜ r ≡ kindAt (now (s .entry)) m ⌝ }
 {
-    numbers::read(s, 11 * m + 8, 1) as u8
+    numbers::read(s, MARK_SIZE * m + KIND_OFFSET, 1) as u8
 }
 
 // ---- the kind and the radius
@@ -102,7 +113,7 @@ pub fn used_radius(radius: u16, kind: u8) -> u16
 }
 
 pub fn radius_at(s: &[u8], m: usize) -> u16
-    requires { ⌜ 11 * m + 11 ≤ length (now s) ⌝ }
+    requires { ⌜ markSize * m + markSize ≤ length (now s) ⌝ }
     ensures { λ r. ⌜ r ≡ usedAt (now (s .entry)) m ⌝ }
 {
     used_radius(written_radius_at(s, m), kind_at(s, m))
@@ -118,46 +129,65 @@ pub fn difference(a: i16, b: i16) -> i32
 }
 
 // The square of a difference needs 32 bits without a sign, so it is taken at 64.
-pub fn squared(d: i32) -> u64
+fn squared(d: i32) -> u64
     requires { ⌜ natAbs d ≤ 65535 ⌝ }
-    ensures { λ r. ⌜ r ≡ square d ⌝ }
+    ensures { λ r. ⌜ r ≡ natAbs d * natAbs d ⌝ }
 {
     let e = d as i64;
     (e * e) as u64
 }
 
-// The touching value of two marks, given by their places and used radii.
-pub fn touching_of(ax: i16, ay: i16, ar: u16, bx: i16, by: i16, br: u16) -> Fraction
-    requires { ⌜ (ar ≤ 16383) × (br ≤ 16383) ⌝ }
-    ensures { λ r. ⌜ (r ≡ touchingOf ax ay ar bx by br) × Small r ⌝ }
+// The squared distance of two places, from their differences on the axes.
+pub fn distance(dx: i32, dy: i32) -> u64
+    requires { ⌜ (natAbs dx ≤ 65535) × (natAbs dy ≤ 65535) ⌝ }
+    ensures { λ r. ⌜ r ≡ distance (natAbs dx) (natAbs dy) ⌝ }
 {
-    let radii = ar as u32 + br as u32;
-    let num = squared(difference(ax, bx)) + squared(difference(ay, by));
+    squared(dx) + squared(dy)
+}
+
+// What is drawn of a mark: its place and its used radius.
+pub struct Label {
+    pub x: i16,
+    pub y: i16,
+    pub radius: u16,
+}
+
+pub fn label_at(s: &[u8], m: usize) -> Label
+    requires { ⌜ markSize * m + markSize ≤ length (now s) ⌝ }
+    ensures { λ r. ⌜ r ≡ labelAt (now (s .entry)) m ⌝ }
+{
+    Label {
+        x: place_x(s, m),
+        y: place_y(s, m),
+        radius: radius_at(s, m),
+    }
+}
+
+// The touching value of two labels.
+pub fn touching_of(a: Label, b: Label) -> Fraction
+    requires { ⌜ (a .radius ≤ 16383) × (b .radius ≤ 16383) ⌝ }
+    ensures { λ r. ⌜ (r ≡ touchingOf a b) × Small r ⌝ }
+{
+    let radii = a.radius as u32 + b.radius as u32;
+    let num = distance(difference(a.x, b.x), difference(a.y, b.y));
     let den = radii * radii;
     Fraction { num: num, den: den }
 }
 
 // The same of marks a and b of a sheet.
 pub fn touching(s: &[u8], a: usize, b: usize) -> Fraction
-    requires { ⌜ (11 * a + 11 ≤ length (now s)) × (11 * b + 11 ≤ length (now s)) ⌝ }
+    requires { ⌜ (markSize * a + markSize ≤ length (now s)) × (markSize * b + markSize ≤ length (now s)) ⌝ }
     requires { ⌜ (usedAt (now s) a ≤ 16383) × (usedAt (now s) b ≤ 16383) ⌝ }
     ensures { λ r. ⌜ (r ≡ touching (now (s .entry)) a b) × Small r ⌝ }
 {
-    touching_of(
-        place_x(s, a),
-        place_y(s, a),
-        radius_at(s, a),
-        place_x(s, b),
-        place_y(s, b),
-        radius_at(s, b),
-    )
+    touching_of(label_at(s, a), label_at(s, b))
 }
 
 // ---- rank
 
 // Does mark a rank higher than mark b?
 pub fn outranks(s: &[u8], a: usize, b: usize) -> bool
-    requires { ⌜ (11 * a + 11 ≤ length (now s)) × (11 * b + 11 ≤ length (now s)) ⌝ }
+    requires { ⌜ (markSize * a + markSize ≤ length (now s)) × (markSize * b + markSize ≤ length (now s)) ⌝ }
     ensures { λ r. ⌜ r ≡ outranks (now (s .entry)) a b ⌝ }
 {
     let p = priority_at(s, a);
@@ -167,7 +197,7 @@ pub fn outranks(s: &[u8], a: usize, b: usize) -> bool
 
 // The rank as one number, the smaller the higher.
 pub fn rank_key(s: &[u8], m: usize) -> u64
-    requires { ⌜ (11 * m + 11 ≤ length (now s)) × (m < 4096) ⌝ }
+    requires { ⌜ (markSize * m + markSize ≤ length (now s)) × (m < 4096) ⌝ }
     ensures { λ r. ⌜ r ≡ rankKey (now (s .entry)) m ⌝ }
 {
     (65535 - priority_at(s, m) as u64) * 4096 + m as u64

@@ -9,7 +9,7 @@ use lib.Ieee.{binary32, ofBits}
 use Rattle.lists.specs.Tests.{every, bit}
 use Rattle.numbers.specs.Little.{leAt, leBytes}
 use Rattle.fractions.specs.Order.{less, same, later, level}
-use Rattle.marks.specs.Marks.{kindGroup, houseRadius, oldRadius, houseOf, isKind, isRadius, usedRadius, square, touchingOf, touching, outranks, rankKey}
+use Rattle.marks.specs.Marks.{kindGroup, houseRadius, oldRadius, houseOf, isKind, isRadius, usedRadius, distance, touchingOf, touching, outranks, rankKey}
 use Rattle.elimination.specs.Process.{least, put, before, pair, next, run, process}
 use Rattle.elimination.specs.Records.{eliminatorAt, numAt, denAt, isNever, valueAt, records}
 use Rattle.elimination.specs.Reel.{scheduleOf}
@@ -243,7 +243,7 @@ rows = refl
 -- Every answer is the expected one.
 pub examples : map (λ (r : Row). answers (r .asked)) table ≡ map (λ (r : Row). r .expected) table
 unfolding table answers recordOf pairs sheet marks oldSheet ofBits
-    leAt leBytes less same later level kindGroup houseRadius oldRadius houseOf isKind isRadius usedRadius square touchingOf touching outranks rankKey
+    leAt leBytes less same later level kindGroup houseRadius oldRadius houseOf isKind isRadius usedRadius distance touchingOf touching outranks rankKey
     least put before pair next run process isNever valueAt records scheduleOf treeOf beats coordinate axisKey indexOf indexBytes sameBytes isIndex
     startAt split entries chain join answer inTurn every question1 question2 question3 question4
     magnitude isMinus withSign areDigits isLast isPacked isPlace packedOf placeBits marksOfLog logOfMarks

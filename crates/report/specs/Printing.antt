@@ -9,7 +9,7 @@ use Rattle.lists.specs.Stores.{over}
 use Rattle.fractions.specs.Order.{Small}
 use Rattle.text.specs.Text.{numberRoom}
 use Rattle.elimination.specs.Process.{Removal, stays, gone}
-use Rattle.elimination.specs.Records.{eliminatorAt, denAt, fractionAt, isNever}
+use Rattle.elimination.specs.Records.{isNever, markRecord, eliminatorAt, denAt, fractionAt}
 use Rattle.elimination.specs.Reel.{scheduleOf}
 use Rattle.contents.specs.Contents.{split, marksPart}
 use Rattle.contents.specs.Asking.{answer}
@@ -20,7 +20,7 @@ use Rattle.report.specs.Text.{mostMarks, printQuestions, printed}
 
 -- What becomes of mark m, by its record in the schedule `p`.
 unfoldable pub removalAt : List ℕ → ℕ → Removal
-removalAt p m = cond (isNever p m) stays (gone (eliminatorAt p m) (fractionAt p m))
+removalAt p m = cond (isNever (markRecord p m)) stays (gone (eliminatorAt p m) (fractionAt p m))
 
 -- the removal zoom of such a value can be worked out in 64 bits
 pub record Zoomable (p : List ℕ) (m : ℕ) : Type 0 where
@@ -30,7 +30,7 @@ pub record Zoomable (p : List ℕ) (m : ℕ) : Type 0 where
 -- n records, each of them 'never' or with a removal zoom
 pub record Printable (p : List ℕ) (n : ℕ) : Type 0 where
   pub long : 14 * n ≤ length p
-  pub zooms : (m : ℕ) → m < n → isNever p m ≡ false → Zoomable p m
+  pub zooms : (m : ℕ) → m < n → isNever (markRecord p m) ≡ false → Zoomable p m
 
 -- ---- room
 

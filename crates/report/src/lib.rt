@@ -1,4 +1,5 @@
 // The printed schedule as bytes in a lent buffer.
+use elimination::RECORD_SIZE;
 use fractions::Fraction;
 ghost use mathlib.Core.Path.{_≡_};
 ghost use mathlib.Core.Bool.{false};
@@ -8,7 +9,7 @@ ghost use lib.ListN.{length};
 ghost use Rattle.fractions.specs.Order.{Small};
 ghost use Rattle.text.specs.Text.{decimal, numberRoom, Wrote};
 ghost use Rattle.elimination.specs.Process.{stays, gone};
-ghost use Rattle.elimination.specs.Records.{isNever};
+ghost use Rattle.elimination.specs.Records.{isNever, markRecord};
 ghost use Rattle.contents.specs.Asking.{answer};
 ghost use Rattle.report.specs.Text.{line, markLine, markLines, listing, printQuestions};
 ghost use Rattle.report.specs.Printing.{removalAt, Zoomable, Printable, lineRoom, textRoom, Room, Prints};
@@ -51,14 +52,15 @@ fn put_gone(out: &mut [u8], at: usize, m: usize, by: usize, value: Fraction) -> 
 // The line of mark m, by its record; gives the place behind it.
 fn put_mark(schedule: &[u8], out: &mut [u8], at: usize, m: usize) -> usize
     requires { ⌜ (14 * m + 14 ≤ length (now schedule)) × (at + lineRoom ≤ length (now out)) ⌝ }
-    requires { ⌜ (isNever (now schedule) m ≡ false → Zoomable (now schedule) m) ⌝ }
+    requires { ⌜ (isNever (markRecord (now schedule) m) ≡ false → Zoomable (now schedule) m) ⌝ }
     ensures { λ r. ⌜ Wrote (now (out .entry)) (now (out .exit)) at (markLine m (removalAt (now (schedule .entry)) m)) r ⌝ }
 {
-    if bodies::is_never(schedule, m) {
+    let d = elimination::record_at(schedule, RECORD_SIZE * m);
+    if elimination::is_never(d) {
         return put_stays(out, at, m);
     }
-    let by = bodies::eliminator_at(schedule, m);
-    put_gone(out, at, m, by, bodies::fraction_at(schedule, m))
+    let by = d.eliminator as usize;
+    put_gone(out, at, m, by, elimination::fraction_of(d))
 }
 
 // A line for each of n marks; gives the place behind them.

@@ -94,7 +94,7 @@ pub extern "C" fn rollmap_assemble(
 
 // Writes part 2, the schedule of the n marks that `all` begins with, and part 3, their index, behind them.
 fn put_results(marks: &[u8], all: &mut [u8], work: &mut [u8], n: usize)
-    requires { ⌜ GoodMarks (now marks) n × (length (now marks) ≡ 11 * n) × (32 * n ≤ length (now work)) ⌝ }
+    requires { ⌜ GoodMarks (now marks) n × (length (now marks) ≡ 11 * n) × (32 * n + 1024 ≤ length (now work)) ⌝ }
     requires { ⌜ (27 * n ≤ length (now all)) × (take (11 * n) (now all) ≡ now marks) ⌝ }
     ensures { λ _. ⌜ now (all .exit) ≡ resultsOver (record { marks = now (marks .entry); count = n }) (now (all .entry)) ⌝ }
 {

@@ -10,17 +10,20 @@ use Rattle.lists.specs.Stores.{Clear, Kept}
 use Rattle.lists.specs.StoreLaws.{kept-sets}
 use Rattle.numbers.specs.Little.{leAt, leBytes, Bytes}
 use Rattle.numbers.specs.Laws.{le-length, le-bound, read-back-sets, number-kept}
-use Rattle.marks.specs.Marks.{usedAt}
-use Rattle.elimination.specs.Records.{recordBytes}
+use Rattle.marks.specs.Marks.{markSize, yOffset, usedAt}
+use Rattle.elimination.specs.declared.Record.{Record}
+use Rattle.elimination.specs.Records.{recordSize, numOffset, denOffset, recordAt, recordBytes}
+use Rattle.elimination.specs.Schedule.{record-length}
 use Rattle.elimination.proofs.Bytes.{write-then, joined}
-use Rattle.scheduling.specs.Filling.{rowBytes}
-use Rattle.scheduling.specs.Filling.{RowAt}
+use Rattle.searching.specs.Rows.{rowSize, rowXOffset, rowYOffset, rowRadiusOffset, rowRecordOffset}
+use Rattle.scheduling.specs.Filling.{rowBytes, RowAt}
 
 pub row-put : (s : List ℕ) (m : ℕ) (w : List ℕ) (at : ℕ) {t u v z : List ℕ}
-    → t ≡ sets w at (leBytes 2 m) → u ≡ sets t (at + 2) (leBytes 2 (leAt 2 s (11 * m)))
-    → v ≡ sets u (at + 4) (leBytes 2 (leAt 2 s (11 * m + 2))) → z ≡ sets v (at + 6) (leBytes 2 (usedAt s m)) → z ≡ sets w at (rowBytes s m)
+    → t ≡ sets w at (leBytes 2 m) → u ≡ sets t (at + rowXOffset) (leBytes 2 (leAt 2 s (markSize * m)))
+    → v ≡ sets u (at + rowYOffset) (leBytes 2 (leAt 2 s (markSize * m + yOffset)))
+    → z ≡ sets v (at + rowRadiusOffset) (leBytes 2 (usedAt s m)) → z ≡ sets w at (rowBytes s m)
 row-put s m w at {t} {u} a b c d =
-    joined 2 m w at _ refl a (joined 2 _ t (at + 2) _ (omega arith) b (joined 2 _ u (at + 4) _ (omega arith) c d))
+    joined 2 m w at _ refl a (joined 2 _ t (at + rowXOffset) _ (omega arith) b (joined 2 _ u (at + rowYOffset) _ (omega arith) c d))
 
 read-first : (w v : ℕ) (s : List ℕ) (at : ℕ) (rest : List ℕ) → at + w ≤ length s → v < 2 ^ (8 * w)
     → leAt w (sets s at (leBytes w v ++ rest)) at ≡ v
@@ -36,49 +39,50 @@ read-rest w v s at next rest k p n inner =
     ap (λ l. leAt k l p) (write-then w v s at rest ∙ ap (λ i. sets (sets s at (leBytes w v)) i rest) (sym n))
     ∙ inner (sets s at (leBytes w v)) (length-sets s at (leBytes w v))
 
-pub record-back : (s : List ℕ) (at e n d : ℕ) → at + 14 ≤ length s → e < 65536 → n < 2 ^ 64 → d < 4294967296
-    → let t = sets s at (recordBytes e n d) in (leAt 2 t at ≡ e) × (leAt 8 t (at + 2) ≡ n) × (leAt 4 t (at + 10) ≡ d)
-record-back s at e n d room he hn hd = (
-  read-first 2 e s at _ (omega arith) he,
-  read-rest 2 e s at (at + 2) _ 8 (at + 2) refl (λ t l. read-first 8 n t (at + 2) _ (omega arith) hn),
-  read-rest 2 e s at (at + 2) _ 4 (at + 10) refl
-      (λ t l. read-rest 8 n t (at + 2) (at + 10) _ 4 (at + 10) (omega arith) (λ u m. read-back-sets 4 u (at + 10) d (omega arith) hd)),
-)
+pub record-back : (s : List ℕ) (at : ℕ) (r : Record) → at + recordSize ≤ length s → r .eliminator < 65536 → r .num < 2 ^ 64 → r .den < 4294967296
+    → recordAt (sets s at (recordBytes r)) at ≡ r
+record-back s at r room he hn hd =
+    let second : ℕ = at + numOffset in
+    let third : ℕ = at + denOffset in
+    rw (
+      read-first 2 (r .eliminator) s at (leBytes 8 (r .num) ++ leBytes 4 (r .den)) (omega arith) he,
+      read-rest 2 (r .eliminator) s at second (leBytes 8 (r .num) ++ leBytes 4 (r .den)) 8 second refl (λ t l. read-first 8 (r .num) t second _ (omega arith) hn),
+      read-rest 2 (r .eliminator) s at second (leBytes 8 (r .num) ++ leBytes 4 (r .den)) 4 third refl
+          (λ t l. read-rest 8 (r .num) t second third _ 4 third (omega arith) (λ u m. read-back-sets 4 u third (r .den) (omega arith) hd)),
+    )
 
-pub row-back : (s : List ℕ) (m : ℕ) (w : List ℕ) (at : ℕ) → Bytes s → at + 8 ≤ length w → m < 65536 → usedAt s m < 65536
+pub row-back : (s : List ℕ) (m : ℕ) (w : List ℕ) (at : ℕ) → Bytes s → at + rowRecordOffset ≤ length w → m < 65536 → usedAt s m < 65536
     → RowAt s (sets w at (rowBytes s m)) at m
 row-back s m w at b room hm hr =
-    let x : ℕ = leAt 2 s (11 * m) in
-    let y : ℕ = leAt 2 s (11 * m + 2) in
+    let x : ℕ = leAt 2 s (markSize * m) in
+    let y : ℕ = leAt 2 s (markSize * m + yOffset) in
     record {
       number = read-first 2 m w at _ (omega arith) hm;
-      x-is = read-rest 2 m w at (at + 2) _ 2 (at + 2) refl (λ t l. read-first 2 x t (at + 2) _ (omega arith) (le-bound 2 s _ b));
-      y-is = read-rest 2 m w at (at + 2) _ 2 (at + 4) refl
-          (λ t l. read-rest 2 x t (at + 2) (at + 4) _ 2 (at + 4) (omega arith)
-          (λ u k. read-first 2 y u (at + 4) _ (omega arith) (le-bound 2 s _ b)));
-      radius-is = read-rest 2 m w at (at + 2) _ 2 (at + 6) refl
-          (λ t l. read-rest 2 x t (at + 2) (at + 4) _ 2 (at + 6) (omega arith)
-          (λ u k. read-rest 2 y u (at + 4) (at + 6) _ 2 (at + 6) (omega arith)
-          (λ v j. read-back-sets 2 v (at + 6) (usedAt s m) (omega arith) hr)));
+      x-is = read-rest 2 m w at (at + rowXOffset) _ 2 (at + rowXOffset) refl (λ t l. read-first 2 x t (at + rowXOffset) _ (omega arith) (le-bound 2 s _ b));
+      y-is = read-rest 2 m w at (at + rowXOffset) _ 2 (at + rowYOffset) refl
+          (λ t l. read-rest 2 x t (at + rowXOffset) (at + rowYOffset) _ 2 (at + rowYOffset) (omega arith)
+          (λ u k. read-first 2 y u (at + rowYOffset) _ (omega arith) (le-bound 2 s _ b)));
+      radius-is = read-rest 2 m w at (at + rowXOffset) _ 2 (at + rowRadiusOffset) refl
+          (λ t l. read-rest 2 x t (at + rowXOffset) (at + rowYOffset) _ 2 (at + rowRadiusOffset) (omega arith)
+          (λ u k. read-rest 2 y u (at + rowYOffset) (at + rowRadiusOffset) _ 2 (at + rowRadiusOffset) (omega arith)
+          (λ v j. read-back-sets 2 v (at + rowRadiusOffset) (usedAt s m) (omega arith) hr)));
     }
-
-pub record-length : (e n d : ℕ) → length (recordBytes e n d) ≡ 14
-record-length e n d = simp length-append (omega (arith, le-length 2 e, le-length 8 n, le-length 4 d))
 
 pub row-length : (s : List ℕ) (m : ℕ) → length (rowBytes s m) ≡ 8
 row-length s m =
     simp length-append
-    (omega (arith, le-length 2 m, le-length 2 (leAt 2 s (11 * m)), le-length 2 (leAt 2 s (11 * m + 2)), le-length 2 (usedAt s m)))
+    (omega (arith, le-length 2 m, le-length 2 (leAt 2 s (markSize * m)), le-length 2 (leAt 2 s (markSize * m + yOffset)), le-length 2 (usedAt s m)))
 
 -- ---- a row's record, and its fields
 
-pub put-kept : {u v : List ℕ} (p e n d : ℕ) → v ≡ sets u (24 * p + 8) (recordBytes e n d) → Kept u v (24 * p + 8) (24 * p + 22)
-put-kept {u} {v} p e n d f =
-    let c : 24 * p + 8 + 14 ≡ 24 * p + 22 = omega arith in
-    rw (record-length e n d, c, ← f) at (kept-sets (recordBytes e n d) u (24 * p + 8))
+pub put-kept : {u v : List ℕ} (p : ℕ) (r : Record) → v ≡ sets u (rowSize * p + rowRecordOffset) (recordBytes r)
+    → Kept u v (rowSize * p + rowRecordOffset) (rowSize * p + rowSize)
+put-kept {u} {v} p r f =
+    let c : rowSize * p + rowRecordOffset + recordSize ≡ rowSize * p + rowSize = omega arith in
+    rw (record-length r, c, ← f) at (kept-sets (recordBytes r) u (rowSize * p + rowRecordOffset))
 
 -- a field lies off every row's record
-pub off-field : (q p j : ℕ) → j ≤ 6 → Clear (24 * q + j) 2 (24 * p + 8) (24 * p + 22)
+pub off-field : (q p j : ℕ) → j ≤ rowRadiusOffset → Clear (rowSize * q + j) 2 (rowSize * p + rowRecordOffset) (rowSize * p + rowSize)
 off-field q p j h = elim (decLt p q) [ yes l ↦ omega arith | no l ↦ omega arith ]
 
 -- ---- parts

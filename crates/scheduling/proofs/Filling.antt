@@ -1,6 +1,6 @@
 -- Keys and rows, written one after the other, and that the rows of the sorted keys are the marks in the order of rank. Assumes nothing.
 use Prim.Native.Nat.{ℕ, _+_, _*_, _%_, _<_, _≤_}
-use mathlib.Core.Path.{_≡_, refl, ap, _∙_}
+use mathlib.Core.Path.{_≡_, refl, sym, ap, ap₂, _∙_, subst}
 use mathlib.Core.List.{List}
 use native.Mathlib.Omega.{arith}
 use borrow.Author.Count.{below-more}
@@ -9,18 +9,18 @@ use lib.Seq.{sets}
 use Rattle.lists.specs.Stores.{Kept}
 use Rattle.lists.specs.StoreLaws.{kept-sets}
 use Rattle.lists.specs.Sorting.{Ranks}
-use Rattle.numbers.specs.Little.{signed, Bytes}
+use Rattle.numbers.specs.Little.{Bytes}
 use Rattle.numbers.specs.Laws.{number-kept}
 use Rattle.sorting.specs.Laws.{sorted-ranks}
-use Rattle.marks.specs.Marks.{usedAt, touching, rankKey}
+use Rattle.marks.specs.Marks.{usedAt, touching, rankKey, touchingOf}
+use Rattle.marks.specs.declared.Label.{Label}
 use Rattle.sorting.specs.Keys.{keyAt, KeyPut, KeysSorted}
 use Rattle.elimination.specs.Reel.{marksOf}
 use Rattle.elimination.specs.Sheet.{sheet-proper}
-use Rattle.searching.specs.Rows.{rowNumber, rowRadius}
+use Rattle.searching.specs.Rows.{rowSize, rowXOffset, rowYOffset, rowRadiusOffset, rowRecordOffset, rowNumber, rowLabel}
 use Rattle.scheduling.specs.Settling.{Ordered}
-use Rattle.scheduling.specs.Sending.{Numbered}
-use Rattle.scheduling.specs.Filling.{rowBytes}
-use Rattle.scheduling.specs.Filling.{Keyed, numberAt, RowAt, Filled, InRank}
+use Rattle.scheduling.specs.Sending.{RowsNumbered}
+use Rattle.scheduling.specs.Filling.{workSize, keysFrom, rowBytes, Keyed, numberAt, RowAt, RowsPut, InRank}
 use Rattle.scheduling.proofs.Bytes.{row-length, row-back}
 
 -- ---- keys
@@ -28,12 +28,12 @@ use Rattle.scheduling.proofs.Bytes.{row-length, row-back}
 pub keyed-none : (s : List ℕ) (n : ℕ) (w : List ℕ) → Keyed s n 0 w w
 keyed-none s n w = record { long = refl; keys = λ i h. absurd (omega arith) }
 
-pub keyed-more : {s w₀ w w′ : List ℕ} {n p key : ℕ} → Keyed s n p w₀ w → key ≡ rankKey s p → KeyPut w w′ (24 * n + 8 * p) key
+pub keyed-more : {s w₀ w w′ : List ℕ} {n p key : ℕ} → Keyed s n p w₀ w → key ≡ rankKey s p → KeyPut w w′ (keysFrom n + 8 * p) key
     → Keyed s n (p + 1) w₀ w′
 keyed-more {s} {w₀} {w} {w′} {n} {p} g e k =
     record {
       long = k .kept .long ∙ g .long;
-      keys = below-more _ p (λ i h. number-kept (k .kept) 8 (24 * n + 8 * i) (omega arith) ∙ g .keys i h) (k .is ∙ e);
+      keys = below-more _ p (λ i h. number-kept (k .kept) 8 (keysFrom n + 8 * i) (omega arith) ∙ g .keys i h) (k .is ∙ e);
     }
 
 -- a rank key ends in the mark's number
@@ -41,41 +41,41 @@ key-number : (s : List ℕ) (m : ℕ) → m < 4096 → rankKey s m % 4096 ≡ m
 unfolding rankKey
 key-number s m h = omega arith
 
-pub ranks : (s : List ℕ) {w v : List ℕ} {spare n : ℕ} → n ≤ 4096 → ((i : ℕ) → i < n → keyAt w (24 * n) i ≡ rankKey s i)
-    → KeysSorted w v (24 * n) spare n → Ranks n (rankKey s) (numberAt n v)
+pub ranks : (s : List ℕ) {w v : List ℕ} {spare n : ℕ} → n ≤ 4096 → ((i : ℕ) → i < n → keyAt w (keysFrom n) i ≡ rankKey s i)
+    → KeysSorted w v (keysFrom n) spare n → Ranks n (rankKey s) (numberAt n v)
 ranks s few keys w = sorted-ranks w (rankKey s) 4096 keys (λ m h. key-number s m (omega arith))
 
 -- ---- rows
 
-pub filled-none : (s : List ℕ) (n : ℕ) (w : List ℕ) → Filled s n 0 w w
-filled-none s n w = record { long = refl; keys = λ k h. refl; rows = λ q h. absurd (omega arith) }
+pub rows-none : (s : List ℕ) (n : ℕ) (w : List ℕ) → RowsPut s n 0 w w
+rows-none s n w = record { long = refl; keys = λ k l h. refl; rows = λ q h. absurd (omega arith) }
 
-row-kept : {s v w : List ℕ} {a b : ℕ} → Kept v w a b → (at m : ℕ) → at + 8 ≤ a → RowAt s v at m → RowAt s w at m
+row-kept : {s v w : List ℕ} {a b : ℕ} → Kept v w a b → (at m : ℕ) → at + rowRecordOffset ≤ a → RowAt s v at m → RowAt s w at m
 row-kept k at m h r =
     record {
       number = number-kept k 2 at (omega arith) ∙ r .number;
-      x-is = number-kept k 2 (at + 2) (omega arith) ∙ r .x-is;
-      y-is = number-kept k 2 (at + 4) (omega arith) ∙ r .y-is;
-      radius-is = number-kept k 2 (at + 6) (omega arith) ∙ r .radius-is;
+      x-is = number-kept k 2 (at + rowXOffset) (omega arith) ∙ r .x-is;
+      y-is = number-kept k 2 (at + rowYOffset) (omega arith) ∙ r .y-is;
+      radius-is = number-kept k 2 (at + rowRadiusOffset) (omega arith) ∙ r .radius-is;
     }
 
-pub filled-more : {s : List ℕ} {n p : ℕ} {w₀ w w′ : List ℕ} {m : ℕ} → Bytes s → p < n → 32 * n ≤ length w₀ → m < 65536 → usedAt s m < 65536
-    → m ≡ numberAt n w p → Filled s n p w₀ w → w′ ≡ sets w (24 * p) (rowBytes s m) → Filled s n (p + 1) w₀ w′
-filled-more {s} {n} {p} {w₀} {w} {w′} {m} b h room hm hr e g f =
-    let at : ℕ = 24 * p in
+pub rows-more : {s : List ℕ} {n p : ℕ} {w₀ w w′ : List ℕ} {m : ℕ} → Bytes s → p < n → workSize n ≤ length w₀ → m < 65536 → usedAt s m < 65536
+    → m ≡ numberAt n w p → RowsPut s n p w₀ w → w′ ≡ sets w (rowSize * p) (rowBytes s m) → RowsPut s n (p + 1) w₀ w′
+rows-more {s} {n} {p} {w₀} {w} {w′} {m} b h room hm hr e g f =
+    let at : ℕ = rowSize * p in
     let k : Kept w w′ at (at + 8) = rw (row-length s m, ← f) at (kept-sets (rowBytes s m) w at) in
     let here : RowAt s w′ at m = rw f (row-back s m w at b (omega (arith, g .long)) hm hr) in
     record {
       long = k .long ∙ g .long;
-      keys = λ i l. number-kept k 8 (24 * n + 8 * i) (omega arith) ∙ g .keys i l;
+      keys = λ i l b. number-kept k 8 (keysFrom n + 8 * i) (omega arith) ∙ g .keys i (omega arith) b;
       rows = below-more _ p
-          (λ q l. row-kept k (24 * q) (numberAt n w₀ q) (omega arith) (g .rows q l))
-          (rw (e, g .keys p h) at here);
+          (λ q l. row-kept k (rowSize * q) (numberAt n w₀ q) (omega arith) (g .rows q l))
+          (rw (e, g .keys p (omega arith) h) at here);
     }
 
 -- ---- the rows of the sorted keys are the marks in the order of rank
 
-pub in-rank : {s w v : List ℕ} {n : ℕ} → Ranks n (rankKey s) (numberAt n v) → Filled s n n v w → InRank s w n
+pub in-rank : {s w v : List ℕ} {n : ℕ} → Ranks n (rankKey s) (numberAt n v) → RowsPut s n n v w → InRank s w n
 in-rank {s} {w} {v} {n} rs f =
     let number-is : (q : ℕ) → q < n → rowNumber w q ≡ numberAt n v q = λ q h. f .rows q h .number in
     record {
@@ -84,9 +84,7 @@ in-rank {s} {w} {v} {n} rs f =
         rising = λ q p h k. rw (number-is q (omega arith), number-is p k) (rs .rising q p h k);
         onto = λ m h. let (q, b, e) = rs .onto m h in (q, b, number-is q b ∙ e);
       };
-      x-is = λ q h. rw (number-is q h) (ap (signed 2) (f .rows q h .x-is));
-      y-is = λ q h. rw (number-is q h) (ap (signed 2) (f .rows q h .y-is));
-      radius-is = λ q h. rw (number-is q h) (f .rows q h .radius-is);
+      label-is = λ q h. let r = f .rows q h in rw (number-is q h, r .x-is, r .y-is, r .radius-is);
     }
 
 module _ {s w : List ℕ} {n : ℕ} (o : InRank s w n) where
@@ -99,16 +97,16 @@ module _ {s w : List ℕ} {n : ℕ} (o : InRank s w n) where
         ranking = o .ranking;
         number = λ q h. refl;
         value = λ q p h k.
-            let hq : q < n = omega arith in
-            rw (o .x-is q hq, o .y-is q hq, o .radius-is q hq, o .x-is p k, o .y-is p k, o .radius-is p k);
+            ap₂ touchingOf (o .label-is q (omega arith)) (o .label-is p k);
       }
 
-  pub numbered : Numbered w n
+  pub numbered : RowsNumbered w n
   numbered =
       record {
         inside = o .ranking .inside;
         distinct = λ q p h k e. let z = ap (rankKey s) e in omega (arith, o .ranking .rising q p h k);
       }
 
-  pub radii-rows : ((i : ℕ) → i < n → usedAt s i ≤ 16383) → (q : ℕ) → q < n → rowRadius w q ≤ 16383
-  radii-rows radii q h = rw (o .radius-is q h) (radii (rowNumber w q) (o .ranking .inside q h))
+  pub radii-rows : ((i : ℕ) → i < n → usedAt s i ≤ 16383) → (q : ℕ) → q < n → rowLabel w q .radius ≤ 16383
+  radii-rows radii q h =
+      subst (λ (a : Label). a .radius ≤ 16383) (sym (o .label-is q h)) (radii (rowNumber w q) (o .ranking .inside q h))

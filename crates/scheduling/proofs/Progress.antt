@@ -1,6 +1,6 @@
 -- The outer loop: what holds once the rows before p have what was found for them. Assumes nothing.
 use Prim.Native.Nat.{ℕ, _+_, _*_, _^_, _<_, _≤_}
-use mathlib.Core.Path.{_≡_, refl, sym, ap, _∙_}
+use mathlib.Core.Path.{_≡_, refl, sym, ap, ap₂, _∙_, subst}
 use mathlib.Core.List.{List}
 use mathlib.Core.Logic.{_≢_}
 use native.Mathlib.Omega.{arith}
@@ -9,20 +9,21 @@ use borrow.Author.Count.{below-more}
 use borrow.Author.Tests.{eq-eqb, ne-eqb}
 use lib.ListN.{length}
 use lib.Seq.{sets}
-use lib.IntN.{ℤ}
 use Rattle.lists.specs.Stores.{Kept}
 use Rattle.lists.specs.StoreLaws.{kept-none}
 use Rattle.numbers.specs.Little.{leAt}
 use Rattle.numbers.specs.Laws.{number-kept}
 use Rattle.fractions.specs.Order.{Small}
+use Rattle.marks.specs.declared.Label.{Label}
+use Rattle.marks.specs.Marks.{touchingOf}
 use Rattle.elimination.specs.declared.Record.{Record}
 use Rattle.elimination.specs.Marks.{Marks}
 use Rattle.elimination.specs.Process.{Removal, stays, put}
-use Rattle.elimination.specs.Records.{recordBytes}
+use Rattle.elimination.specs.Records.{recordSize, numOffset, denOffset, recordBytes, fractionOf}
 use Rattle.elimination.specs.Settled.{SettledAt}
 use Rattle.elimination.specs.Lemmas.RankOrder.{visited, all-settled}
 use Rattle.elimination.specs.Theorems.{settled-process}
-use Rattle.searching.specs.Rows.{rowNumber, rowX, rowY, rowRadius, rowValue, rowsTouch, rowRecord, StoredAt}
+use Rattle.searching.specs.Rows.{rowSize, rowXOffset, rowYOffset, rowRadiusOffset, rowRecordOffset, rowNumber, rowLabel, rowValue, rowsTouch, rowRecord, Stored, StoredAt}
 use Rattle.searching.specs.Scan.{Above, Scanned}
 use Rattle.searching.specs.Search.{SearchFor}
 use Rattle.scheduling.specs.Settling.{SameFields, Scannable, Settles, Ordered, Processed}
@@ -31,51 +32,43 @@ use Rattle.scheduling.proofs.Bytes.{record-back, put-kept, off-field}
 -- ---- one row
 
 -- the record that was put is read back; u is w but for bytes behind the rows
-pub settles : {w u v : List ℕ} {n p b : ℕ} {t : Record} → p < n → 24 * n ≤ length w → t .num < 2 ^ 64 → t .den < 4294967296
-    → Kept w u (24 * n) b → v ≡ sets u (24 * p + 8) (recordBytes (t .eliminator) (t .num) (t .den)) → Scanned w p t → Settles n w v p
+pub settles : {w u v : List ℕ} {n p b : ℕ} {t : Record} → p < n → rowSize * n ≤ length w → t .num < 2 ^ 64 → t .den < 4294967296
+    → Kept w u (rowSize * n) b → v ≡ sets u (rowSize * p + rowRecordOffset) (recordBytes t) → Scanned w p t → Settles n w v p
 settles {w} {u} {v} {n} {p} {b} {t} hp room hn hd ku e sc =
-    let i : 24 * p + 8 + 2 ≡ 24 * p + 10 = omega arith in
-    let j : 24 * p + 8 + 10 ≡ 24 * p + 18 = omega arith in
-    let k : Kept u v (24 * p + 8) (24 * p + 22) = put-kept p (t .eliminator) (t .num) (t .den) e in
-    let (who-is, num-is, den-is) =
-    rw (← e) at (record-back u (24 * p + 8) (t .eliminator) (t .num) (t .den) (omega (arith, ku .long)) (sc .number) hn hd) in
-    let is : rowRecord v p ≡ t = rw (who-is, rw i at num-is, rw j at den-is) in
+    let k : Kept u v (rowSize * p + rowRecordOffset) (rowSize * p + rowSize) = put-kept p t e in
+    let is : rowRecord v p ≡ t = rw e (record-back u (rowSize * p + rowRecordOffset) t (omega (arith, ku .long)) (sc .number) hn hd) in
     record {
       long = k .long ∙ ku .long;
       kept = λ m a l o. number-kept k m a o ∙ number-kept ku m a (omega arith);
-      scanned = rw is sc;
+      scanned = subst (Scanned w p) (sym is) sc;
     }
 
 -- ---- the fields stay
 
 -- where only bytes behind the rows change
-pub same-kept : {n b : ℕ} {w v : List ℕ} → Kept w v (24 * n) b → SameFields n w v
-same-kept k = record { long = k .long; field = λ q j h l. number-kept k 2 (24 * q + j) (omega arith) }
+pub same-kept : {n b : ℕ} {w v : List ℕ} → Kept w v (rowSize * n) b → SameFields n w v
+same-kept k = record { long = k .long; field = λ q j h l. number-kept k 2 (rowSize * q + j) (omega arith) }
 
 same-more : {n p : ℕ} {w v u : List ℕ} → SameFields n w v → Settles n v u p → SameFields n w u
 same-more {n} {p} s k =
     record {
       long = k .long ∙ s .long;
-      field = λ q j h l. k .kept 2 (24 * q + j) (omega arith) (off-field q p j l) ∙ s .field q j h l;
+      field = λ q j h l. k .kept 2 (rowSize * q + j) (omega arith) (off-field q p j l) ∙ s .field q j h l;
     }
 
 module _ {n : ℕ} {w v : List ℕ} (s : SameFields n w v) where
   pub number-same : (q : ℕ) → q < n → rowNumber v q ≡ rowNumber w q
   number-same q h = rw add-zero at (s .field q 0 h (omega arith))
 
-  pub radius-same : (q : ℕ) → q < n → rowRadius v q ≡ rowRadius w q
-  radius-same q h = s .field q 6 h (omega arith)
+  pub label-same : (q : ℕ) → q < n → rowLabel v q ≡ rowLabel w q
+  label-same q h =
+      rw (s .field q rowXOffset h (omega arith), s .field q rowYOffset h (omega arith), s .field q rowRadiusOffset h (omega arith))
+
+  pub radius-same : (q : ℕ) → q < n → rowLabel v q .radius ≡ rowLabel w q .radius
+  radius-same q h = s .field q rowRadiusOffset h (omega arith)
 
   touch-same : (q p : ℕ) → q < n → p < n → rowsTouch v q p ≡ rowsTouch w q p
-  touch-same q p hq hp =
-      rw (
-        s .field q 2 hq (omega arith),
-        s .field q 4 hq (omega arith),
-        radius-same q hq,
-        s .field p 2 hp (omega arith),
-        s .field p 4 hp (omega arith),
-        radius-same p hp,
-      )
+  touch-same q p hq hp = ap₂ touchingOf (label-same q hq) (label-same p hp)
 
 -- ---- the loop
 
@@ -89,15 +82,15 @@ pub record Progress (n p : ℕ) (w v : List ℕ) : Type 0 where
 pub start : (n : ℕ) (w : List ℕ) → Progress n 0 w w
 start n w =
     record {
-      fields = same-kept (kept-none w (24 * n) 0);
+      fields = same-kept (kept-none w (rowSize * n) 0);
       small = λ q h. absurd (omega arith);
       settled = λ M order o. ((λ _. stays), (λ q h. absurd (omega arith)), (λ q h. absurd (omega arith)));
     }
 
-pub ready : {n p : ℕ} {w v : List ℕ} → n ≤ 4096 → 32 * n ≤ length w → ((q : ℕ) → q < n → rowRadius w q ≤ 16383) → p < n → Progress n p w v
+pub ready : {n p : ℕ} {w v : List ℕ} → n ≤ 4096 → rowSize * n ≤ length w → ((q : ℕ) → q < n → rowLabel w q .radius ≤ 16383) → p < n → Progress n p w v
     → Scannable v n p
 ready {n} {p} {w} {v} few room radii hp g =
-    let radius : (q : ℕ) → q < n → rowRadius v q ≤ 16383 = λ q h. rw (radius-same (g .fields) q h) (radii q h) in
+    let radius : (q : ℕ) → q < n → rowLabel v q .radius ≤ 16383 = λ q h. rw (radius-same (g .fields) q h) (radii q h) in
     record {
       few = few;
       below = hp;
@@ -106,15 +99,13 @@ ready {n} {p} {w} {v} few room radii hp g =
       above = λ q h. record { radius = radius q (omega arith); value = g .small q h };
     }
 
-pub search-for : {w : List ℕ} {n p : ℕ} {x y : ℤ} {r : ℕ} → Scannable w n p → x ≡ rowX w p → y ≡ rowY w p → r ≡ rowRadius w p → SearchFor w p x y r
-search-for s ex ey er =
+pub search-for : {w : List ℕ} {n p : ℕ} {a : Label} → Scannable w n p → a ≡ rowLabel w p → SearchFor w p a
+search-for s e =
     record {
       few = omega (arith, s .below, s .few);
       room = omega (arith, s .below, s .room);
-      x-is = ex;
-      y-is = ey;
-      r-is = er;
-      r-small = rw er (s .radius);
+      label-is = e;
+      radius-small = rw e (s .radius);
       above = s .above;
     }
 
@@ -129,14 +120,15 @@ put-other s h r i d = rw (ne-eqb i h d)
 -- the mark in row p joins the settled ones
 module _ {n p : ℕ} {w v u : List ℕ} (hp : p < n) (g : Progress n p w v) (x : Settles n v u p) where
   -- what was found for the earlier rows stays
-  number-off : (k a q : ℕ) → q < p → a + k ≤ 22 → leAt k u (24 * q + a) ≡ leAt k v (24 * q + a)
-  number-off k a q h l = x .kept k (24 * q + a) (omega arith) (omega arith)
+  number-off : (k a q : ℕ) → q < p → a + k ≤ recordSize → leAt k u (rowSize * q + rowRecordOffset + a) ≡ leAt k v (rowSize * q + rowRecordOffset + a)
+  number-off k a q h l = x .kept k (rowSize * q + rowRecordOffset + a) (omega arith) (omega arith)
 
-  value-off : (q : ℕ) → q < p → rowValue u q ≡ rowValue v q
-  value-off q h = rw (number-off 8 10 q h (omega arith), number-off 4 18 q h (omega arith))
+  record-off : (q : ℕ) → q < p → rowRecord u q ≡ rowRecord v q
+  record-off q h =
+      rw (number-off 8 numOffset q h (omega arith), number-off 4 denOffset q h (omega arith), rw add-zero at (number-off 2 0 q h (omega arith)))
 
   stored-off : (q : ℕ) → q < p → (r : Removal) → StoredAt v q r → StoredAt u q r
-  stored-off q h r st = rw (number-off 2 8 q h (omega arith), value-off q h) st
+  stored-off q h r = subst (Stored r) (sym (record-off q h))
 
   module _ (M : Marks) (order : ℕ → ℕ) (o : Ordered M order w n) where
     inside : p < M .count
@@ -171,7 +163,7 @@ module _ {n p : ℕ} {w v u : List ℕ} (hp : p < n) (g : Progress n p w v) (x :
   advance =
       record {
         fields = same-more (g .fields) x;
-        small = below-more _ _ (λ q h. rw (value-off q h) (g .small q h)) (x .scanned .small);
+        small = below-more _ _ (λ q h. subst (λ (t : Record). Small (fractionOf t)) (sym (record-off q h)) (g .small q h)) (x .scanned .small);
         settled = settled-on;
       }
 

@@ -8,7 +8,7 @@ use Rattle.numbers.specs.Little.{leAt}
 use Rattle.elimination.specs.Marks.{Marks, Proper}
 use Rattle.elimination.specs.Process.{process}
 use Rattle.elimination.specs.RankOrder.{Ranking}
-use Rattle.searching.specs.Rows.{rowNumber, rowRadius, rowsTouch, rowRecord, StoredAt, Entry}
+use Rattle.searching.specs.Rows.{rowSize, rowRadiusOffset, rowRecordOffset, rowNumber, rowLabel, rowsTouch, rowRecord, StoredAt, Complete}
 use Rattle.searching.specs.Scan.{Scanned}
 
 -- ---- one row
@@ -17,14 +17,14 @@ use Rattle.searching.specs.Scan.{Scanned}
 pub record Scannable (w : List ℕ) (n p : ℕ) : Type 0 where
   pub few : n ≤ 4096
   pub below : p < n
-  pub room : 32 * n ≤ length w
-  pub radius : rowRadius w p ≤ 16383
-  pub above : (q : ℕ) → q < p → Entry w q
+  pub room : rowSize * n ≤ length w
+  pub radius : rowLabel w p .radius ≤ 16383
+  pub above : (q : ℕ) → q < p → Complete w q
 
 -- v is w with what the search finds for row p written there; behind the rows it may differ
 pub record Settles (n : ℕ) (w v : List ℕ) (p : ℕ) : Type 0 where
   pub long : length v ≡ length w
-  pub kept : (k a : ℕ) → a + k ≤ 24 * n → Clear a k (24 * p + 8) (24 * p + 22) → leAt k v a ≡ leAt k w a
+  pub kept : (k a : ℕ) → a + k ≤ rowSize * n → Clear a k (rowSize * p + rowRecordOffset) (rowSize * p + rowSize) → leAt k v a ≡ leAt k w a
   pub scanned : Scanned w p (rowRecord v p)
 
 -- ---- all rows
@@ -40,7 +40,7 @@ pub record Ordered (M : Marks) (order : ℕ → ℕ) (w : List ℕ) (n : ℕ) : 
 -- the fields of the n rows are the same in v as in w
 pub record SameFields (n : ℕ) (w v : List ℕ) : Type 0 where
   pub long : length v ≡ length w
-  pub field : (q j : ℕ) → q < n → j ≤ 6 → leAt 2 v (24 * q + j) ≡ leAt 2 w (24 * q + j)
+  pub field : (q j : ℕ) → q < n → j ≤ rowRadiusOffset → leAt 2 v (rowSize * q + j) ≡ leAt 2 w (rowSize * q + j)
 
 -- v is w with the process's removals in the rows
 pub record Processed (n : ℕ) (w v : List ℕ) : Type 0 where

@@ -2,26 +2,37 @@
 // marks that outrank it, so the marks are visited in the order of rank, with no queue of pairs: rank keys are sorted, each mark's fields go
 // into a row, each row is searched for among the rows above it, and the records go out in the order of the marks' numbers. Where the rows are
 // many, a grid of cells serves the search; it stands behind the rows, where the keys stood.
+use elimination::RECORD_SIZE;
 use elimination::Record;
-use grid::Extent;
+use grid::Cover;
 use grid::Plan;
+use marks::MARK_SIZE;
+use marks::Y_OFFSET;
+use searching::ROW_RADIUS;
+use searching::ROW_RECORD;
+use searching::ROW_SIZE;
+use searching::ROW_X;
+use searching::ROW_Y;
 ghost use mathlib.Core.Path.{_≡_};
 ghost use mathlib.Core.List.{_++_};
 ghost use Prim.Native.Nat.{ℕ, _+_, _*_, _<_, _≤_};
 ghost use lib.ListN.{length, drop};
 ghost use lib.Seq.{sets};
-ghost use Rattle.marks.specs.Marks.{usedAt};
-ghost use Rattle.elimination.specs.Records.{recordBytes};
+ghost use Rattle.marks.specs.Marks.{markSize, usedAt};
+ghost use Rattle.elimination.specs.Records.{recordSize};
 ghost use Rattle.elimination.specs.Reel.{scheduleOf};
 ghost use Rattle.grid.specs.Plan.{Divides};
-ghost use Rattle.searching.specs.Rows.{rowNumber, rowRadius};
+ghost use Rattle.searching.specs.Rows.{rowSize, rowRecordOffset, rowNumber, rowLabel};
 ghost use Rattle.searching.specs.Cells.{Gridded};
 ghost use Rattle.scheduling.specs.Settling.{Scannable, Settles, Processed};
-ghost use Rattle.scheduling.specs.Sending.{sendAt, Numbered, Spread, Published};
-ghost use Rattle.scheduling.specs.Filling.{Schedulable, rowBytes, Keyed, numberAt, Filled};
+ghost use Rattle.scheduling.specs.Sending.{sentRecord, sendAt, RowsNumbered, Spread, Published};
+ghost use Rattle.scheduling.specs.Filling.{workSize, Schedulable, rowBytes, Keyed, numberAt, RowsPut};
 
 // From this many rows on a grid pays.
 const MANY: usize = 256;
+
+// So many bytes a mark are before the keys.
+const KEYS: usize = 24;
 
 // ---- the removals of all rows
 
@@ -30,15 +41,13 @@ fn settle(w: &mut [u8], n: usize, p: usize)
     requires { ⌜ Scannable (now w) n p ⌝ }
     ensures { λ _. ⌜ Settles n (now (w .entry)) (now (w .exit)) p ⌝ }
 {
-    let x = searching::row_x(w, p);
-    let y = searching::row_y(w, p);
-    let r = searching::row_radius(w, p);
-    let found = searching::best_of(w, p, x, y, r);
-    elimination::put_record(w, 24 * p + 8, found);
+    let label = searching::row_label(w, p);
+    let found = searching::best_of(w, p, label);
+    elimination::put_record(w, ROW_SIZE * p + ROW_RECORD, found);
 }
 
 fn settle_rows(w: &mut [u8], n: usize)
-    requires { ⌜ (n ≤ 4096) × (32 * n ≤ length (now w)) × ((q : ℕ) → q < n → rowRadius (now w) q ≤ 16383) ⌝ }
+    requires { ⌜ (n ≤ 4096) × (rowSize * n ≤ length (now w)) × ((q : ℕ) → q < n → rowLabel (now w) q .radius ≤ 16383) ⌝ }
     ensures { λ _. ⌜ Processed n (now (w .entry)) (now (w .exit)) ⌝ }
 {
     let mut p = 0;
@@ -50,25 +59,23 @@ fn settle_rows(w: &mut [u8], n: usize)
 
 // The same as `settle` by cells; then row p goes into its cell.
 fn settle_in_grid(w: &mut [u8], n: usize, p: usize, plan: Plan)
-    requires { ⌜ Scannable (now w) n p × Gridded (now w) (24 * n) p × (256 ≤ n) × Divides plan ⌝ }
-    ensures { λ _. ⌜ Settles n (now (w .entry)) (now (w .exit)) p × Gridded (now (w .exit)) (24 * n) (p + 1) ⌝ }
+    requires { ⌜ Scannable (now w) n p × Gridded (now w) (rowSize * n) p × (workSize n ≤ length (now w)) × (256 ≤ n) × Divides plan ⌝ }
+    ensures { λ _. ⌜ Settles n (now (w .entry)) (now (w .exit)) p × Gridded (now (w .exit)) (rowSize * n) (p + 1) ⌝ }
 {
-    let at = 24 * n;
-    let x = searching::row_x(w, p);
-    let y = searching::row_y(w, p);
-    let r = searching::row_radius(w, p);
-    let c = grid::cell_of(plan, x, y, r);
-    let found = searching::best_in_grid(w, at, p, c, x, y, r);
-    grid::add(w, at, p, c, x, y, r);
-    elimination::put_record(w, 24 * p + 8, found);
+    let at = ROW_SIZE * n;
+    let label = searching::row_label(w, p);
+    let c = grid::cell_of(plan, label);
+    let found = searching::best_in_grid(w, at, p, c, label);
+    grid::add(w, at, p, c, label);
+    elimination::put_record(w, ROW_SIZE * p + ROW_RECORD, found);
 }
 
 // The cells over the places of the rows.
 fn plan_grid(w: &[u8], n: usize) -> Plan
-    requires { ⌜ (n ≤ 4096) × (24 * n ≤ length (now w)) ⌝ }
+    requires { ⌜ (n ≤ 4096) × (rowSize * n ≤ length (now w)) ⌝ }
     ensures { λ r. ⌜ Divides r ⌝ }
 {
-    let mut e = Extent {
+    let mut e = Cover {
         west: 0,
         east: 0,
         south: 0,
@@ -77,23 +84,18 @@ fn plan_grid(w: &[u8], n: usize) -> Plan
     };
     let mut q = 0;
     while q < n {
-        e = grid::extended(
-            e,
-            searching::row_x(w, q),
-            searching::row_y(w, q),
-            searching::row_radius(w, q),
-        );
+        e = grid::extended(e, searching::row_label(w, q));
         q += 1;
     }
     grid::plan_of(e, n)
 }
 
 fn settle_by_cells(w: &mut [u8], n: usize)
-    requires { ⌜ (256 ≤ n) × (n ≤ 4096) × (32 * n ≤ length (now w)) × ((q : ℕ) → q < n → rowRadius (now w) q ≤ 16383) ⌝ }
+    requires { ⌜ (256 ≤ n) × (n ≤ 4096) × (workSize n ≤ length (now w)) × ((q : ℕ) → q < n → rowLabel (now w) q .radius ≤ 16383) ⌝ }
     ensures { λ _. ⌜ Processed n (now (w .entry)) (now (w .exit)) ⌝ }
 {
     let plan = plan_grid(w, n);
-    grid::clear(w, 24 * n);
+    grid::clear(w, ROW_SIZE * n);
     let mut p = 0;
     while p < n {
         settle_in_grid(w, n, p, plan);
@@ -102,7 +104,7 @@ fn settle_by_cells(w: &mut [u8], n: usize)
 }
 
 fn settle_all(w: &mut [u8], n: usize)
-    requires { ⌜ (n ≤ 4096) × (32 * n ≤ length (now w)) × ((q : ℕ) → q < n → rowRadius (now w) q ≤ 16383) ⌝ }
+    requires { ⌜ (n ≤ 4096) × (workSize n ≤ length (now w)) × ((q : ℕ) → q < n → rowLabel (now w) q .radius ≤ 16383) ⌝ }
     ensures { λ _. ⌜ Processed n (now (w .entry)) (now (w .exit)) ⌝ }
 {
     if n < MANY {
@@ -114,38 +116,31 @@ fn settle_all(w: &mut [u8], n: usize)
 
 // ---- the records go out
 
-// What was found for row q, as part 2 has it: a mark that nobody removes is 65,535, 0, 0.
-fn record_row(w: &[u8], q: usize) -> Record
-    requires { ⌜ 24 * q + 24 ≤ length (now w) ⌝ }
-    ensures { λ r. ⌜ recordBytes (r .eliminator) (r .num) (r .den) ≡ sendAt (now (w .entry)) q ⌝ }
+// What was found for a row, as part 2 has it: a mark that nobody removes is 65,535, 0, 0.
+fn sent(r: Record) -> Record
+    ensures { λ s. ⌜ s ≡ sentRecord r ⌝ }
 {
-    let value = searching::row_value(w, q);
-    if value.den == 0 {
+    if r.den == 0 {
         return Record {
             num: 0,
             den: 0,
             eliminator: 65535,
         };
     }
-    let eliminator = numbers::read_u16(w, 24 * q + 8) as u32;
-    Record {
-        num: value.num,
-        den: value.den,
-        eliminator: eliminator,
-    }
+    r
 }
 
 // Writes the record of row q into the slot of its number.
 fn send_one(w: &[u8], out: &mut [u8], q: usize)
-    requires { ⌜ (24 * q + 24 ≤ length (now w)) × (14 * rowNumber (now w) q + 14 ≤ length (now out)) ⌝ }
-    ensures { λ _. ⌜ now (out .exit) ≡ sets (now (out .entry)) (14 * rowNumber (now (w .entry)) q) (sendAt (now (w .entry)) q) ⌝ }
+    requires { ⌜ (rowSize * q + rowSize ≤ length (now w)) × (recordSize * rowNumber (now w) q + recordSize ≤ length (now out)) ⌝ }
+    ensures { λ _. ⌜ now (out .exit) ≡ sets (now (out .entry)) (recordSize * rowNumber (now (w .entry)) q) (sendAt (now (w .entry)) q) ⌝ }
 {
-    let m = numbers::read_u16(w, 24 * q) as usize;
-    elimination::put_record(out, 14 * m, record_row(w, q));
+    let m = numbers::read_u16(w, ROW_SIZE * q) as usize;
+    elimination::put_record(out, RECORD_SIZE * m, sent(searching::row_record(w, q)));
 }
 
 fn send_all(w: &[u8], out: &mut [u8], n: usize)
-    requires { ⌜ (n ≤ 4096) × (24 * n ≤ length (now w)) × (14 * n ≤ length (now out)) × Numbered (now w) n ⌝ }
+    requires { ⌜ (n ≤ 4096) × (rowSize * n ≤ length (now w)) × (recordSize * n ≤ length (now out)) × RowsNumbered (now w) n ⌝ }
     ensures { λ _. ⌜ Spread (now (w .entry)) n n (now (out .entry)) (now (out .exit)) ⌝ }
 {
     let mut q = 0;
@@ -157,8 +152,8 @@ fn send_all(w: &[u8], out: &mut [u8], n: usize)
 
 // The schedule of the marks whose rows stand in w in the order of rank.
 fn schedule_rows(w: &mut [u8], out: &mut [u8], n: usize)
-    requires { ⌜ (n ≤ 4096) × (32 * n ≤ length (now w)) × (14 * n ≤ length (now out)) ⌝ }
-    requires { ⌜ ((q : ℕ) → q < n → rowRadius (now w) q ≤ 16383) × Numbered (now w) n ⌝ }
+    requires { ⌜ (n ≤ 4096) × (workSize n ≤ length (now w)) × (recordSize * n ≤ length (now out)) ⌝ }
+    requires { ⌜ ((q : ℕ) → q < n → rowLabel (now w) q .radius ≤ 16383) × RowsNumbered (now w) n ⌝ }
     ensures { λ _. ⌜ Published (now (w .entry)) n (now (out .entry)) (now (out .exit)) ⌝ }
 {
     settle_all(w, n);
@@ -169,50 +164,50 @@ fn schedule_rows(w: &mut [u8], out: &mut [u8], n: usize)
 
 // The marks' rank keys, one after the other, behind the room for the rows.
 fn put_keys(marks: &[u8], work: &mut [u8], n: usize)
-    requires { ⌜ (n ≤ 4096) × (11 * n ≤ length (now marks)) × (32 * n ≤ length (now work)) ⌝ }
+    requires { ⌜ (n ≤ 4096) × (markSize * n ≤ length (now marks)) × (workSize n ≤ length (now work)) ⌝ }
     ensures { λ _. ⌜ Keyed (now (marks .entry)) n n (now (work .entry)) (now (work .exit)) ⌝ }
 {
     let mut i = 0;
     while i < n {
-        sorting::put(work, 24 * n, i, marks::rank_key(marks, i));
+        sorting::put(work, KEYS * n, i, marks::rank_key(marks, i));
         i += 1;
     }
 }
 
 // The fields of mark m, as a row at `at`. The place goes over as its bytes, which have the same sign there.
 fn put_row(marks: &[u8], m: usize, w: &mut [u8], at: usize)
-    requires { ⌜ (m < 4096) × (11 * m + 11 ≤ length (now marks)) × (at + 8 ≤ length (now w)) ⌝ }
+    requires { ⌜ (m < 4096) × (markSize * m + markSize ≤ length (now marks)) × (at + rowRecordOffset ≤ length (now w)) ⌝ }
     ensures { λ _. ⌜ now (w .exit) ≡ sets (now (w .entry)) at (rowBytes (now (marks .entry)) m) ⌝ }
 {
-    let place = 11 * m;
+    let place = MARK_SIZE * m;
     numbers::write(w, at, 2, m as u64);
-    numbers::write(w, at + 2, 2, numbers::read(marks, place, 2));
-    numbers::write(w, at + 4, 2, numbers::read(marks, place + 2, 2));
-    numbers::write(w, at + 6, 2, marks::radius_at(marks, m) as u64);
+    numbers::write(w, at + ROW_X, 2, numbers::read(marks, place, 2));
+    numbers::write(w, at + ROW_Y, 2, numbers::read(marks, place + Y_OFFSET, 2));
+    numbers::write(w, at + ROW_RADIUS, 2, marks::radius_at(marks, m) as u64);
 }
 
-// A row for each of the sorted keys.
+// A row for each of the sorted keys. A row reaches no key that comes after its own.
 fn put_rows(marks: &[u8], work: &mut [u8], n: usize)
-    requires { ⌜ (n ≤ 4096) × (11 * n ≤ length (now marks)) × (32 * n ≤ length (now work)) ⌝ }
+    requires { ⌜ (n ≤ 4096) × (markSize * n ≤ length (now marks)) × (workSize n ≤ length (now work)) ⌝ }
     requires { ⌜ ((q : ℕ) → q < n → numberAt n (now work) q < n) × ((i : ℕ) → i < n → usedAt (now marks) i ≤ 16383) ⌝ }
-    ensures { λ _. ⌜ Filled (now (marks .entry)) n n (now (work .entry)) (now (work .exit)) ⌝ }
+    ensures { λ _. ⌜ RowsPut (now (marks .entry)) n n (now (work .entry)) (now (work .exit)) ⌝ }
 {
     let mut q = 0;
     while q < n {
-        let m = (sorting::get(work, 24 * n, q) % 4096) as usize;
-        put_row(marks, m, work, 24 * q);
+        let m = (sorting::get(work, KEYS * n, q) % 4096) as usize;
+        put_row(marks, m, work, ROW_SIZE * q);
         q += 1;
     }
 }
 
-// Writes part 2 for the n marks at the start of `marks`: who removes each mark, and where. The rows stand in the first 24n bytes of
-// `work`, where the sort has its spare places before, and the keys behind them, where the grid stands later.
+// Writes part 2 for the n marks at the start of `marks`: who removes each mark, and where. `work` begins with the spare places of the
+// sort, and the keys stand behind them; then it begins with the rows, and the grid stands behind these.
 pub fn schedule(marks: &[u8], work: &mut [u8], out: &mut [u8], n: usize)
     requires { ⌜ Schedulable (now marks) (now work) (now out) n ⌝ }
-    ensures { λ _. ⌜ now (out .exit) ≡ scheduleOf (record { marks = now (marks .entry); count = n }) ++ drop (14 * n) (now (out .entry)) ⌝ }
+    ensures { λ _. ⌜ now (out .exit) ≡ scheduleOf (record { marks = now (marks .entry); count = n }) ++ drop (recordSize * n) (now (out .entry)) ⌝ }
 {
     put_keys(marks, work, n);
-    sorting::sort(work, 24 * n, 0, n);
+    sorting::sort(work, KEYS * n, 0, n);
     put_rows(marks, work, n);
     schedule_rows(work, out, n);
 }

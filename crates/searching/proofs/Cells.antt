@@ -1,19 +1,20 @@
 -- The search of cells: a chain from its last row down, cells that are too far, and the cells in turn. Assumes nothing.
 use Prim.Native.Nat.{ℕ, suc, _-_, _<_, _≤_}
-use mathlib.Core.Path.{_≡_, sym, _∙_}
+use mathlib.Core.Path.{_≡_, sym, _∙_, subst}
 use mathlib.Core.List.{List}
 use mathlib.Core.Logic.{inl, inr}
 use native.Mathlib.Omega.{arith}
 use native.Mathlib.Decide.{decLt, ℕ-discrete}
-use lib.IntN.{ℤ}
 use Rattle.fractions.specs.declared.Fraction.{Fraction}
 use Rattle.fractions.specs.Order.{Less, AtMost}
 use Rattle.fractions.specs.Laws.{less-atMost}
-use Rattle.grid.specs.Table.{headAt, linkAt, Inside}
+use Rattle.marks.specs.declared.Label.{Label}
+use Rattle.marks.specs.Marks.{touchingOf}
+use Rattle.grid.specs.Table.{cellCount, headAt, linkAt, Inside}
 use Rattle.grid.specs.Steps.{Bound}
-use Rattle.searching.specs.declared.Candidate.{Candidate}
-use Rattle.searching.specs.Rows.{rowX, rowY, rowRadius, rowsTouch}
-use Rattle.searching.specs.Search.{valueOf, Before, SearchFor, Adds, Only, Higher}
+use Rattle.searching.specs.declared.Leader.{Leader}
+use Rattle.searching.specs.Rows.{rowLabel, rowsTouch}
+use Rattle.searching.specs.Search.{leaderValue, Before, SearchFor, Adds, Only, Higher}
 use Rattle.searching.specs.Cells.{InGrid, Gridded, CellAdded, Own, Other, OthersFrom}
 use Rattle.searching.proofs.Steps.{adds-before, adds-like, adds-then}
 
@@ -24,11 +25,11 @@ abbrev Tail : (ℕ → ℕ) → ℕ → ℕ → ℕ → Type 0
 Tail cell c h q = (cell q ≡ c) × (h ≤ q)
 
 -- `best` goes before the rows of cell c from h on, and row h - 1 is the next one
-pub record Walked (w : List ℕ) (at p c h : ℕ) (from best : Candidate) : Type 0 where
+pub record Walked (w : List ℕ) (at p c h : ℕ) (from best : Leader) : Type 0 where
   pub next : (cell : ℕ → ℕ) → InGrid w at p cell → (i : ℕ) → h ≡ suc i → cell i ≡ c
   pub adds : (cell : ℕ → ℕ) → InGrid w at p cell → Adds w p (Tail cell c h) from best
 
-pub walk-start : {w : List ℕ} {at p c : ℕ} (from : Candidate) → c < 80 → Walked w at p c (headAt w at c) from from
+pub walk-start : {w : List ℕ} {at p c : ℕ} (from : Leader) → c < cellCount → Walked w at p c (headAt w at c) from from
 walk-start {w} {at} {p} {c} from hc =
     record {
       next = λ cell g. g .chained .head-in c hc;
@@ -37,7 +38,7 @@ walk-start {w} {at} {p} {c} from hc =
           (λ pos q h x. absurd (let z : q < headAt w at c = rw (x .0) at (g .chained .head-all q h) in omega (arith, x .1)));
     }
 
-pub walk-next : {w : List ℕ} {at p c h : ℕ} {from best better : Candidate} → 0 < h → h ≤ p → Walked w at p c h from best
+pub walk-next : {w : List ℕ} {at p c h : ℕ} {from best better : Leader} → 0 < h → h ≤ p → Walked w at p c h from best
     → Adds w p (Only (h - 1)) best better → Walked w at p c (linkAt w at (h - 1)) from better
 walk-next {w} {at} {p} {c} {h} {from} {best} {better} z l x y =
     record { next = λ cell g i e. g .chained .link-in (h - 1) b i e ∙ here cell g; adds = λ cell g. more cell g }
@@ -62,30 +63,30 @@ walk-next {w} {at} {p} {c} {h} {from} {best} {better} z l x y =
         ])
         (x .adds cell g) y
 
-pub walk-end : {w : List ℕ} {at p c h : ℕ} {from best : Candidate} → h ≡ 0 → Walked w at p c h from best → CellAdded w at p (Own c) from best
+pub walk-end : {w : List ℕ} {at p c h : ℕ} {from best : Leader} → h ≡ 0 → Walked w at p c h from best → CellAdded w at p (Own c) from best
 walk-end {c = c} {h = h} z x =
     record { adds = λ cell g. adds-like (Tail cell c h) (λ q. Own c (cell q)) (λ q b e. (e, omega arith)) (x .adds cell g) }
 
 -- ---- cells that are left out
 
-module _ {w : List ℕ} {at p own c : ℕ} {best : Candidate} where
+module _ {w : List ℕ} {at p own c : ℕ} {best : Leader} where
   pub skip-own : c ≡ own → CellAdded w at p (Other own c) best best
   skip-own e =
       record { adds = λ cell g. adds-before (λ q. Other own c (cell q)) best (λ pos q h x. absurd (x .1 (x .0 ∙ e))) }
 
-  pub as-other : {d : Candidate} → CellAdded w at p (Own c) best d → CellAdded w at p (Other own c) best d
+  pub as-other : {d : Leader} → CellAdded w at p (Own c) best d → CellAdded w at p (Other own c) best d
   as-other x = record { adds = λ cell g. adds-like (λ q. Own c (cell q)) (λ q. Other own c (cell q)) (λ q b y. y .0) (x .adds cell g) }
 
-  -- the bound of a cell is at most the value of each row in it
-  pub skip-far : {x y : ℤ} {r : ℕ} {f : Fraction} → SearchFor w p x y r → Bound w at c x y r f → Less (valueOf best) f
+  -- the bound of a cell is at most the touching value of each row in it, and that is at most the pair value
+  pub skip-far : {a : Label} {f : Fraction} → SearchFor w p a → Bound w at c a f → Less (leaderValue best) f
       → CellAdded w at p (Other own c) best best
-  skip-far {x} {y} {r} {f} s b l =
+  skip-far {a} {f} s b l =
       record { adds = λ cell g. adds-before (λ q. Other own c (cell q)) best (λ pos q h o. before cell g q h (o .0) (pos q h)) }
     where
       near : (cell : ℕ → ℕ) → InGrid w at p cell → (q : ℕ) → q < p → cell q ≡ c → AtMost f (rowsTouch w q p)
       near cell g q h e =
-          let i : Inside w at c (rowX w q) (rowY w q) (rowRadius w q) = rw e at (g .inside q h) in
-          rw (s .x-is, s .y-is, s .r-is) at (b .least (rowX w q) (rowY w q) (rowRadius w q) i)
+          let i : Inside w at c (rowLabel w q) = rw e at (g .inside q h) in
+          subst (λ d. AtMost f (touchingOf (rowLabel w q) d)) (s .label-is) (b .least (rowLabel w q) i)
 
       before : (cell : ℕ → ℕ) → InGrid w at p cell → (q : ℕ) → q < p → cell q ≡ c → 0 < rowsTouch w q p .den → Before w p best q
       before cell g q h e z =
@@ -94,13 +95,13 @@ module _ {w : List ℕ} {at p own c : ℕ} {best : Candidate} where
 
 -- ---- the cells in turn
 
-pub others-none : {w : List ℕ} {at p own : ℕ} (from : Candidate) → CellAdded w at p (OthersFrom own 80) from from
+pub others-none : {w : List ℕ} {at p own : ℕ} (from : Leader) → CellAdded w at p (OthersFrom own cellCount) from from
 others-none {own = own} from =
     record {
-      adds = λ cell g. adds-before (λ q. OthersFrom own 80 (cell q)) from (λ pos q h x. absurd (omega (arith, x .0, g .chained .cell-low q h)));
+      adds = λ cell g. adds-before (λ q. OthersFrom own cellCount (cell q)) from (λ pos q h x. absurd (omega (arith, x .0, g .chained .cell-low q h)));
     }
 
-pub others-more : {w : List ℕ} {at p own c : ℕ} {from best better : Candidate} → 0 < c → CellAdded w at p (OthersFrom own c) from best
+pub others-more : {w : List ℕ} {at p own c : ℕ} {from best better : Leader} → 0 < c → CellAdded w at p (OthersFrom own c) from best
     → CellAdded w at p (Other own (c - 1)) best better → CellAdded w at p (OthersFrom own (c - 1)) from better
 others-more {own = own} {c = c} z x y =
     record {
@@ -110,7 +111,7 @@ others-more {own = own} {c = c} z x y =
           (x .adds cell g) (y .adds cell g);
     }
 
-pub all-cells : {w : List ℕ} {at p own : ℕ} {from near best : Candidate} → Gridded w at p → CellAdded w at p (Own own) from near
+pub all-cells : {w : List ℕ} {at p own : ℕ} {from near best : Leader} → Gridded w at p → CellAdded w at p (Own own) from near
     → CellAdded w at p (OthersFrom own 0) near best → Adds w p (Higher p) from best
 all-cells {own = own} g x y =
     let cell : ℕ → ℕ = g .cell in

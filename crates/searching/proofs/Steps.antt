@@ -1,6 +1,6 @@
 -- The steps of a search in any order: a row is passed over, or takes the place of the best one. Assumes nothing.
 use Prim.Native.Nat.{ℕ, _+_, _<_, _≤_}
-use mathlib.Core.Path.{_≡_, refl, sym, ap, _∙_}
+use mathlib.Core.Path.{_≡_, refl, sym, ap, _∙_, subst}
 use mathlib.Core.Bool.{Bool, true, false, cond, true≢false, false≢true}
 use mathlib.Core.List.{List}
 use mathlib.Core.Logic.{_⊎_, inl, inr}
@@ -15,20 +15,21 @@ use Rattle.elimination.specs.declared.Record.{Record}
 use Rattle.elimination.specs.Marks.{Marks, Proper}
 use Rattle.elimination.specs.Process.{Removal, stays, gone, when}
 use Rattle.elimination.specs.RankOrder.{Stands, Found}
-use Rattle.searching.specs.declared.Candidate.{Candidate}
-use Rattle.searching.specs.Rows.{rowNumber, rowValue, rowsTouch, never, fractionOf, Stored}
+use Rattle.elimination.specs.Records.{fractionOf}
+use Rattle.searching.specs.declared.Leader.{Leader}
+use Rattle.searching.specs.Rows.{rowNumber, rowRecord, rowValue, rowsTouch, never, Stored}
 use Rattle.searching.specs.Scan.{Above, Scanned}
-use Rattle.searching.specs.Search.{valueOf, none, Admitted, precedes, StandsAt, Positive, Before, Real, Adds, Only, Higher}
+use Rattle.searching.specs.Search.{leaderValue, none, Admitted, precedes, StandsAt, Positive, Before, Real, Adds, Only, Higher}
 
 -- ---- the tests, on a stored value
 
-later-less : (r : Removal) (who : ℕ) (f : Fraction) {g : Fraction} → 0 < g .den → Stored r who f → Later (when r) g → Less g f
-later-less stays who f d e l = rw e (omega arith)
-later-less (gone h k) who f d (a, e, z) l = rw e at l
+later-less : (r : Removal) (t : Record) {g : Fraction} → 0 < g .den → Stored r t → Later (when r) g → Less g (fractionOf t)
+later-less stays t d e l = rw e (omega arith)
+later-less (gone h k) t d (a, e, z) l = rw e at l
 
-less-later : (r : Removal) (who : ℕ) (f : Fraction) {g : Fraction} → Stored r who f → Less g f → Later (when r) g
-less-later stays who f e l = tt
-less-later (gone h k) who f (a, e, z) l = rw e l
+less-later : (r : Removal) (t : Record) {g : Fraction} → Stored r t → Less g (fractionOf t) → Later (when r) g
+less-later stays t e l = tt
+less-later (gone h k) t (a, e, z) l = rw e l
 
 pub not-less : {f g : Fraction} → less f g ≡ false → Less f g → ⊥
 not-less {f} {g} e l = true≢false (sym (less-iff f g .1 l) ∙ e)
@@ -60,13 +61,13 @@ precedes-no f j g k e = go (less f g) (less g f) (ltb j k) refl refl refl e
 
 module _ {w : List ℕ} {p : ℕ} where
   -- a candidate that goes before the rows of T already
-  pub adds-before : (T : ℕ → Type 0) (c : Candidate) → (Positive w p → (q : ℕ) → q < p → T q → Before w p c q) → Adds w p T c c
+  pub adds-before : (T : ℕ → Type 0) (c : Leader) → (Positive w p → (q : ℕ) → q < p → T q → Before w p c q) → Adds w p T c c
   adds-before T c h = record { step = λ pos re. (re, (λ q b x. x), h pos) }
 
-  pub adds-like : (T S : ℕ → Type 0) {c d : Candidate} → ((q : ℕ) → q < p → S q → T q) → Adds w p T c d → Adds w p S c d
+  pub adds-like : (T S : ℕ → Type 0) {c d : Leader} → ((q : ℕ) → q < p → S q → T q) → Adds w p T c d → Adds w p S c d
   adds-like T S h x = record { step = λ pos re. let (r, k, n) = x .step pos re in (r, k, λ q b y. n q b (h q b y)) }
 
-  pub adds-then : (T U S : ℕ → Type 0) {c d e : Candidate} → ((q : ℕ) → q < p → S q → T q ⊎ U q)
+  pub adds-then : (T U S : ℕ → Type 0) {c d e : Leader} → ((q : ℕ) → q < p → S q → T q ⊎ U q)
       → Adds w p T c d → Adds w p U d e → Adds w p S c e
   adds-then T U S split x y =
       record {
@@ -79,39 +80,39 @@ module _ {w : List ℕ} {p : ℕ} where
             );
       }
 
-  pub higher-none : (c : Candidate) → Adds w p (Higher 0) c c
+  pub higher-none : (c : Leader) → Adds w p (Higher 0) c c
   higher-none c = adds-before (Higher 0) c (λ pos q h x. absurd (omega arith))
 
-  pub higher-more : {k : ℕ} {c d e : Candidate} → Adds w p (Higher k) c d → Adds w p (Only k) d e → Adds w p (Higher (k + 1)) c e
+  pub higher-more : {k : ℕ} {c d e : Leader} → Adds w p (Higher k) c d → Adds w p (Only k) d e → Adds w p (Higher (k + 1)) c e
   higher-more {k} =
       adds-then (Higher k) (Only k) (Higher (k + 1)) (λ q h l. elim (ℕ-discrete q k) [ yes e ↦ inr e | no e ↦ inl (omega arith) ])
 
 -- ---- one row, of the value v
 
-abbrev pub row-of : ℕ → Fraction → Candidate
+abbrev pub row-of : ℕ → Fraction → Leader
 row-of q v = record { num = v .num; den = v .den; row = q }
 
-module _ {w : List ℕ} {p q : ℕ} {c : Candidate} {v : Fraction} (b : q < p) (v-is : v ≡ rowsTouch w q p) where
+module _ {w : List ℕ} {p q : ℕ} {c : Leader} {v : Fraction} (b : q < p) (v-is : v ≡ rowsTouch w q p) where
   cover : Before w p c q → Adds w p (Only q) c c
   cover x = adds-before (Only q) c (λ pos k h i. rw i x)
 
-  pub keep-behind : precedes v q (valueOf c) (c .row) ≡ false → Adds w p (Only q) c c
+  pub keep-behind : precedes v q (leaderValue c) (c .row) ≡ false → Adds w p (Only q) c c
   keep-behind t =
       cover
-      (elim (precedes-no v q (valueOf c) (c .row) t) [
-        | inl h ↦ (let l : Less (valueOf c) (rowsTouch w q p) = rw v-is at h in record { atMost = λ s. record { cross = omega arith }; less = λ s k. l })
+      (elim (precedes-no v q (leaderValue c) (c .row) t) [
+        | inl h ↦ (let l : Less (leaderValue c) (rowsTouch w q p) = rw v-is at h in record { atMost = λ s. record { cross = omega arith }; less = λ s k. l })
         | inr h ↦ record { atMost = λ s. rw v-is at (h .0); less = λ s k. absurd (omega (arith, h .1)) }
       ])
 
   pub keep-gone : (Less v (rowValue w q) → ⊥) → Adds w p (Only q) c c
   keep-gone nay = cover (record { atMost = λ s. absurd (nay (rw v-is s)); less = λ s k. absurd (nay (rw v-is s)) })
 
-  pub take : precedes v q (valueOf c) (c .row) ≡ true → Less v (rowValue w q) → Adds w p (Only q) c (row-of q v)
+  pub take : precedes v q (leaderValue c) (c .row) ≡ true → Less v (rowValue w q) → Adds w p (Only q) c (row-of q v)
   take t l =
       record {
         step = λ pos re. (
           inr (record { below = b; exact = v-is; stands = rw v-is at l }),
-          (λ k h x. elim (precedes-yes v q (valueOf c) (c .row) t) [
+          (λ k h x. elim (precedes-yes v q (leaderValue c) (c .row) t) [
             | inl y ↦ won k (pos k h) x y
             | inr y ↦ drawn k (pos q b) (known pos re (y .1)) x (y .0) (y .2)
           ]),
@@ -119,7 +120,7 @@ module _ {w : List ℕ} {p q : ℕ} {c : Candidate} {v : Fraction} (b : q < p) (
         );
       }
     where
-      won : (k : ℕ) → 0 < rowsTouch w k p .den → Before w p c k → Less v (valueOf c) → Before w p (row-of q v) k
+      won : (k : ℕ) → 0 < rowsTouch w k p .den → Before w p c k → Less v (leaderValue c) → Before w p (row-of q v) k
       won k z x y =
           record {
             atMost = λ s. let u = less-atMost z y (x .atMost s) in record { cross = omega arith };
@@ -127,27 +128,27 @@ module _ {w : List ℕ} {p q : ℕ} {c : Candidate} {v : Fraction} (b : q < p) (
           }
 
       -- what is at most v is not 1/0
-      known : Positive w p → Real w p c → AtMost (valueOf c) v → 0 < c .den
+      known : Positive w p → Real w p c → AtMost (leaderValue c) v → 0 < c .den
       known pos (inl e) a =
           absurd (let z : 0 < v .den = rw v-is (pos q b) in let u : AtMost never v = rw e at a in omega arith)
       known pos (inr x) a =
           let g : c .den ≡ rowsTouch w (c .row) p .den = ap (λ (f : Fraction). f .den) (x .exact) in rw g (pos (c .row) (x .below))
 
-      drawn : (k : ℕ) → 0 < rowsTouch w q p .den → 0 < c .den → Before w p c k → AtMost v (valueOf c) → q < c .row → Before w p (row-of q v) k
+      drawn : (k : ℕ) → 0 < rowsTouch w q p .den → 0 < c .den → Before w p c k → AtMost v (leaderValue c) → q < c .row → Before w p (row-of q v) k
       drawn k zq zd x y i =
           record {
-            atMost = λ s. atMost-trans {g = valueOf c} zd y (x .atMost s);
-            less = λ s j. atMost-less {g = valueOf c} (rw v-is zq) y (x .less s (omega arith));
+            atMost = λ s. atMost-trans {g = leaderValue c} zd y (x .atMost s);
+            less = λ s j. atMost-less {g = leaderValue c} (rw v-is zq) y (x .less s (omega arith));
           }
 
 -- ---- all rows were taken in
 
-module _ {w : List ℕ} {p : ℕ} (c : Candidate) (t : Record) (t-is : fractionOf t ≡ valueOf c) (who : t .eliminator ≡ rowNumber w (c .row))
+module _ {w : List ℕ} {p : ℕ} (c : Leader) (t : Record) (t-is : fractionOf t ≡ leaderValue c) (who : t .eliminator ≡ rowNumber w (c .row))
     (M : Marks) (order : ℕ → ℕ) (s : ℕ → Removal) (ok : Proper M) (rows : Above M order s w p) (bef : (q : ℕ) → q < p → Before w p c q) where
   stood : (q : ℕ) → q < p → Stands M order s (order p) q → StandsAt w p q
-  stood q h y = rw (rows .value q h) (later-less (s (order q)) _ (rowValue w q) (ok .positive _ _) (rows .removal q h) y)
+  stood q h y = rw (rows .value q h) (later-less (s (order q)) (rowRecord w q) (ok .positive _ _) (rows .removal q h) y)
 
-  done : Real w p c → (r : Removal) × Stored r (t .eliminator) (fractionOf t) × Found M order s (order p) p r
+  done : Real w p c → (r : Removal) × Stored r t × Found M order s (order p) p r
   done (inl e) = (
     stays,
     t-is ∙ e,
@@ -159,23 +160,23 @@ module _ {w : List ℕ} {p : ℕ} (c : Candidate) (t : Record) (t-is : fractionO
   done (inr x) =
       let a : ℕ = c .row in
       let v = rows .value a (x .below) in
-      let f : valueOf c ≡ M .value (order a) (order p) = x .exact ∙ v in (
+      let f : leaderValue c ≡ M .value (order a) (order p) = x .exact ∙ v in (
         gone (order a) (M .value (order a) (order p)),
-        (sym (rows .number a (x .below)) ∙ sym who, sym (t-is ∙ f), rw (t-is ∙ f) (ok .positive _ _)),
+        (sym (rows .number a (x .below)) ∙ sym who, sym (t-is ∙ f), subst (λ (g : Fraction). 0 < g .den) (sym (t-is ∙ f)) (ok .positive _ _)),
         (
           a,
           refl,
           record {
             below = x .below;
             exact = refl;
-            stands = less-later (s (order a)) _ (rowValue w a) (rows .removal a (x .below)) (rw v at (x .stands));
+            stands = less-later (s (order a)) (rowRecord w a) (rows .removal a (x .below)) (rw v at (x .stands));
             less = λ q h y. let hq : q < p = omega (arith, x .below) in rw (f, rows .value q hq) at (bef q hq .less (stood q hq y) h);
             atMost = λ q h y. rw (f, rows .value q h) at (bef q h .atMost (stood q h y));
           },
         ),
       )
 
-pub searched : {w : List ℕ} {p : ℕ} {c : Candidate} (t : Record) → fractionOf t ≡ valueOf c → t .eliminator ≡ rowNumber w (c .row)
+pub searched : {w : List ℕ} {p : ℕ} {c : Leader} (t : Record) → fractionOf t ≡ leaderValue c → t .eliminator ≡ rowNumber w (c .row)
     → t .eliminator < 65536 → Admitted p c → Adds w p (Higher p) none c → Scanned w p t
 searched {w} {p} {c} t t-is who small ad x =
     record {

@@ -1,39 +1,55 @@
--- The rows that scheduling works on, 24 bytes a mark, in the order of rank: number (2), x (2), y (2), used radius (2); then what was found
--- for the mark: eliminator (2), numerator (8), denominator (4). Two bytes are left free. `w` begins with the rows and `q` is a row.
+-- The rows that scheduling works on, one a mark, in the order of rank: number (2), x (2), y (2), used radius (2), room for a popup (4), and
+-- what was found for the mark, as its record in part 2 (14). `w` begins with the rows and `q` is a row.
 use Prim.Native.Nat.{ℕ, _+_, _*_, _<_, _≤_}
 use mathlib.Core.Path.{_≡_}
 use mathlib.Core.List.{List}
-use lib.IntN.{ℤ}
 use Rattle.numbers.specs.Little.{leAt, signed}
 use Rattle.fractions.specs.declared.Fraction.{Fraction}
 use Rattle.fractions.specs.Order.{Small}
+use Rattle.marks.specs.declared.Label.{Label}
 use Rattle.marks.specs.Marks.{touchingOf}
 use Rattle.elimination.specs.declared.Record.{Record}
 use Rattle.elimination.specs.Process.{Removal, stays, gone}
+use Rattle.elimination.specs.Records.{recordAt, fractionOf}
 
 -- ---- the fields
 
+abbrev pub rowSize : ℕ
+rowSize = 26
+
+-- where the fields behind the number begin
+abbrev pub rowXOffset : ℕ
+rowXOffset = 2
+
+abbrev pub rowYOffset : ℕ
+rowYOffset = 4
+
+abbrev pub rowRadiusOffset : ℕ
+rowRadiusOffset = 6
+
+abbrev pub rowRecordOffset : ℕ
+rowRecordOffset = 12
+
 abbrev pub rowNumber : List ℕ → ℕ → ℕ
-rowNumber w q = leAt 2 w (24 * q)
+rowNumber w q = leAt 2 w (rowSize * q)
 
-abbrev pub rowX : List ℕ → ℕ → ℤ
-rowX w q = signed 2 (leAt 2 w (24 * q + 2))
+abbrev pub rowLabel : List ℕ → ℕ → Label
+rowLabel w q =
+    record {
+      x = signed 2 (leAt 2 w (rowSize * q + rowXOffset));
+      y = signed 2 (leAt 2 w (rowSize * q + rowYOffset));
+      radius = leAt 2 w (rowSize * q + rowRadiusOffset);
+    }
 
-abbrev pub rowY : List ℕ → ℕ → ℤ
-rowY w q = signed 2 (leAt 2 w (24 * q + 4))
-
-abbrev pub rowRadius : List ℕ → ℕ → ℕ
-rowRadius w q = leAt 2 w (24 * q + 6)
-
-abbrev pub rowEliminator : List ℕ → ℕ → ℕ
-rowEliminator w q = leAt 2 w (24 * q + 8)
+abbrev pub rowRecord : List ℕ → ℕ → Record
+rowRecord w q = recordAt w (rowSize * q + rowRecordOffset)
 
 abbrev pub rowValue : List ℕ → ℕ → Fraction
-rowValue w q = record { num = leAt 8 w (24 * q + 10); den = leAt 4 w (24 * q + 18) }
+rowValue w q = fractionOf (rowRecord w q)
 
--- the touching value of two rows
+-- the pair value of two rows
 abbrev pub rowsTouch : List ℕ → ℕ → ℕ → Fraction
-rowsTouch w q p = touchingOf (rowX w q) (rowY w q) (rowRadius w q) (rowX w p) (rowY w p) (rowRadius w p)
+rowsTouch w q p = touchingOf (rowLabel w q) (rowLabel w p)
 
 -- ---- what was found
 
@@ -41,22 +57,15 @@ rowsTouch w q p = touchingOf (rowX w q) (rowY w q) (rowRadius w q) (rowX w p) (r
 abbrev pub never : Fraction
 never = record { num = 1; den = 0 }
 
--- a record's value, and the record of row q
-abbrev pub fractionOf : Record → Fraction
-fractionOf r = record { num = r .num; den = r .den }
-
-abbrev pub rowRecord : List ℕ → ℕ → Record
-rowRecord w q = record { num = rowValue w q .num; den = rowValue w q .den; eliminator = rowEliminator w q }
-
--- the eliminator and the value that stand for a removal
-abbrev pub Stored : Removal → ℕ → Fraction → Type 0
-Stored stays who f = f ≡ never
-Stored (gone h g) who f = (h ≡ who) × (g ≡ f) × (0 < f .den)
+-- the record that stands for a removal
+abbrev pub Stored : Removal → Record → Type 0
+Stored stays t = fractionOf t ≡ never
+Stored (gone h g) t = (h ≡ t .eliminator) × (g ≡ fractionOf t) × (0 < t .den)
 
 abbrev pub StoredAt : List ℕ → ℕ → Removal → Type 0
-StoredAt w q r = Stored r (rowEliminator w q) (rowValue w q)
+StoredAt w q r = Stored r (rowRecord w q)
 
 -- row q is complete, and no product of a comparison with it is too large
-pub record Entry (w : List ℕ) (q : ℕ) : Type 0 where
-  pub radius : rowRadius w q ≤ 16383
+pub record Complete (w : List ℕ) (q : ℕ) : Type 0 where
+  pub radius : rowLabel w q .radius ≤ 16383
   pub value : Small (rowValue w q)

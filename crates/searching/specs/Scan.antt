@@ -7,7 +7,8 @@ use Rattle.elimination.specs.declared.Record.{Record}
 use Rattle.elimination.specs.Marks.{Marks, Proper}
 use Rattle.elimination.specs.Process.{Removal}
 use Rattle.elimination.specs.RankOrder.{Found}
-use Rattle.searching.specs.Rows.{rowNumber, rowsTouch, fractionOf, Stored, StoredAt}
+use Rattle.elimination.specs.Records.{fractionOf}
+use Rattle.searching.specs.Rows.{rowNumber, rowsTouch, Stored, StoredAt}
 
 -- the rows above p are those of the marks `order 0`, .., with the removals s
 pub record Above (M : Marks) (order : ℕ → ℕ) (s : ℕ → Removal) (w : List ℕ) (p : ℕ) : Type 0 where
@@ -20,4 +21,4 @@ pub record Scanned (w : List ℕ) (p : ℕ) (t : Record) : Type 0 where
   pub small : Small (fractionOf t)
   pub number : t .eliminator < 65536
   pub found : (M : Marks) (order : ℕ → ℕ) (s : ℕ → Removal) → Proper M → Above M order s w p
-      → (r : Removal) × Stored r (t .eliminator) (fractionOf t) × Found M order s (order p) p r
+      → (r : Removal) × Stored r t × Found M order s (order p) p r

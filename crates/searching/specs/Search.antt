@@ -1,40 +1,38 @@
--- The search for the best candidate of row p, which takes the rows above it in any order.
+-- The search for what removes the mark in row p, which takes the rows above it in any order.
 use Prim.Native.Nat.{ℕ, _+_, _*_, _<_, _≤_}
 use mathlib.Core.Path.{_≡_}
 use mathlib.Core.Bool.{Bool, true, false, cond}
 use mathlib.Core.List.{List}
 use mathlib.Core.Logic.{_⊎_}
 use lib.Dec.{ltb}
-use lib.IntN.{ℤ}
 use lib.ListN.{length}
 use Rattle.fractions.specs.declared.Fraction.{Fraction}
 use Rattle.fractions.specs.Order.{less, Less, AtMost, Small}
-use Rattle.searching.specs.declared.Candidate.{Candidate}
-use Rattle.searching.specs.Rows.{rowX, rowY, rowRadius, rowValue, rowsTouch, never, Entry}
+use Rattle.marks.specs.declared.Label.{Label}
+use Rattle.searching.specs.declared.Leader.{Leader}
+use Rattle.searching.specs.Rows.{rowSize, rowLabel, rowValue, rowsTouch, never, Complete}
 
 -- ---- what is searched
 
--- x, y and r are the fields of row p, and the rows above it are complete
-pub record SearchFor (w : List ℕ) (p : ℕ) (x y : ℤ) (r : ℕ) : Type 0 where
+-- `a` is the label of row p, and the rows above it are complete
+pub record SearchFor (w : List ℕ) (p : ℕ) (a : Label) : Type 0 where
   pub few : p < 4096
-  pub room : 24 * p + 24 ≤ length w
-  pub x-is : x ≡ rowX w p
-  pub y-is : y ≡ rowY w p
-  pub r-is : r ≡ rowRadius w p
-  pub r-small : r ≤ 16383
-  pub above : (q : ℕ) → q < p → Entry w q
+  pub room : rowSize * p + rowSize ≤ length w
+  pub label-is : a ≡ rowLabel w p
+  pub radius-small : a .radius ≤ 16383
+  pub above : (q : ℕ) → q < p → Complete w q
 
--- ---- candidates
+-- ---- the best row so far
 
-abbrev pub valueOf : Candidate → Fraction
-valueOf c = record { num = c .num; den = c .den }
+abbrev pub leaderValue : Leader → Fraction
+leaderValue c = record { num = c .num; den = c .den }
 
-abbrev pub none : Candidate
+abbrev pub none : Leader
 none = record { num = 1; den = 0; row = 0 }
 
 -- no product of a comparison with it is too large, and it names a row
-pub record Admitted (p : ℕ) (c : Candidate) : Type 0 where
-  pub small : Small (valueOf c)
+pub record Admitted (p : ℕ) (c : Leader) : Type 0 where
+  pub small : Small (leaderValue c)
   pub inside : c .row ≤ p
 
 -- the value f of row j goes before the value g of row k: it is less, or equal and of the higher-ranked row
@@ -50,22 +48,22 @@ StandsAt w p q = Less (rowsTouch w q p) (rowValue w q)
 abbrev pub Positive : List ℕ → ℕ → Type 0
 Positive w p = (q : ℕ) → q < p → 0 < rowsTouch w q p .den
 
--- the candidate goes before row q, if that one stands
-pub record Before (w : List ℕ) (p : ℕ) (c : Candidate) (q : ℕ) : Type 0 where
-  pub atMost : StandsAt w p q → AtMost (valueOf c) (rowsTouch w q p)
-  pub less : StandsAt w p q → q < c .row → Less (valueOf c) (rowsTouch w q p)
+-- the leader goes before row q, if that one stands
+pub record Before (w : List ℕ) (p : ℕ) (c : Leader) (q : ℕ) : Type 0 where
+  pub atMost : StandsAt w p q → AtMost (leaderValue c) (rowsTouch w q p)
+  pub less : StandsAt w p q → q < c .row → Less (leaderValue c) (rowsTouch w q p)
 
 -- it is a row that stands, with its value
-pub record Held (w : List ℕ) (p : ℕ) (c : Candidate) : Type 0 where
+pub record Leads (w : List ℕ) (p : ℕ) (c : Leader) : Type 0 where
   pub below : c .row < p
-  pub exact : valueOf c ≡ rowsTouch w (c .row) p
+  pub exact : leaderValue c ≡ rowsTouch w (c .row) p
   pub stands : StandsAt w p (c .row)
 
-abbrev pub Real : List ℕ → ℕ → Candidate → Type 0
-Real w p c = (valueOf c ≡ never) ⊎ Held w p c
+abbrev pub Real : List ℕ → ℕ → Leader → Type 0
+Real w p c = (leaderValue c ≡ never) ⊎ Leads w p c
 
 -- from c to d: d goes before all rows that c does, and before the rows of T
-pub record Adds (w : List ℕ) (p : ℕ) (T : ℕ → Type 0) (c d : Candidate) : Type 0 where
+pub record Adds (w : List ℕ) (p : ℕ) (T : ℕ → Type 0) (c d : Leader) : Type 0 where
   pub step : Positive w p → Real w p c
       → Real w p d × ((q : ℕ) → q < p → Before w p c q → Before w p d q) × ((q : ℕ) → q < p → T q → Before w p d q)
 

@@ -3,74 +3,82 @@
 // rows are searched in any order: all of them, or cell by cell of a grid, which leaves out those that are too far to matter.
 use elimination::Record;
 use fractions::Fraction;
+use marks::Label;
 ghost use mathlib.Core.Path.{_≡_};
 ghost use Prim.Native.Nat.{_+_, _*_, _<_, _≤_};
 ghost use lib.ListN.{length};
 ghost use Rattle.fractions.specs.Order.{Small};
 ghost use Rattle.marks.specs.Marks.{touchingOf};
-ghost use Rattle.grid.specs.Table.{Ready};
-ghost use Rattle.searching.specs.Rows.{rowX, rowY, rowRadius, rowValue};
+ghost use Rattle.grid.specs.Table.{cellCount, EntriesLow};
+ghost use Rattle.searching.specs.Rows.{rowSize, rowLabel, rowRecord, rowValue};
 ghost use Rattle.searching.specs.Scan.{Scanned};
-ghost use Rattle.searching.specs.Search.{valueOf, none, precedes, Admitted, SearchFor, Adds, Only, Higher};
+ghost use Rattle.searching.specs.Search.{leaderValue, none, precedes, Admitted, SearchFor, Adds, Only, Higher};
 ghost use Rattle.searching.specs.Cells.{Gridded, CellAdded, Own, Other, OthersFrom};
 
 // Among so few rows a scan of all is as fast as a search by cells.
 const FEW: usize = 192;
 
+// The bytes of a row, and where the fields behind its number begin. The bytes before the record are room for a popup.
+pub const ROW_SIZE: usize = 26;
+
+pub const ROW_X: usize = 2;
+
+pub const ROW_Y: usize = 4;
+
+pub const ROW_RADIUS: usize = 6;
+
+pub const ROW_RECORD: usize = 12;
+
 // ---- rows
 
-pub fn row_x(w: &[u8], q: usize) -> i16
-    requires { ⌜ 24 * q + 24 ≤ length (now w) ⌝ }
-    ensures { λ x. ⌜ x ≡ rowX (now (w .entry)) q ⌝ }
+pub fn row_label(w: &[u8], q: usize) -> Label
+    requires { ⌜ rowSize * q + rowSize ≤ length (now w) ⌝ }
+    ensures { λ a. ⌜ a ≡ rowLabel (now (w .entry)) q ⌝ }
 {
-    numbers::read_i16(w, 24 * q + 2)
+    let at = ROW_SIZE * q;
+    Label {
+        x: numbers::read_i16(w, at + ROW_X),
+        y: numbers::read_i16(w, at + ROW_Y),
+        radius: numbers::read_u16(w, at + ROW_RADIUS),
+    }
 }
 
-pub fn row_y(w: &[u8], q: usize) -> i16
-    requires { ⌜ 24 * q + 24 ≤ length (now w) ⌝ }
-    ensures { λ y. ⌜ y ≡ rowY (now (w .entry)) q ⌝ }
+// What was found for row q.
+pub fn row_record(w: &[u8], q: usize) -> Record
+    requires { ⌜ rowSize * q + rowSize ≤ length (now w) ⌝ }
+    ensures { λ r. ⌜ r ≡ rowRecord (now (w .entry)) q ⌝ }
 {
-    numbers::read_i16(w, 24 * q + 4)
-}
-
-pub fn row_radius(w: &[u8], q: usize) -> u16
-    requires { ⌜ 24 * q + 24 ≤ length (now w) ⌝ }
-    ensures { λ r. ⌜ r ≡ rowRadius (now (w .entry)) q ⌝ }
-{
-    numbers::read_u16(w, 24 * q + 6)
+    elimination::record_at(w, ROW_SIZE * q + ROW_RECORD)
 }
 
 // The removal value of row q.
-pub fn row_value(w: &[u8], q: usize) -> Fraction
-    requires { ⌜ 24 * q + 24 ≤ length (now w) ⌝ }
+fn row_value(w: &[u8], q: usize) -> Fraction
+    requires { ⌜ rowSize * q + rowSize ≤ length (now w) ⌝ }
     ensures { λ v. ⌜ v ≡ rowValue (now (w .entry)) q ⌝ }
 {
-    let at = 24 * q;
-    let num = numbers::read(w, at + 10, 8);
-    let den = numbers::read_u32(w, at + 18);
-    Fraction { num: num, den: den }
+    elimination::fraction_of(row_record(w, q))
 }
 
-// The touching value of row q and a mark with the fields x, y and r.
-fn touching_row(w: &[u8], q: usize, x: i16, y: i16, r: u16) -> Fraction
-    requires { ⌜ (24 * q + 24 ≤ length (now w)) × (rowRadius (now w) q ≤ 16383) × (r ≤ 16383) ⌝ }
-    ensures { λ v. ⌜ (v ≡ touchingOf (rowX (now (w .entry)) q) (rowY (now (w .entry)) q) (rowRadius (now (w .entry)) q) x y r) × Small v ⌝ }
+// The touching value of row q and a label.
+fn touching_row(w: &[u8], q: usize, label: Label) -> Fraction
+    requires { ⌜ (rowSize * q + rowSize ≤ length (now w)) × (rowLabel (now w) q .radius ≤ 16383) × (label .radius ≤ 16383) ⌝ }
+    ensures { λ v. ⌜ (v ≡ touchingOf (rowLabel (now (w .entry)) q) label) × Small v ⌝ }
 {
-    marks::touching_of(row_x(w, q), row_y(w, q), row_radius(w, q), x, y, r)
+    marks::touching_of(row_label(w, q), label)
 }
 
 // ---- one row against the best so far
 
 // The best row found so far and its value, which is 1/0 where there is none. The row is as wide as the denominator, so that the struct has no
 // padding: with padding the inner loop would keep it in memory.
-struct Candidate {
+struct Leader {
     num: u64,
     den: u32,
     row: u32,
 }
 
-fn value_of(c: Candidate) -> Fraction
-    ensures { λ v. ⌜ v ≡ valueOf c ⌝ }
+fn leader_value(c: Leader) -> Fraction
+    ensures { λ v. ⌜ v ≡ leaderValue c ⌝ }
 {
     Fraction {
         num: c.num,
@@ -92,17 +100,17 @@ fn precedes(f: Fraction, j: usize, g: Fraction, k: usize) -> bool
     j < k
 }
 
-// Row q against the best found so far for row p, whose fields are x, y and r: it takes its place if it goes before it and is removed later.
-fn better(w: &[u8], q: usize, p: usize, x: i16, y: i16, r: u16, best: Candidate) -> Candidate
-    requires { ⌜ SearchFor (now w) p x y r × (q < p) × Admitted p best ⌝ }
+// Row q against the best found so far for row p, whose label is given: it takes its place if it goes before it and is removed later.
+fn better(w: &[u8], q: usize, p: usize, label: Label, best: Leader) -> Leader
+    requires { ⌜ SearchFor (now w) p label × (q < p) × Admitted p best ⌝ }
     ensures { λ t. ⌜ Admitted p t × Adds (now (w .entry)) p (Only q) best t ⌝ }
 {
-    let v = touching_row(w, q, x, y, r);
+    let v = touching_row(w, q, label);
     let row = best.row as usize;
-    if precedes(v, q, value_of(best), row) {
+    if precedes(v, q, leader_value(best), row) {
         if fractions::less_small(v, row_value(w, q)) {
             let taken = q as u32;
-            return Candidate {
+            return Leader {
                 num: v.num,
                 den: v.den,
                 row: taken,
@@ -113,18 +121,18 @@ fn better(w: &[u8], q: usize, p: usize, x: i16, y: i16, r: u16, best: Candidate)
 }
 
 // The best of all rows above p.
-fn scan_rows(w: &[u8], p: usize, x: i16, y: i16, r: u16) -> Candidate
-    requires { ⌜ SearchFor (now w) p x y r ⌝ }
+fn scan_rows(w: &[u8], p: usize, label: Label) -> Leader
+    requires { ⌜ SearchFor (now w) p label ⌝ }
     ensures { λ t. ⌜ Admitted p t × Adds (now (w .entry)) p (Higher p) none t ⌝ }
 {
-    let mut best = Candidate {
+    let mut best = Leader {
         num: 1,
         den: 0,
         row: 0,
     };
     let mut q = 0;
     while q < p {
-        best = better(w, q, p, x, y, r, best);
+        best = better(w, q, p, label, best);
         q += 1;
     }
     best
@@ -133,24 +141,15 @@ fn scan_rows(w: &[u8], p: usize, x: i16, y: i16, r: u16) -> Candidate
 // ---- the best row by cells, of the grid at `at`
 
 // The rows of cell c against the best so far.
-fn scan_cell(
-    w: &[u8],
-    at: usize,
-    p: usize,
-    c: usize,
-    x: i16,
-    y: i16,
-    r: u16,
-    from: Candidate,
-) -> Candidate
-    requires { ⌜ SearchFor (now w) p x y r × Ready (now w) at p × (c < 80) × Admitted p from ⌝ }
+fn scan_cell(w: &[u8], at: usize, p: usize, c: usize, label: Label, from: Leader) -> Leader
+    requires { ⌜ SearchFor (now w) p label × EntriesLow (now w) at p × (c < cellCount) × Admitted p from ⌝ }
     ensures { λ t. ⌜ Admitted p t × CellAdded (now (w .entry)) at p (Own c) from t ⌝ }
 {
     let mut best = from;
     let mut h = grid::last_row(w, at, c);
     while 0 < h {
         let q = h - 1;
-        best = better(w, q, p, x, y, r, best);
+        best = better(w, q, p, label, best);
         h = grid::previous_row(w, at, q);
     }
     best
@@ -163,12 +162,10 @@ fn scan_other(
     p: usize,
     own: usize,
     c: usize,
-    x: i16,
-    y: i16,
-    r: u16,
-    best: Candidate,
-) -> Candidate
-    requires { ⌜ SearchFor (now w) p x y r × Ready (now w) at p × (c < 80) × Admitted p best ⌝ }
+    label: Label,
+    best: Leader,
+) -> Leader
+    requires { ⌜ SearchFor (now w) p label × EntriesLow (now w) at p × (c < cellCount) × Admitted p best ⌝ }
     ensures { λ t. ⌜ Admitted p t × CellAdded (now (w .entry)) at p (Other own c) best t ⌝ }
 {
     if c == own {
@@ -177,67 +174,58 @@ fn scan_other(
     if grid::last_row(w, at, c) == 0 {
         return best;
     }
-    let value = value_of(best);
-    let bound = grid::bound(w, at, c, x, y, r);
+    let value = leader_value(best);
+    let bound = grid::bound(w, at, c, label);
     if fractions::less_small(value, bound) {
         return best;
     }
-    scan_cell(w, at, p, c, x, y, r, best)
+    scan_cell(w, at, p, c, label, best)
 }
 
 // The rows of the cells other than `own`. The cells of the large marks, which touch soonest, come first.
-fn scan_others(
-    w: &[u8],
-    at: usize,
-    p: usize,
-    own: usize,
-    x: i16,
-    y: i16,
-    r: u16,
-    from: Candidate,
-) -> Candidate
-    requires { ⌜ SearchFor (now w) p x y r × Ready (now w) at p × Admitted p from ⌝ }
+fn scan_others(w: &[u8], at: usize, p: usize, own: usize, label: Label, from: Leader) -> Leader
+    requires { ⌜ SearchFor (now w) p label × EntriesLow (now w) at p × Admitted p from ⌝ }
     ensures { λ t. ⌜ Admitted p t × CellAdded (now (w .entry)) at p (OthersFrom own 0) from t ⌝ }
 {
     let mut best = from;
-    let mut c = 80;
+    let mut c = grid::CELLS;
     while 0 < c {
         c -= 1;
-        best = scan_other(w, at, p, own, c, x, y, r, best);
+        best = scan_other(w, at, p, own, c, label, best);
     }
     best
 }
 
 // The best of all rows above p, for a mark that belongs into the cell `own`: what lies near comes first, so that the rest is soon too far.
 // Where the rows are few, or most of them are in that cell, all are scanned.
-fn search(w: &[u8], at: usize, p: usize, own: usize, x: i16, y: i16, r: u16) -> Candidate
-    requires { ⌜ SearchFor (now w) p x y r × Gridded (now w) at p × (own < 80) ⌝ }
+fn search(w: &[u8], at: usize, p: usize, own: usize, label: Label) -> Leader
+    requires { ⌜ SearchFor (now w) p label × Gridded (now w) at p × (own < cellCount) ⌝ }
     ensures { λ t. ⌜ Admitted p t × Adds (now (w .entry)) p (Higher p) none t ⌝ }
 {
     if p < FEW {
-        return scan_rows(w, p, x, y, r);
+        return scan_rows(w, p, label);
     }
     if p < 2 * grid::row_count(w, at, own) {
-        return scan_rows(w, p, x, y, r);
+        return scan_rows(w, p, label);
     }
-    let nobody = Candidate {
+    let nobody = Leader {
         num: 1,
         den: 0,
         row: 0,
     };
-    let near = scan_cell(w, at, p, own, x, y, r, nobody);
-    scan_others(w, at, p, own, x, y, r, near)
+    let near = scan_cell(w, at, p, own, label, nobody);
+    scan_others(w, at, p, own, label, near)
 }
 
 // ---- what was found
 
 // What was found for row p, as its record.
-fn found_of(w: &[u8], p: usize, best: Candidate) -> Record
-    requires { ⌜ (24 * p + 24 ≤ length (now w)) × Admitted p best × Adds (now w) p (Higher p) none best ⌝ }
+fn found_of(w: &[u8], p: usize, best: Leader) -> Record
+    requires { ⌜ (rowSize * p + rowSize ≤ length (now w)) × Admitted p best × Adds (now w) p (Higher p) none best ⌝ }
     ensures { λ t. ⌜ Scanned (now (w .entry)) p t ⌝ }
 {
     let row = best.row as usize;
-    let number = numbers::read_u16(w, 24 * row) as u32;
+    let number = numbers::read_u16(w, ROW_SIZE * row) as u32;
     Record {
         num: best.num,
         den: best.den,
@@ -245,18 +233,18 @@ fn found_of(w: &[u8], p: usize, best: Candidate) -> Record
     }
 }
 
-// What the rows above p make of the mark in row p, whose fields are x, y and r.
-pub fn best_of(w: &[u8], p: usize, x: i16, y: i16, r: u16) -> Record
-    requires { ⌜ SearchFor (now w) p x y r ⌝ }
+// What the rows above p make of the mark in row p, whose label is given.
+pub fn best_of(w: &[u8], p: usize, label: Label) -> Record
+    requires { ⌜ SearchFor (now w) p label ⌝ }
     ensures { λ t. ⌜ Scanned (now (w .entry)) p t ⌝ }
 {
-    found_of(w, p, scan_rows(w, p, x, y, r))
+    found_of(w, p, scan_rows(w, p, label))
 }
 
 // The same by the grid at `at`, for a mark that belongs into the cell `own`.
-pub fn best_in_grid(w: &[u8], at: usize, p: usize, own: usize, x: i16, y: i16, r: u16) -> Record
-    requires { ⌜ SearchFor (now w) p x y r × Gridded (now w) at p × (own < 80) ⌝ }
+pub fn best_in_grid(w: &[u8], at: usize, p: usize, own: usize, label: Label) -> Record
+    requires { ⌜ SearchFor (now w) p label × Gridded (now w) at p × (own < cellCount) ⌝ }
     ensures { λ t. ⌜ Scanned (now (w .entry)) p t ⌝ }
 {
-    found_of(w, p, search(w, at, p, own, x, y, r))
+    found_of(w, p, search(w, at, p, own, label))
 }

@@ -33,7 +33,7 @@ returns c =
     let d = c .before .before in
     let n = d .before .before .before .before .before in
     let e = n .before .before .before .before in
-    record-put _ _ _ _ _ (e .write .ensures) (n .write2 .ensures) (d .write3 .ensures)
+    record-put _ _ _ (e .write .ensures) (n .write2 .ensures) (d .write3 .ensures)
 
 pub put-record-spec : {M : Type 1} → statement M
 put-record-spec =

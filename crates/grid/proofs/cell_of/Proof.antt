@@ -7,11 +7,11 @@ use Rattle.grid.proofs.cell_of.Statement.{statement}
 use Rattle.grid.proofs.cell_of.Tie as tie
 
 product : (c : tie.After-cells-between2)
-    → c .before .before .before .before .before .args .plan .rows * c .before .before .cells-between .result ≤ 255 * 65535
+    → c .before .before .before .before .before .before .before .args .plan .rows * c .before .before .before .cells-between .result ≤ 255 * 65535
 product c =
-    let b = c .before .before .before .before .before in
-    let few : b .args .plan .rows ≤ 255 = omega (arith, c .before .before .before .before .struct-known .given) in
-    mul-le-mul few (c .before .before .cells-between .ensures)
+    let b = c .before .before .before .before .before .before .before in
+    let few : b .args .plan .rows ≤ 255 = omega (arith, c .before .before .before .before .before .before .struct-known .given) in
+    mul-le-mul few (c .before .before .before .cells-between .ensures)
 
 cast-rows : tie.Need-cast-rows
 cast-rows c = search needs
@@ -37,6 +37,9 @@ add-among-cells c = omega (arith, product c, c .cells-between2 .ensures)
 among-cells-requires : tie.Need-among-cells-requires
 among-cells-requires c κs = search needs
 
+cast-if1 : tie.Need-cast-if1
+cast-if1 c = search needs
+
 add-result : tie.Need-add-result
 add-result c = search needs
 
@@ -58,6 +61,7 @@ cell-of-spec =
     mul-among-cells
     add-among-cells
     among-cells-requires
+    cast-if1
     add-result
     returns
     returns-2)

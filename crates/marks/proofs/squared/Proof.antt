@@ -1,8 +1,7 @@
 -- `marks::squared` meets its contract: the square of at most 65,535 fits 64 bits with a sign. Assumes nothing.
 use native.Mathlib.Omega.{arith}
 use mir.Syntax.{w64}
-use Rattle.marks.specs.Laws.{square-bound}
-use Rattle.marks.proofs.Signed.{widens, widened, square-fits, square-back}
+use Rattle.marks.proofs.Signed.{widens, widened, square-bound, square-fits, square-back}
 use Rattle.marks.proofs.squared.Statement.{statement}
 use Rattle.marks.proofs.squared.Tie as tie
 

@@ -14,40 +14,40 @@ use Rattle.fractions.specs.declared.Fraction.{Fraction}
 use Rattle.fractions.specs.Order.{Small}
 use Rattle.marks.specs.Good.{GoodMarks}
 use Rattle.marks.specs.Laws.{touching-small, touching-positive}
+use Rattle.elimination.specs.declared.Record.{Record}
 use Rattle.elimination.specs.Process.{Removal, stays, gone, process}
-use Rattle.elimination.specs.Records.{eliminatorAt, numAt, isNever}
+use Rattle.elimination.specs.Records.{recordSize, numOffset, denOffset, isNever, markRecord, eliminatorAt, numAt, Reads, removalRecord}
 use Rattle.elimination.specs.Reel.{Reel, marksOf, scheduleOf}
-use Rattle.elimination.specs.Lemmas.Records.{Reads}
 use Rattle.elimination.specs.Sheet.{sheet-proper}
 use Rattle.elimination.specs.Theorems.{process-eliminator}
-use Rattle.elimination.specs.Schedule.{schedule-length, schedule-stays, schedule-gone}
+use Rattle.elimination.specs.Schedule.{schedule-length, schedule-reads}
 use Rattle.report.specs.Printing.{removalAt, Zoomable, Printable}
 
 -- a record reads the same with more bytes behind the schedule
-reads-append : (p rest : List ℕ) (m h num den : ℕ) → 14 * m + 14 ≤ length p → Reads p m h num den → Reads (p ++ rest) m h num den
-reads-append p rest m h num den k r =
+reads-append : (p rest : List ℕ) (m : ℕ) {d : Record} → recordSize * m + recordSize ≤ length p → Reads p m d → Reads (p ++ rest) m d
+reads-append p rest m k r =
     record {
-      eliminator = le-append 2 p rest (14 * m) (omega arith) ∙ r .eliminator;
-      numerator = le-append 8 p rest (14 * m + 2) (omega arith) ∙ r .numerator;
-      denominator = le-append 4 p rest (14 * m + 10) (omega arith) ∙ r .denominator;
+      eliminator = le-append 2 p rest (recordSize * m) (omega arith) ∙ r .eliminator;
+      numerator = le-append 8 p rest (recordSize * m + numOffset) (omega arith) ∙ r .numerator;
+      denominator = le-append 4 p rest (recordSize * m + denOffset) (omega arith) ∙ r .denominator;
     }
 
 -- record m reads as what becomes of mark m
 record Says (p : List ℕ) (m : ℕ) (r : Removal) : Type 0 where
   removal : removalAt p m ≡ r
-  zoom : isNever p m ≡ false → Zoomable p m
+  zoom : isNever (markRecord p m) ≡ false → Zoomable p m
 
-says-stays : (p : List ℕ) (m : ℕ) → Reads p m 65535 0 0 → Says p m stays
+says-stays : (p : List ℕ) (m : ℕ) → Reads p m (removalRecord stays) → Says p m stays
 unfolding removalAt isNever
 says-stays p m r =
-    let e : isNever p m ≡ true = rw (r .eliminator, r .numerator, r .denominator) in
+    let e : isNever (markRecord p m) ≡ true = rw (r .eliminator, r .numerator, r .denominator) in
     record { removal = rw e; zoom = λ n. absurd (true≢false (sym e ∙ n)) }
 
-says-gone : (p : List ℕ) (m h : ℕ) (f : Fraction) → Reads p m h (f .num) (f .den) → Small f → 0 < f .den → Says p m (gone h f)
+says-gone : (p : List ℕ) (m h : ℕ) (f : Fraction) → Reads p m (removalRecord (gone h f)) → Small f → 0 < f .den → Says p m (gone h f)
 unfolding removalAt isNever
 says-gone p m h f r small positive =
     let some : eqb (f .den) 0 ≡ false = ne-eqb (f .den) 0 (λ z. omega arith) in
-    let e : isNever p m ≡ false = rw (r .denominator, some) (and-no (eqb (eliminatorAt p m) 65535) (and-no (eqb (numAt p m) 0) refl)) in
+    let e : isNever (markRecord p m) ≡ false = rw (r .denominator, some) (and-no (eqb (eliminatorAt p m) 65535) (and-no (eqb (numAt p m) 0) refl)) in
     record {
       removal = rw (e, r .eliminator, r .numerator, r .denominator);
       zoom = λ n. record { small = rw (r .numerator, r .denominator) small; positive = rw (r .denominator) positive };
@@ -59,16 +59,16 @@ module _ (r : Reel) (rest : List ℕ) (good : GoodMarks (r .marks) (r .count)) (
   says : (m : ℕ) → m < n → Says (scheduleOf r ++ rest) m (process (marksOf r) m)
   says m k = cases (process (marksOf r) m) refl
     where
-      inside : 14 * m + 14 ≤ length (scheduleOf r)
+      inside : recordSize * m + recordSize ≤ length (scheduleOf r)
       inside = omega (arith, schedule-length r)
 
       cases : (x : Removal) → process (marksOf r) m ≡ x → Says (scheduleOf r ++ rest) m x
-      cases stays e = says-stays _ m (reads-append (scheduleOf r) rest m 65535 0 0 inside (schedule-stays r good bytes m k e))
+      cases stays e = says-stays _ m (reads-append (scheduleOf r) rest m inside (rw e at (schedule-reads r good bytes m k)))
       cases (gone h f) e =
           let x = process-eliminator (marksOf r) (sheet-proper r (good .few)) m h f k e in
           let small : Small f = subst Small (sym (x .exact)) (touching-small s h m bytes (good .each h (x .inside) .used) (good .each m k .used)) in
           let positive : 0 < f .den = rw (x .exact) (touching-positive s h m) in
-          says-gone _ m h f (reads-append (scheduleOf r) rest m h (f .num) (f .den) inside (schedule-gone r good bytes m h f k e)) small positive
+          says-gone _ m h f (reads-append (scheduleOf r) rest m inside (rw e at (schedule-reads r good bytes m k))) small positive
 
   pub removal-process : (m : ℕ) → m < n → removalAt (scheduleOf r ++ rest) m ≡ process (marksOf r) m
   removal-process m k = says m k .removal

@@ -19,11 +19,11 @@ use Rattle.marks.specs.Marks.{outranks, touching}
 use Rattle.marks.specs.Good.{GoodMarks}
 use Rattle.marks.specs.Laws.{outranks-key}
 use Rattle.elimination.specs.Process.{Removal, stays, gone, when, process}
-use Rattle.elimination.specs.Records.{isNever, valueAt}
+use Rattle.elimination.specs.Records.{isNever, markRecord, valueAt}
 use Rattle.elimination.specs.Reel.{Reel, marksOf}
 use Rattle.elimination.specs.Sheet.{sheet-proper}
 use Rattle.elimination.specs.Theorems.{process-eliminator}
-use Rattle.elimination.specs.Schedule.{schedule-length, schedule-stays, schedule-gone, schedule-value}
+use Rattle.elimination.specs.Schedule.{schedule-length, schedule-reads, schedule-value}
 use Rattle.index.specs.Laws.{index-long, index-iff}
 use Rattle.contents.specs.Contents.{offsetAt, lengthAt, split, marksPart}
 use Rattle.contents.specs.Lemmas.Parts.{split-at}
@@ -67,11 +67,11 @@ module _ (s : List ℕ) (good : GoodMarks s (markCount s)) (long : length s ≡ 
 
       cases : (x : Removal) → process (marksOf r) m ≡ x → recordRight r p m ≡ true
       cases stays e =
-          let w = schedule-stays r good bytes m h e in
+          let w = rw e at (schedule-reads r good bytes m h) in
           rw (w .eliminator, w .numerator, w .denominator)
       cases (gone g f) e =
           let x = process-eliminator (marksOf r) (sheet-proper r (good .few)) m g f h e in
-          let w = schedule-gone r good bytes m g f h e in
+          let w = rw e at (schedule-reads r good bytes m h) in
           let o : outranks s g m ≡ true =
           outranks-key s g m bytes (omega (arith, x .inside, good .few)) (omega (arith, h, good .few)) .1 (x .outranks) in
           let num : f .num ≡ (touching s g m) .num = ap (λ (q : Fraction). q .num) (x .exact) in
@@ -79,7 +79,7 @@ module _ (s : List ℕ) (good : GoodMarks s (markCount s)) (long : length s ≡ 
           let vm : valueAt p m ≡ At f = schedule-value r good bytes m h ∙ ap when e in
           let l : later (valueAt p g) (valueAt p m) ≡ true =
           rw (schedule-value r good bytes g (x .inside), vm) (later-iff (when (process (marksOf r) g)) f .1 (x .later)) in
-          or-right (isNever p m)
+          or-right (isNever (markRecord p m))
           (rw (w .eliminator, w .numerator, w .denominator, lt-ltb g (markCount s) (x .inside), o, eq-eqb _ _ num, eq-eqb _ _ den, l))
 
   new-every : question8 (reelOf s) (newSchedule s) ≡ true

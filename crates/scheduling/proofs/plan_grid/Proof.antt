@@ -1,6 +1,6 @@
--- `scheduling::plan_grid` meets its contract: the sum of the radii stays small; nothing else is asked. Assumes nothing.
+-- `scheduling::plan_grid` meets its contract: the radii of n rows have a sum that fits. Assumes nothing.
 use native.Mathlib.Omega.{arith}
-use Prim.Native.Nat.{_≤_, _-_, _*_}
+use Prim.Native.Nat.{_≤_, _*_, _-_}
 use borrow.Author.Needs.{needs}
 use Rattle.scheduling.proofs.plan_grid.Statement.{statement}
 use Rattle.scheduling.proofs.plan_grid.Tie as tie
@@ -14,17 +14,13 @@ abbrev μ-loop : tie.MeasureT-loop
 loop-holds : tie.Need-loop-holds Inv-loop μ-loop
 loop-holds c = (omega arith, omega arith)
 
-row-x-requires : tie.Need-row-x-requires Inv-loop μ-loop
-row-x-requires c κs = search needs
-
-row-y-requires : tie.Need-row-y-requires Inv-loop μ-loop
-row-y-requires c κs = search needs
-
-row-radius-requires : tie.Need-row-radius-requires Inv-loop μ-loop
-row-radius-requires c κs = search needs
+row-label-requires : tie.Need-row-label-requires Inv-loop μ-loop
+row-label-requires c κs = search needs
 
 extended-requires : tie.Need-extended-requires Inv-loop μ-loop
-extended-requires c κs = omega (arith, c .before .before .before .loop-test .taken, c .before .before .before .before .loop .inv .1, c .before .before .before .before .before .before .pre .0)
+extended-requires c κs =
+    let l = c .before .before in
+    omega (arith, c .before .loop-test .taken, l .loop .inv .1, l .before .before .pre .0)
 
 add-q : tie.Need-add-q Inv-loop μ-loop
 add-q c = search needs
@@ -34,9 +30,8 @@ loop-less c = search needs
 
 loop-again : tie.Need-loop-again Inv-loop μ-loop
 loop-again c =
-    let r = c .before in
-    let l = r .before .before .before .before in
-    (omega arith, omega (arith, c .extended .ensures, l .loop .inv .1))
+    let l = c .before .before .before in
+    (omega arith, omega (arith, c .extended .ensures, c .before .row-label .ok, l .loop .inv .1))
 
 plan-of-requires : tie.Need-plan-of-requires Inv-loop μ-loop
 plan-of-requires c κs = (omega (arith, c .before .loop .inv, c .before .before .before .pre .0), c .before .before .before .pre .0)
@@ -51,9 +46,7 @@ plan-grid-spec =
     Inv-loop
     μ-loop
     loop-holds
-    row-x-requires
-    row-y-requires
-    row-radius-requires
+    row-label-requires
     extended-requires
     add-q
     loop-less

@@ -3,13 +3,13 @@ use native.Mathlib.Omega.{arith}
 use borrow.Author.Needs.{needs}
 use Prim.Native.Nat.{_≤_, _<_, _-_, _%_}
 use mathlib.Core.Path.{_≡_}
-use Rattle.scheduling.specs.Filling.{Filled}
-use Rattle.scheduling.proofs.Filling.{filled-none, filled-more}
+use Rattle.scheduling.specs.Filling.{RowsPut}
+use Rattle.scheduling.proofs.Filling.{rows-none, rows-more}
 use Rattle.scheduling.proofs.put_rows.Statement.{statement}
 use Rattle.scheduling.proofs.put_rows.Tie as tie
 
 abbrev Inv-loop : tie.InvT-loop
-Inv-loop marks work₀ n q₀ work q = (q ≤ n) × Filled marks n q work₀ work
+Inv-loop marks work₀ n q₀ work q = (q ≤ n) × RowsPut marks n q work₀ work
 
 abbrev μ-loop : tie.MeasureT-loop
 μ-loop marks work₀ n q₀ work q = n - q
@@ -20,10 +20,10 @@ number c =
     let g = c .before in
     let i = g .before .before in
     let l = i .before in
-    rw (g .get .ensures, l .loop .inv .1 .keys (l .loop .q) (i .loop-test .taken)) (l .before .before .before .pre .1 .0 (l .loop .q) (i .loop-test .taken))
+    rw (g .get .ensures, l .loop .inv .1 .keys (l .loop .q) (omega arith) (i .loop-test .taken)) (l .before .before .before .pre .1 .0 (l .loop .q) (i .loop-test .taken))
 
 loop-holds : tie.Need-loop-holds Inv-loop μ-loop
-loop-holds c = (omega arith, filled-none _ _ _)
+loop-holds c = (omega arith, rows-none _ _ _)
 
 mul-get : tie.Need-mul-get Inv-loop μ-loop
 mul-get c = search needs
@@ -58,7 +58,7 @@ loop-again c =
     let a = y .before in
     let k = number (v .before) in (
       omega arith,
-      filled-more (λ j. y .shared-slice-known .given j .fits) (i .loop-test .taken) (a .pre .0 .2) (omega arith)
+      rows-more (λ j. y .shared-slice-known .given j .fits) (i .loop-test .taken) (a .pre .0 .2) (omega arith)
           (omega (arith, a .pre .1 .1 _ k)) (rw (g .get .ensures)) (l .loop .inv .1) (v .put-row .ensures),
     )
 

@@ -15,8 +15,11 @@ cast-m c = search needs
 mul-put-record : tie.Need-mul-put-record
 mul-put-record c = search needs
 
-record-row-requires : tie.Need-record-row-requires
-record-row-requires c κs = search needs
+row-record-requires : tie.Need-row-record-requires
+row-record-requires c κs = search needs
+
+sent-requires : tie.Need-sent-requires
+sent-requires c κs = search needs
 
 put-record-requires : tie.Need-put-record-requires
 put-record-requires c κs = search needs
@@ -27,8 +30,9 @@ same-length c = search needs
 returns : tie.Need-returns
 returns c =
     let p = c .before .before in
-    let r = p .before in
-    rw (r .before .before .read-u16 .ensures, r .record-row .ensures) at (p .put-record .ensures)
+    let s = p .before in
+    let r = s .before in
+    rw (r .before .before .read-u16 .ensures, s .sent .ensures, r .row-record .ensures) at (p .put-record .ensures)
 
 pub send-one-spec : {M : Type 1} → statement M
 send-one-spec =
@@ -38,7 +42,8 @@ send-one-spec =
     read-u16-requires
     cast-m
     mul-put-record
-    record-row-requires
+    row-record-requires
+    sent-requires
     put-record-requires
     same-length
     returns)

@@ -1,22 +1,16 @@
 -- `scheduling::settle` meets its contract: what was found is read back from the row. Assumes nothing.
 use native.Mathlib.Omega.{arith}
 use Rattle.lists.specs.StoreLaws.{kept-none}
-use Rattle.scheduling.proofs.Progress.{settles}
+use Rattle.scheduling.proofs.Progress.{settles, search-for}
 use borrow.Author.Needs.{needs}
 use Rattle.scheduling.proofs.settle.Statement.{statement}
 use Rattle.scheduling.proofs.settle.Tie as tie
 
-row-x-requires : tie.Need-row-x-requires
-row-x-requires c κs = search needs
-
-row-y-requires : tie.Need-row-y-requires
-row-y-requires c κs = search needs
-
-row-radius-requires : tie.Need-row-radius-requires
-row-radius-requires c κs = search needs
+row-label-requires : tie.Need-row-label-requires
+row-label-requires c κs = search needs
 
 best-of-requires : tie.Need-best-of-requires
-best-of-requires c κs = search needs
+best-of-requires c κs = search-for (c .before .before .before .before .pre) (c .before .row-label .ensures)
 
 mul-put-record : tie.Need-mul-put-record
 mul-put-record c = search needs
@@ -34,16 +28,14 @@ returns : tie.Need-returns
 returns c =
     let k = c .before .before in
     let f = k .before .before in
-    let a = f .before .before .before .before .before .before .before .before .before in
+    let a = f .before .before .before .before .before in
     settles (a .pre .below) (omega (arith, a .pre .room)) (omega arith) (omega arith) (kept-none _ _ 0) (k .put-record .ensures) (f .best-of .ensures)
 
 pub settle-spec : {M : Type 1} → statement M
 settle-spec =
     tie.close
     (tie.spec
-    row-x-requires
-    row-y-requires
-    row-radius-requires
+    row-label-requires
     best-of-requires
     mul-put-record
     add-put-record

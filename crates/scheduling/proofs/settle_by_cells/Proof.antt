@@ -5,6 +5,7 @@ use native.Mathlib.Omega.{arith}
 use Prim.Native.Nat.{_≤_, _-_, _*_}
 use borrow.Author.Needs.{needs}
 use Rattle.grid.specs.Plan.{Divides}
+use Rattle.searching.specs.Rows.{rowSize}
 use Rattle.searching.specs.Cells.{Gridded}
 use Rattle.scheduling.proofs.Cells.{gridded-none}
 use Rattle.scheduling.proofs.Progress.{Progress, start, ready, advance, finish}
@@ -12,7 +13,7 @@ use Rattle.scheduling.proofs.settle_by_cells.Statement.{statement}
 use Rattle.scheduling.proofs.settle_by_cells.Tie as tie
 
 abbrev Inv-loop : tie.InvT-loop
-Inv-loop w₀ n plan p₀ w p = (p ≤ n) × Progress n p w₀ w × Gridded w (24 * n) p × Divides plan
+Inv-loop w₀ n plan p₀ w p = (p ≤ n) × Progress n p w₀ w × Gridded w (rowSize * n) p × Divides plan
 
 abbrev μ-loop : tie.MeasureT-loop
 μ-loop w₀ n plan p₀ w p = n - p
@@ -42,6 +43,7 @@ settle-in-grid-requires c κs =
     let s = same-kept (k .clear .ensures .kept) in (
       ready (a .pre .1) (omega (arith, a .pre .2, s .long)) (λ q h. rw (radius-same s q h) (a .pre .3 q h)) (i .loop-test .taken) (l .loop .inv .1),
       l .loop .inv .2,
+      omega (arith, a .pre .2, s .long, l .loop .inv .1 .fields .long),
       a .pre .0,
       l .loop .inv .3,
     )

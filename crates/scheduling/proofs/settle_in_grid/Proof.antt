@@ -1,6 +1,5 @@
 -- `scheduling::settle_in_grid` meets its contract: what was found is read back from the row, and the grid has one row more. Assumes nothing.
 use native.Mathlib.Omega.{arith}
-use Rattle.marks.proofs.Signed.{passed}
 use Rattle.scheduling.proofs.Bytes.{put-kept}
 use Rattle.scheduling.proofs.Cells.{gridded-more}
 use Rattle.scheduling.proofs.Progress.{settles, search-for}
@@ -11,45 +10,39 @@ use Rattle.scheduling.proofs.settle_in_grid.Tie as tie
 mul-at : tie.Need-mul-at
 mul-at c = search needs
 
-row-x-requires : tie.Need-row-x-requires
-row-x-requires c κs = search needs
-
-row-y-requires : tie.Need-row-y-requires
-row-y-requires c κs = search needs
-
-row-radius-requires : tie.Need-row-radius-requires
-row-radius-requires c κs = search needs
+row-label-requires : tie.Need-row-label-requires
+row-label-requires c κs = search needs
 
 cell-of-requires : tie.Need-cell-of-requires
 cell-of-requires c κs = search needs
 
 best-in-grid-requires : tie.Need-best-in-grid-requires
 best-in-grid-requires c κs =
-    let r = c .before .before in
-    let y = r .before .before in
-    let x = y .before .before in
-    let a = x .before .before .before in (
-      search-for (a .pre .0) (passed (x .row-x .ok) (x .row-x .ensures)) (passed (y .row-y .ok) (y .row-y .ensures)) (r .row-radius .ensures),
-      a .pre .1,
-      c .before .cell-of .ensures,
-    )
+    let l = c .before .before in
+    let a = l .before .before .before in
+    (search-for (a .pre .0) (l .row-label .ensures), a .pre .1, c .before .cell-of .ensures)
 
 add-requires : tie.Need-add-requires
-add-requires c κs = search needs
+add-requires c κs =
+    let l = c .before .before .before .before in
+    let a = l .before .before .before in (
+      (omega (arith, a .pre .0 .below, a .pre .0 .few), c .before .before .before .cell-of .ensures, rw (l .row-label .ensures) (a .pre .0 .radius), omega (arith, a .pre .0 .below, a .pre .2, a .pre .3)),
+      a .pre .1 .ready,
+    )
 
 mul-put-record : tie.Need-mul-put-record
 mul-put-record c =
-    let a = c .before .before .before .before .before .before .before .before .before .before .before .before .before .before .before in
+    let a = c .before .before .before .before .before .before .before .before .before .before .before in
     omega (arith, a .pre .0 .below, a .pre .0 .few)
 
 add-put-record : tie.Need-add-put-record
 add-put-record c =
-    let a = c .before .before .before .before .before .before .before .before .before .before .before .before .before .before .before in
+    let a = c .before .before .before .before .before .before .before .before .before .before .before in
     omega (arith, a .pre .0 .below, a .pre .0 .few)
 
 put-record-requires : tie.Need-put-record-requires
 put-record-requires c κs =
-    let a = c .before .before .before .before .before .before .before .before .before .before .before .before .before .before .before in
+    let a = c .before .before .before .before .before .before .before .before .before .before .before in
     omega (arith, a .pre .0 .below, a .pre .0 .room, c .before .before .before .add .ensures .kept .long)
 
 same-length : tie.Need-same-length
@@ -60,16 +53,12 @@ returns c =
     let k = c .before .before in
     let d = k .before .before .before .before in
     let f = d .before .before in
-    let r = f .before .before .before in
-    let y = r .before .before in
-    let x = y .before .before in
-    let a = x .before .before .before in
-    let t = f .best-in-grid .result in
-    let s = search-for (a .pre .0) (passed (x .row-x .ok) (x .row-x .ensures)) (passed (y .row-y .ok) (y .row-y .ensures)) (r .row-radius .ensures) in (
+    let l = f .before .before .before in
+    let a = l .before .before .before in (
       settles (a .pre .0 .below) (omega (arith, a .pre .0 .room)) (omega arith) (omega arith) (d .add .ensures .kept) (k .put-record .ensures)
           (f .best-in-grid .ensures),
-      gridded-more (a .pre .0 .below) (a .pre .1) s (d .add .ensures)
-          (put-kept (a .args .p) (t .eliminator) (t .num) (t .den) (k .put-record .ensures)),
+      gridded-more (a .pre .0 .below) (a .pre .1) (search-for (a .pre .0) (l .row-label .ensures)) (d .add .ensures)
+          (put-kept (a .args .p) (f .best-in-grid .result) (k .put-record .ensures)),
     )
 
 pub settle-in-grid-spec : {M : Type 1} → statement M
@@ -77,9 +66,7 @@ settle-in-grid-spec =
     tie.close
     (tie.spec
     mul-at
-    row-x-requires
-    row-y-requires
-    row-radius-requires
+    row-label-requires
     cell-of-requires
     best-in-grid-requires
     add-requires

@@ -1,10 +1,10 @@
 -- `searching::better` meets its contract: a row takes the place of the best one if it goes before it and is removed later. Assumes nothing.
 use Rattle.fractions.specs.Order.{Small}
 use native.Mathlib.Omega.{arith}
-use mathlib.Core.Path.{_≡_, sym, _∙_}
-use mir.Facts.{toZ-ofZ}
+use mathlib.Core.Path.{_≡_, sym, ap, _∙_}
 use Rattle.fractions.specs.Laws.{less-iff}
-use Rattle.searching.specs.Rows.{rowsTouch}
+use Rattle.marks.specs.Marks.{touchingOf}
+use Rattle.searching.specs.Rows.{rowLabel, rowsTouch}
 use Rattle.searching.proofs.Steps.{not-less, keep-behind, keep-gone, take}
 use borrow.Author.Needs.{needs}
 use Rattle.searching.proofs.better.Statement.{statement}
@@ -14,24 +14,23 @@ use Rattle.searching.proofs.better.Tie as tie
 value : (c : tie.After-touching-row) → let a = c .before .before .args in c .touching-row .result ≡ rowsTouch (a .w .now) (a .q) (a .p)
 value c =
     let a = c .before .before in
-    let f = a .pre .0 in
-    rw (toZ-ofZ (a .fits .x), toZ-ofZ (a .fits .y), f .x-is, f .y-is, f .r-is) at (c .touching-row .ensures .0)
+    c .touching-row .ensures .0 ∙ ap (touchingOf (rowLabel (a .args .w .now) (a .args .q))) (a .pre .0 .label-is)
 
 touching-row-requires : tie.Need-touching-row-requires
 touching-row-requires c κs =
     let a = c .before in
-    (omega (arith, a .pre .0 .room, a .pre .1), a .pre .0 .above (a .args .q) (a .pre .1) .radius, a .pre .0 .r-small)
+    (omega (arith, a .pre .0 .room, a .pre .1), a .pre .0 .above (a .args .q) (a .pre .1) .radius, a .pre .0 .radius-small)
 
 cast-row : tie.Need-cast-row
 cast-row c = search needs
 
-value-of-requires : tie.Need-value-of-requires
-value-of-requires c κs = search needs
+leader-value-requires : tie.Need-leader-value-requires
+leader-value-requires c κs = search needs
 
 precedes-requires : tie.Need-precedes-requires
 precedes-requires c κs =
     let t = c .before .before in
-    (t .touching-row .ensures .1, rw (c .value-of .ensures) (t .before .before .pre .2 .small))
+    (t .touching-row .ensures .1, rw (c .leader-value .ensures) (t .before .before .pre .2 .small))
 
 row-value-requires : tie.Need-row-value-requires
 row-value-requires c κs = search needs
@@ -56,7 +55,7 @@ returns c =
     let t = b .before .before in
     let a = t .before .before in (
       record { small = t .touching-row .ensures .1; inside = omega (arith, a .pre .1) },
-      take (a .pre .1) (value t) (rw (b .value-of .ensures) at (sym (one .precedes .ensures) ∙ e .before .if1 .taken))
+      take (a .pre .1) (value t) (rw (b .leader-value .ensures) at (sym (one .precedes .ensures) ∙ e .before .if1 .taken))
           (rw (e .row-value .ensures) at (less-iff _ _ .0 (sym (two .less-small .ensures) ∙ c .if2 .taken))),
     )
 
@@ -77,7 +76,7 @@ returns-3 c =
     let t = b .before .before in
     let a = t .before .before in (
       a .pre .2,
-      keep-behind (a .pre .1) (value t) (rw (b .value-of .ensures) at (sym (one .precedes .ensures) ∙ c .if1 .left)),
+      keep-behind (a .pre .1) (value t) (rw (b .leader-value .ensures) at (sym (one .precedes .ensures) ∙ c .if1 .left)),
     )
 
 pub better-spec : {M : Type 1} → statement M
@@ -86,7 +85,7 @@ better-spec =
     (tie.spec
     touching-row-requires
     cast-row
-    value-of-requires
+    leader-value-requires
     precedes-requires
     row-value-requires
     less-small-requires

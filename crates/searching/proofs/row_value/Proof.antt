@@ -1,26 +1,18 @@
--- `searching::row_value` meets its contract: the two numbers read are the row's. Assumes nothing.
+-- `searching::row_value` meets its contract: the two numbers of the row's record. Assumes nothing.
+use mathlib.Core.Path.{ap, _∙_}
+use Rattle.elimination.specs.Records.{fractionOf}
 use borrow.Author.Needs.{needs}
 use Rattle.searching.proofs.row_value.Statement.{statement}
 use Rattle.searching.proofs.row_value.Tie as tie
 
-mul-at : tie.Need-mul-at
-mul-at c = search needs
+row-record-requires : tie.Need-row-record-requires
+row-record-requires c κs = search needs
 
-add-read : tie.Need-add-read
-add-read c = search needs
-
-read-requires : tie.Need-read-requires
-read-requires c κs = search needs
-
-add-read-u32 : tie.Need-add-read-u32
-add-read-u32 c = search needs
-
-read-u32-requires : tie.Need-read-u32-requires
-read-u32-requires c κs = search needs
+fraction-of-requires : tie.Need-fraction-of-requires
+fraction-of-requires c κs = search needs
 
 returns : tie.Need-returns
-returns c = rw (c .before .read .ensures .0, c .read-u32 .ensures)
+returns c = c .fraction-of .ensures ∙ ap fractionOf (c .before .row-record .ensures)
 
 pub row-value-spec : {M : Type 1} → statement M
-row-value-spec =
-    tie.close (tie.spec mul-at add-read read-requires add-read-u32 read-u32-requires returns)
+row-value-spec = tie.close (tie.spec row-record-requires fraction-of-requires returns)

@@ -1,7 +1,6 @@
 -- `searching::scan_cell` meets its contract: each turn takes in one row more of the cell, from the last one down. Assumes nothing.
 use native.Mathlib.Omega.{arith}
 use Prim.Native.Nat.{_≤_, _-_}
-use mir.Facts.{toZ-ofZ}
 use borrow.Author.Needs.{needs}
 use Rattle.searching.specs.Search.{Admitted}
 use Rattle.searching.proofs.Cells.{Walked, walk-start, walk-next, walk-end}
@@ -9,10 +8,10 @@ use Rattle.searching.proofs.scan_cell.Statement.{statement}
 use Rattle.searching.proofs.scan_cell.Tie as tie
 
 abbrev Inv-loop : tie.InvT-loop
-Inv-loop w at p c x y r best₀ h₀ best h = (h ≤ p) × Admitted p best × Walked w at p c h best₀ best
+Inv-loop w at p c label best₀ h₀ best h = (h ≤ p) × Admitted p best × Walked w at p c h best₀ best
 
 abbrev μ-loop : tie.MeasureT-loop
-μ-loop w at p c x y r best₀ h₀ best h = h
+μ-loop w at p c label best₀ h₀ best h = h
 
 last-row-requires : tie.Need-last-row-requires Inv-loop μ-loop
 last-row-requires c κs = let a = c .before in (a .pre .2, omega (arith, a .pre .1 .room))
@@ -30,7 +29,7 @@ better-requires : tie.Need-better-requires Inv-loop μ-loop
 better-requires c κs =
     let l = c .before in
     let a = l .before .before .before in
-    (rw (toZ-ofZ (a .fits .x), toZ-ofZ (a .fits .y)) (a .pre .0), omega (arith, c .loop-test .taken, l .loop .inv .0), l .loop .inv .1)
+    (a .pre .0, omega (arith, c .loop-test .taken, l .loop .inv .0), l .loop .inv .1)
 
 previous-row-requires : tie.Need-previous-row-requires Inv-loop μ-loop
 previous-row-requires c κs =

@@ -2,7 +2,6 @@
 use Rattle.fractions.specs.Order.{Small}
 use native.Mathlib.Omega.{arith}
 use mathlib.Core.Path.{sym, _∙_}
-use mir.Facts.{toZ-ofZ}
 use Rattle.fractions.specs.Laws.{less-iff}
 use Rattle.searching.proofs.Cells.{walk-start, walk-end, skip-own, skip-far, as-other}
 use borrow.Author.Needs.{needs}
@@ -21,19 +20,19 @@ returns-2 c =
     let a = l .before .before .before in
     (a .pre .3, as-other (walk-end (sym (l .last-row .ensures) ∙ c .if2 .taken) (walk-start _ (a .pre .2))))
 
-value-of-requires : tie.Need-value-of-requires
-value-of-requires c κs = search needs
+leader-value-requires : tie.Need-leader-value-requires
+leader-value-requires c κs = search needs
 
 bound-requires : tie.Need-bound-requires
 bound-requires c κs =
     let a = c .before .before .before .before .before in
-    (a .pre .2, omega (arith, a .pre .1 .room), a .pre .0 .r-small, a .pre .1 .radius-low (a .args .c) (a .pre .2))
+    (a .pre .2, omega (arith, a .pre .1 .room), a .pre .0 .radius-small, a .pre .1 .radius-low (a .args .c) (a .pre .2))
 
 less-small-requires : tie.Need-less-small-requires
 less-small-requires c κs =
     let v = c .before in
     let a = v .before .before .before .before .before in
-    let best : Small (v .value-of .result) = rw (v .value-of .ensures) (a .pre .3 .small) in
+    let best : Small (v .leader-value .result) = rw (v .leader-value .ensures) (a .pre .3 .small) in
     let bound = c .bound .ensures .small in
     search needs
 
@@ -44,8 +43,8 @@ returns-3 c =
     let v = b .before in
     let a = v .before .before .before .before .before in (
       a .pre .3,
-      skip-far (a .pre .0) (rw (toZ-ofZ (a .fits .x), toZ-ofZ (a .fits .y)) at (b .bound .ensures))
-          (rw (v .value-of .ensures) at (less-iff _ _ .0 (sym (t .less-small .ensures) ∙ c .if3 .taken))),
+      skip-far (a .pre .0) (b .bound .ensures)
+          (rw (v .leader-value .ensures) at (less-iff _ _ .0 (sym (t .less-small .ensures) ∙ c .if3 .taken))),
     )
 
 scan-cell-requires : tie.Need-scan-cell-requires
@@ -61,7 +60,7 @@ scan-other-spec =
     returns
     last-row-requires
     returns-2
-    value-of-requires
+    leader-value-requires
     bound-requires
     less-small-requires
     returns-3

@@ -2,8 +2,8 @@
 use native.Mathlib.Omega.{arith}
 use Prim.Native.Nat.{_≤_}
 use mathlib.Core.Path.{_≡_}
-use mir.Facts.{toZ-ofZ}
 use borrow.Author.Needs.{needs}
+use Rattle.grid.specs.Table.{cellCount}
 use Rattle.searching.specs.Search.{Admitted}
 use Rattle.searching.specs.Cells.{CellAdded, OthersFrom}
 use Rattle.searching.proofs.Cells.{others-none, others-more}
@@ -11,10 +11,10 @@ use Rattle.searching.proofs.scan_others.Statement.{statement}
 use Rattle.searching.proofs.scan_others.Tie as tie
 
 abbrev Inv-loop : tie.InvT-loop
-Inv-loop w at p own x y r best₀ c₀ best c = (c ≤ 80) × Admitted p best × CellAdded w at p (OthersFrom own c) best₀ best
+Inv-loop w at p own label best₀ c₀ best c = (c ≤ cellCount) × Admitted p best × CellAdded w at p (OthersFrom own c) best₀ best
 
 abbrev μ-loop : tie.MeasureT-loop
-μ-loop w at p own x y r best₀ c₀ best c = c
+μ-loop w at p own label best₀ c₀ best c = c
 
 loop-holds : tie.Need-loop-holds Inv-loop μ-loop
 loop-holds c = (omega arith, c .before .pre .2, others-none _)
@@ -26,7 +26,7 @@ scan-other-requires : tie.Need-scan-other-requires Inv-loop μ-loop
 scan-other-requires c κs =
     let l = c .before in
     let a = l .before .before in
-    (rw (toZ-ofZ (a .fits .x), toZ-ofZ (a .fits .y)) (a .pre .0), a .pre .1, omega (arith, c .loop-test .taken, l .loop .inv .0), l .loop .inv .1)
+    (a .pre .0, a .pre .1, omega (arith, c .loop-test .taken, l .loop .inv .0), l .loop .inv .1)
 
 loop-less : tie.Need-loop-less Inv-loop μ-loop
 loop-less c = search needs

@@ -1,5 +1,4 @@
 -- `searching::scan_rows` meets its contract: each turn takes in one row more. Assumes nothing.
-use mir.Facts.{toZ-ofZ}
 use native.Mathlib.Omega.{arith}
 use Prim.Native.Nat.{_≤_, _-_}
 use mathlib.Core.Path.{_≡_}
@@ -10,10 +9,10 @@ use Rattle.searching.proofs.scan_rows.Statement.{statement}
 use Rattle.searching.proofs.scan_rows.Tie as tie
 
 abbrev Inv-loop : tie.InvT-loop
-Inv-loop w p x y r best₀ q₀ best q = (q ≤ p) × Admitted p best × Adds w p (Higher q) none best
+Inv-loop w p label best₀ q₀ best q = (q ≤ p) × Admitted p best × Adds w p (Higher q) none best
 
 abbrev μ-loop : tie.MeasureT-loop
-μ-loop w p x y r best₀ q₀ best q = p - q
+μ-loop w p label best₀ q₀ best q = p - q
 
 loop-holds : tie.Need-loop-holds Inv-loop μ-loop
 loop-holds c = (omega arith, record { small = record { num-small = omega arith; den-small = omega arith }; inside = omega arith }, higher-none none)
@@ -22,7 +21,7 @@ better-requires : tie.Need-better-requires Inv-loop μ-loop
 better-requires c κs =
     let l = c .before in
     let a = l .before .before in
-    (rw (toZ-ofZ (a .fits .x), toZ-ofZ (a .fits .y)) (a .pre), c .loop-test .taken, l .loop .inv .1)
+    (a .pre, c .loop-test .taken, l .loop .inv .1)
 
 add-q : tie.Need-add-q Inv-loop μ-loop
 add-q c = search needs

@@ -1,7 +1,6 @@
 -- `searching::search` meets its contract: every row is in the cell `own` or in another one. Assumes nothing.
 use Rattle.searching.specs.Search.{none, Admitted}
 use native.Mathlib.Omega.{arith}
-use mir.Facts.{toZ-ofZ}
 use Rattle.searching.proofs.Cells.{all-cells}
 use borrow.Author.Needs.{needs}
 use Rattle.searching.proofs.search.Statement.{statement}
@@ -30,7 +29,7 @@ returns-2 c = search needs
 scan-cell-requires : tie.Need-scan-cell-requires
 scan-cell-requires c κs =
     let a = c .before .before .before .before in (
-      rw (toZ-ofZ (a .fits .x), toZ-ofZ (a .fits .y)) (a .pre .0),
+      a .pre .0,
       a .pre .1 .ready,
       a .pre .2,
       record { small = record { num-small = omega arith; den-small = omega arith }; inside = omega arith },
