@@ -37,24 +37,25 @@ difference-fits {a} {b} p q = record { sfits = omega (arith, mag-le (a -ℤ b), 
 
 -- ---- its square fits 64 bits and is not negative
 
-pub square-bound : (d : ℤ) → natAbs d ≤ 65535 → natAbs d * natAbs d ≤ 4294836225
-square-bound d h = mul-le-mul h h
+abs-most : (d : ℤ) → SFits w32 d → natAbs d ≤ 2147483648
+abs-most (pos n) f = omega (arith, f .sfits)
+abs-most (negsuc n) f = omega (arith, f .sfits)
+
+pub square-most : (d : ℤ) → SFits w32 d → natAbs d * natAbs d ≤ 4611686018427387904
+square-most d f = let h = abs-most d f in mul-le-mul h h
 
 square-is : (d : ℤ) → d *ℤ d ≡ pos (natAbs d * natAbs d)
 square-is (pos n) = refl
 square-is (negsuc n) = refl
 
-pub square-fits : (d : ℤ) → natAbs d ≤ 65535 → SFits w64 (d *ℤ d)
-square-fits d h = rw (square-is d) (record { sfits = omega (arith, square-bound d h) })
+pub square-fits : (d : ℤ) → SFits w32 d → SFits w64 (d *ℤ d)
+square-fits d f = rw (square-is d) (record { sfits = omega (arith, square-most d f) })
 
-pub square-back : (d : ℤ) → natAbs d ≤ 65535 → toZ w64 (ofZ w64 (d *ℤ d)) ≡ pos (natAbs d * natAbs d)
-square-back d h = toZ-ofZ (square-fits d h) ∙ square-is d
+pub square-back : (d : ℤ) → SFits w32 d → toZ w64 (ofZ w64 (d *ℤ d)) ≡ pos (natAbs d * natAbs d)
+square-back d f = toZ-ofZ (square-fits d f) ∙ square-is d
 
 -- ---- what a call of `difference` gives, as the next call reads it
 
 module _ {a b d : ℤ} (p : SFits w16 a) (q : SFits w16 b) (e : d ≡ toZ w16 (ofZ w16 a) -ℤ toZ w16 (ofZ w16 b)) where
   pub told : toZ w32 (ofZ w32 d) ≡ a -ℤ b
   told = rw (e, toZ-ofZ p, toZ-ofZ q) (toZ-ofZ (difference-fits p q))
-
-  pub told-bound : natAbs (toZ w32 (ofZ w32 d)) ≤ 65535
-  told-bound = rw told (difference-bound a b p q)

@@ -134,6 +134,19 @@ pub distance-grows : {a b c d : ℕ} → a ≤ c → b ≤ d → distance a b �
 unfolding distance
 distance-grows p q = omega (arith, mul-le-mul p p, mul-le-mul q q)
 
+-- No difference squared is more than it, and it is no more than the sum of their squares.
+pub distance-x : (a b : ℕ) → a * a ≤ distance a b
+unfolding distance
+distance-x a b = omega arith
+
+pub distance-y : (a b : ℕ) → b * b ≤ distance a b
+unfolding distance
+distance-y a b = omega arith
+
+pub distance-most : (a b : ℕ) → distance a b ≤ a * a + b * b
+unfolding distance
+distance-most a b = omega arith
+
 pub distance-bound : {a b : ℕ} → a ≤ 65535 → b ≤ 65535 → distance a b ≤ 8589672450
 unfolding distance
 distance-bound p q = omega (arith, mul-le-mul p p, mul-le-mul q q)

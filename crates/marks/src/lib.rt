@@ -128,9 +128,8 @@ pub fn difference(a: i16, b: i16) -> i32
     a as i32 - b as i32
 }
 
-// The square of a difference needs 32 bits without a sign, so it is taken at 64.
+// The square of a difference does not fit 32 bits, so it is taken at 64.
 fn squared(d: i32) -> u64
-    requires { ⌜ natAbs d ≤ 65535 ⌝ }
     ensures { λ r. ⌜ r ≡ natAbs d * natAbs d ⌝ }
 {
     let e = d as i64;
@@ -139,7 +138,6 @@ fn squared(d: i32) -> u64
 
 // The squared distance of two places, from their differences on the axes.
 pub fn distance(dx: i32, dy: i32) -> u64
-    requires { ⌜ (natAbs dx ≤ 65535) × (natAbs dy ≤ 65535) ⌝ }
     ensures { λ r. ⌜ r ≡ distance (natAbs dx) (natAbs dy) ⌝ }
 {
     squared(dx) + squared(dy)

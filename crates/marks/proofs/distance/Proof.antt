@@ -1,9 +1,11 @@
--- `marks::distance` meets its contract: two squares of 32 bits each fit 64 together. Assumes nothing.
+-- `marks::distance` meets its contract: two squares of 62 bits each fit 64 together. Assumes nothing.
 use native.Mathlib.Omega.{arith}
 use borrow.Author.Needs.{needs}
+use lib.IntN.{natAbs}
 use mir.Facts.{toZ-ofZ}
 use Rattle.marks.specs.Marks.{distance}
-use Rattle.marks.specs.Laws.{distance-bound}
+use Rattle.marks.specs.Laws.{distance-most}
+use Rattle.marks.proofs.Signed.{square-most}
 use Rattle.marks.proofs.distance.Statement.{statement}
 use Rattle.marks.proofs.distance.Tie as tie
 
@@ -21,8 +23,8 @@ returns c =
 
 add-result : tie.Need-add-result
 add-result c =
-    let p = c .before .before .pre in
-    omega (arith, returns c, distance-bound (p .0) (p .1))
+    let a = c .before .before in
+    omega (arith, returns c, distance-most (natAbs (a .args .dx)) (natAbs (a .args .dy)), square-most _ (a .fits .dx), square-most _ (a .fits .dy))
 
 pub distance-spec : {M : Type 1} → statement M
 distance-spec = tie.close (tie.spec squared-requires squared-requires-2 add-result returns)

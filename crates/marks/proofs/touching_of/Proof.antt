@@ -5,7 +5,7 @@ use borrow.Author.Needs.{needs, sfits-of}
 use lib.IntN.{natAbs}
 use Rattle.marks.specs.Marks.{distance, touchingOf}
 use Rattle.marks.specs.Laws.{Placed, touchingOf-small}
-use Rattle.marks.proofs.Signed.{told, told-bound}
+use Rattle.marks.proofs.Signed.{told}
 use Rattle.marks.proofs.touching_of.Statement.{statement}
 use Rattle.marks.proofs.touching_of.Tie as tie
 
@@ -36,11 +36,7 @@ difference-requires-2 : tie.Need-difference-requires-2
 difference-requires-2 c κs = search needs
 
 distance-requires : tie.Need-distance-requires
-distance-requires c κs =
-    let x = c .before .before .before in
-    let p = placed-a x in
-    let q = placed-b x in
-    (told-bound (p .x-fits) (q .x-fits) (x .difference .ensures), told-bound (p .y-fits) (q .y-fits) (c .difference2 .ensures))
+distance-requires c κs = search needs
 
 returns : tie.Need-returns
 unfolding touchingOf
