@@ -31,7 +31,7 @@ use Rattle.zoom.specs.Zoom.{stopScale, wheelScale, scaleOf}
 use Rattle.zoom.specs.Living.{livesAt}
 use Rattle.zoom.specs.Printed.{rootStep, root, zoomDown}
 use Rattle.view.specs.declared.Rectangle.{Rectangle}
-use Rattle.view.specs.Shown.{gapSquared, distanceSquared, reaches, shown}
+use Rattle.view.specs.Shown.{gap, distanceSquared, reaches, shown}
 use Rattle.bitmap.specs.Map.{mapByte, mapPart, mapBytes, countShown}
 use Rattle.view.specs.Questions as Viewing
 use Rattle.rollmap.specs.Jobs.{outcome, checkJob, scheduled, assembleJob, fillJob, logToMarksJob, marksToLogJob, shownIn, viewJob}
@@ -249,7 +249,7 @@ unfolding table answers recordOf pairs sheet marks oldSheet ofBits
     magnitude isMinus withSign areDigits isLast isPacked isPlace packedOf placeBits marksOfLog logOfMarks
     logSize recordQuestions logChecks logQuestions marksQuestions logToMarksJob marksToLogJob
     Rows.rows filledRadius filled fillQuestions markQuestions part1Questions question7 namesRight recordRight question8
-    question9 bodyQuestions checkQuestions check assembleQuestions stopScale wheelScale scaleOf livesAt gapSquared distanceSquared reaches
+    question9 bodyQuestions checkQuestions check assembleQuestions stopScale wheelScale scaleOf livesAt gap distanceSquared reaches
     shown mapByte mapPart mapBytes countShown Viewing.question10 Viewing.question11 Viewing.viewQuestions outcome checkJob scheduled
     assembleJob fillJob shownIn viewJob digits line rootStep root zoomDown markLine markLines listing refusalLine printQuestions printed
 examples = refl

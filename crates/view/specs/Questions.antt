@@ -7,7 +7,8 @@ use lib.Dec.{leb, eqb}
 use lib.Signed.{leZ}
 use Rattle.zoom.specs.declared.Zoom.{Zoom}
 use Rattle.zoom.specs.declared.Scale.{Scale}
-use Rattle.zoom.specs.Zoom.{scaleOf, scaleNumber}
+use Rattle.zoom.specs.declared.Scale.the-variants.{Taken, Refused}
+use Rattle.zoom.specs.Zoom.{scaleOf}
 use Rattle.contents.specs.Contents.{split, has}
 use Rattle.contents.specs.Asking.{Question, _asks_}
 use Rattle.sheet.specs.Questions.{checkQuestions, sheetCount}
@@ -23,6 +24,10 @@ unfoldable pub question11 : Rectangle → Bool
 question11 e = leZ (e .x0) (e .x1) && leZ (e .y0) (e .y1)
 
 -- 12. "Is the zoom taken?"
+abbrev pub scaleNumber : Scale → ℕ
+scaleNumber (Taken k) = 0
+scaleNumber Refused = 12
+
 abbrev pub isTaken : Scale → Bool
 isTaken r = eqb (scaleNumber r) 0
 

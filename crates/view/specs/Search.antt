@@ -11,6 +11,7 @@ use Rattle.lists.specs.Counting.{count, both}
 use Rattle.lists.specs.Blocks.{block}
 use Rattle.marks.specs.Marks.{shifted, usedAt}
 use Rattle.elimination.specs.Records.{valueAt}
+use Rattle.zoom.specs.Zoom.{largestScale}
 use Rattle.zoom.specs.Living.{livesAt}
 use Rattle.index.specs.Index.{beats, coordinate, axisKey}
 use Rattle.index.specs.Valid.{isTree}
@@ -85,6 +86,6 @@ pub record Searchable (shown : ℕ → Bool) (s p t map : List ℕ) (b : Bounds)
   pub fits : lo + size ≤ n
   pub room : mapSize n ≤ length map
   pub tree : isTree (beats p) (axisKey s) axis (block (entryAt t) lo size) ≡ true
-  pub taken : k ≤ 65536
+  pub taken : k ≤ largestScale
   pub lives : (m : ℕ) → shown m ≡ true → livesAt k (valueAt p m) ≡ true
   pub held : (m : ℕ) → m < n → shown m ≡ true → (axis : Bool) → Within s b m axis

@@ -4,11 +4,15 @@ ghost use mathlib.Core.Path.{_≡_};
 ghost use mathlib.Core.List.{[], _∷_};
 ghost use Prim.Native.Nat.{_+_, _*_, _/_, _<_, _≤_};
 ghost use lib.ListN.{length};
-ghost use lib.IntN.{_-ℤ_};
+ghost use lib.IntN.{pos, _-ℤ_};
 ghost use Rattle.lists.specs.Blocks.{block};
+ghost use Rattle.zoom.specs.Zoom.{largestScale};
+ghost use Rattle.marks.specs.Marks.{markSize};
+ghost use Rattle.elimination.specs.Records.{recordSize};
+ghost use Rattle.index.specs.Index.{entrySize};
 ghost use Rattle.index.specs.Blocks.{entryAt};
 ghost use Rattle.index.specs.Check.{AllMarked};
-ghost use Rattle.view.specs.Shown.{above, gapSquared, reaches, shown};
+ghost use Rattle.view.specs.Shown.{above, gap, reaches, shown};
 ghost use Rattle.view.specs.View.{Viewable, Viewed};
 ghost use Rattle.view.specs.Search.{wider, widestLiving, moved, boundsOf, boundOn, isBeyond, sizeToSearch, BitsSet, Searchable};
 
@@ -34,24 +38,22 @@ fn above(a: i16, b: i16) -> u64
     0
 }
 
-// The squared distance on an axis from a place to the interval from `low` to `high`: 0 in it. One of the two differences is 0 where
-// low ≤ high.
-fn gap_squared(low: i16, high: i16, place: i16) -> u64
-    ensures { λ r. ⌜ (r ≡ gapSquared low high place) × (r ≤ 131070 * 131070) ⌝ }
+// How far, on an axis, a place lies from the interval from `low` to `high`: 0 in it. One of the two differences is 0 where low ≤ high.
+fn gap(low: i16, high: i16, place: i16) -> i32
+    ensures { λ r. ⌜ (r ≡ pos (gap low high place)) × (gap low high place ≤ 131070) ⌝ }
 {
-    let gap = above(low, place) + above(place, high);
-    gap * gap
+    (above(low, place) + above(place, high)) as i32
 }
 
 // Does mark m's disk at z = k/64 reach the rectangle, touching included? Both products fit 64 bits. Where the point lies inside the radius
 // is not read: in a view of all places no mark's is.
 pub fn reaches(marks: &[u8], rectangle: Rectangle, k: u32, m: usize) -> bool
-    requires { ⌜ (11 * m + 11 ≤ length (now marks)) × (k ≤ 65536) ⌝ }
+    requires { ⌜ (markSize * m + markSize ≤ length (now marks)) × (k ≤ largestScale) ⌝ }
     ensures { λ r. ⌜ r ≡ reaches (now (marks .entry)) k rectangle m ⌝ }
 {
-    let x = gap_squared(rectangle.x0, rectangle.x1, marks::place_x(marks, m));
-    let y = gap_squared(rectangle.y0, rectangle.y1, marks::place_y(marks, m));
-    let squared = x + y;
+    let x = gap(rectangle.x0, rectangle.x1, marks::place_x(marks, m));
+    let y = gap(rectangle.y0, rectangle.y1, marks::place_y(marks, m));
+    let squared = marks::distance(x, y);
     if squared == 0 {
         return true;
     }
@@ -62,7 +64,7 @@ pub fn reaches(marks: &[u8], rectangle: Rectangle, k: u32, m: usize) -> bool
 
 // Sets mark m's bit if its disk at z reaches the rectangle.
 fn visit(marks: &[u8], rectangle: Rectangle, k: u32, m: usize, map: &mut [u8])
-    requires { ⌜ (11 * m + 11 ≤ length (now marks)) × (k ≤ 65536) × (m / 8 < length (now map)) ⌝ }
+    requires { ⌜ (markSize * m + markSize ≤ length (now marks)) × (k ≤ largestScale) × (m / 8 < length (now map)) ⌝ }
     ensures { λ _. ⌜ BitsSet (reaches (now (marks .entry)) k rectangle) (m ∷ []) (now (map .entry)) (now (map .exit)) ⌝ }
 {
     if reaches(marks, rectangle, k, m) {
@@ -83,7 +85,7 @@ pub struct Bounds {
 
 // The greater of `widest` and mark m's used radius, where m lives. Living is asked last: it takes a product, and most marks are not wider.
 fn wider(marks: &[u8], schedule: &[u8], k: u32, widest: u16, m: usize) -> u16
-    requires { ⌜ (11 * m + 11 ≤ length (now marks)) × (14 * m + 14 ≤ length (now schedule)) ⌝ }
+    requires { ⌜ (markSize * m + markSize ≤ length (now marks)) × (recordSize * m + recordSize ≤ length (now schedule)) ⌝ }
     ensures { λ r. ⌜ r ≡ wider (now (marks .entry)) (now (schedule .entry)) k widest m ⌝ }
 {
     let radius = marks::radius_at(marks, m);
@@ -100,7 +102,7 @@ fn wider(marks: &[u8], schedule: &[u8], k: u32, widest: u16, m: usize) -> u16
 // The greatest used radius of the n marks that live at z = k/64: 0 where none does. Only they can be shown, so that a wide mark that is
 // gone at z widens nothing.
 fn widest_living(marks: &[u8], schedule: &[u8], k: u32, n: usize) -> u16
-    requires { ⌜ (11 * n ≤ length (now marks)) × (14 * n ≤ length (now schedule)) ⌝ }
+    requires { ⌜ (markSize * n ≤ length (now marks)) × (recordSize * n ≤ length (now schedule)) ⌝ }
     ensures { λ r. ⌜ r ≡ widestLiving (now (marks .entry)) (now (schedule .entry)) k n ⌝ }
 {
     let mut widest: u16 = 0;
@@ -114,7 +116,7 @@ fn widest_living(marks: &[u8], schedule: &[u8], k: u32, n: usize) -> u16
 
 // An edge moved down by `by`, at most to 0, or up.
 fn moved(edge: i16, low: bool, by: u64) -> u64
-    requires { ⌜ by ≤ 65536 * 65535 ⌝ }
+    requires { ⌜ by ≤ largestScale * 65535 ⌝ }
     ensures { λ r. ⌜ r ≡ moved edge low by ⌝ }
 {
     let at = marks::shifted(edge) as u64;
@@ -129,7 +131,7 @@ fn moved(edge: i16, low: bool, by: u64) -> u64
 
 // The rectangle widened by what a disk of the radius `widest` takes up at z = k/64, rounded down: distances on an axis are whole.
 fn bounds_of(rectangle: Rectangle, k: u32, widest: u16) -> Bounds
-    requires { ⌜ k ≤ 65536 ⌝ }
+    requires { ⌜ k ≤ largestScale ⌝ }
     ensures { λ r. ⌜ r ≡ boundsOf rectangle k widest ⌝ }
 {
     let by = k as u64 * widest as u64 / 64;
@@ -176,7 +178,7 @@ fn size_to_search(
     other: usize,
     size: usize,
 ) -> usize
-    requires { ⌜ AllMarked (now marks) (now index) × (2 * (head + other) ≤ length (now index)) ⌝ }
+    requires { ⌜ AllMarked (now marks) (now index) × (entrySize * (head + other) ≤ length (now index)) ⌝ }
     ensures { λ r. ⌜ r ≡ sizeToSearch (now (marks .entry)) (now (index .entry)) bounds axis left head other size ⌝ }
 {
     if other == 0 {
@@ -258,7 +260,7 @@ pub fn show(
     k: u32,
     map: &mut [u8],
 ) -> u32
-    requires { ⌜ Viewable (now marks) (now schedule) (now index) (now map) n × (k ≤ 65536) ⌝ }
+    requires { ⌜ Viewable (now marks) (now schedule) (now index) (now map) n × (k ≤ largestScale) ⌝ }
     ensures { λ r. ⌜ Viewed (shown (now (marks .entry)) (now (schedule .entry)) k rectangle) n (now (map .entry)) (now (map .exit)) r ⌝ }
 {
     let size = (n + 7) / 8;

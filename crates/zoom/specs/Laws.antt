@@ -13,7 +13,7 @@ use lib.Ieee.Exact.{HasValue}
 use Rattle.lists.specs.Tests.{every}
 use Rattle.lists.specs.TestLaws.{every-at}
 use Rattle.fractions.specs.declared.Fraction.{Fraction}
-use Rattle.zoom.specs.Zoom.{stopScale, wheelScale, scaleOf, Is64}
+use Rattle.zoom.specs.Zoom.{largestScale, stopScale, wheelScale, scaleOf, Is64}
 use Rattle.zoom.specs.Printed.{root, zoomDown, LargestZoom}
 use Rattle.zoom.specs.declared.Zoom.{Zoom}
 use Rattle.zoom.specs.declared.Zoom.the-variants.{Stop, Wheel}
@@ -59,15 +59,15 @@ unfolding stopScale
 stop-refused s h = simp (lt-leb s 16 h)
 
 -- k of a zoom that is taken
-pub scale-most : (zoom : Zoom) (k : ℕ) → scaleOf zoom ≡ Taken k → k ≤ 65536
+pub scale-most : (zoom : Zoom) (k : ℕ) → scaleOf zoom ≡ Taken k → k ≤ largestScale
 unfolding scaleOf stopScale
 scale-most (Wheel w) k h = wheel-from w k h .1
 scale-most (Stop s) k h = cases (leb s 16) refl h
   where
-    cases : (t : Bool) → leb s 16 ≡ t → cond t (Taken (2 ^ s)) Refused ≡ Taken k → k ≤ 65536
+    cases : (t : Bool) → leb s 16 ≡ t → cond t (Taken (2 ^ s)) Refused ≡ Taken k → k ≤ largestScale
     cases true e g =
         let is : 2 ^ s ≡ k = cc in
-        subst (λ (i : ℕ). i ≤ 65536) is (pow-mono {i = s} {j = 16} (leb-true s 16 e))
+        subst (λ (i : ℕ). i ≤ largestScale) is (pow-mono {i = s} {j = 16} (leb-true s 16 e))
     cases false e g = absurd (let z : _≡_ {A = ℕ} 0 1 = cc in omega arith)
 
 -- ---- the printed zoom

@@ -4,12 +4,13 @@ use native.Mathlib.Omega.{arith}
 use native.Mathlib.Nat.{mul-le-mul}
 use borrow.Author.Needs.{sfits-of}
 use mir.Facts.{toZ-ofZ}
+use Rattle.zoom.specs.Zoom.{largestScale}
 use Rattle.view.specs.Search.{boundsOf}
 use Rattle.view.proofs.bounds_of.Statement.{statement}
 use Rattle.view.proofs.bounds_of.Tie as tie
 
 -- k times a radius of 16 bits
-most : (a : tie.Start) → a .args .k * a .args .widest ≤ 65536 * 65535
+most : (a : tie.Start) → a .args .k * a .args .widest ≤ largestScale * 65535
 most a =
     let radius : a .args .widest ≤ 65535 = omega arith in
     mul-le-mul (a .pre) radius

@@ -13,11 +13,12 @@ use lib.Signed.{mag}
 use borrow.Author.Tests.{leb-true, leb-false, le-leb}
 use Rattle.lists.specs.TestLaws.{by-cases, and-left, and-right}
 use Rattle.marks.specs.Marks.{xAt, yAt, shifted, usedAt}
+use Rattle.marks.specs.Laws.{distance-x, distance-y}
 use Rattle.elimination.specs.Records.{valueAt}
 use Rattle.zoom.specs.Living.{livesAt}
 use Rattle.index.specs.Index.{coordinate}
 use Rattle.view.specs.declared.Rectangle.{Rectangle}
-use Rattle.view.specs.Shown.{above, gapSquared, distanceSquared, reaches, shown}
+use Rattle.view.specs.Shown.{above, gap, distanceSquared, reaches, shown}
 use Rattle.view.specs.Search.{wider, widestLiving, moved, boundsOf, Within}
 use Rattle.view.specs.Lemmas.Places.{above-sub, shifted-from, from-above}
 
@@ -50,12 +51,12 @@ root-le a b h =
         let m : suc b ≤ a = l in
         omega (arith, mul-le-mul m m)
 
--- d is the other axis's part of the squared distance
-pub gap-most : (k r most gap d : ℕ) → r ≤ most → 4096 * (gap * gap + d) ≤ k * k * (r * r) → gap ≤ k * most / 64
-gap-most k r most gap d h reach =
-    let wide : 64 * gap * (64 * gap) ≤ k * most * (k * most) =
-    rw (mul-mul-mul-comm 64 gap 64 gap, mul-mul-mul-comm k most k most) (omega (arith, widened)) in
-    omega (arith, root-le (64 * gap) (k * most) wide)
+-- d is the squared distance, which no axis's part exceeds
+gap-most : (k r most part d : ℕ) → r ≤ most → part * part ≤ d → 4096 * d ≤ k * k * (r * r) → part ≤ k * most / 64
+gap-most k r most part d h axis reach =
+    let wide : 64 * part * (64 * part) ≤ k * most * (k * most) =
+    rw (mul-mul-mul-comm 64 part 64 part, mul-mul-mul-comm k most k most) (omega (arith, widened)) in
+    omega (arith, root-le (64 * part) (k * most) wide)
   where
     widened : k * k * (r * r) ≤ k * k * (most * most)
     widened = let same : k * k ≤ k * k = omega arith in mul-le-mul same (mul-le-mul h h)
@@ -100,42 +101,35 @@ module _ (s p : List ℕ) (k : ℕ) (e : Rectangle) (m : ℕ) where
   unfolding shown
   living-shown h = rw h
 
-  -- on an axis with the edges `low` and `high`; d is the other axis's part of the squared distance
-  within-edges : (n : ℕ) → m < n → livesAt k (valueAt p m) ≡ true → (low high z : ℤ) (d : ℕ)
-      → 4096 * (gapSquared low high z + d) ≤ k * k * (usedAt s m * usedAt s m)
+  -- on an axis with the edges `low` and `high`
+  within-edges : (n : ℕ) → m < n → shown s p k e m ≡ true
+      → (low high z : ℤ) → gap low high z * gap low high z ≤ distanceSquared s e m
       → (shifted low - k * widestLiving s p k n / 64 ≤ shifted z) × (shifted z ≤ shifted high + k * widestLiving s p k n / 64)
-  unfolding gapSquared
-  within-edges n l lives low high z d reach =
-      let gap = above (low -ℤ z) + above (z -ℤ high) in
-      let most = gap-most k (usedAt s m) (widestLiving s p k n) gap d (widest-has s p k n m l lives) reach in
+  unfolding gap
+  within-edges n l h low high z axis =
+      let wide = widest-has s p k n m l (shown-lives h) in
+      let most = gap-most k (usedAt s m) (widestLiving s p k n) (gap low high z) (distanceSquared s e m) wide axis (shown-reaches h) in
       (omega (arith, most, shifted-most low z), omega (arith, most, shifted-most z high))
 
   pub shown-within : (n : ℕ) → m < n → shown s p k e m ≡ true
       → (axis : Bool) → Within s (boundsOf e k (widestLiving s p k n)) m axis
   unfolding distanceSquared boundsOf moved coordinate
   shown-within n l h true =
-      let other = gapSquared (e .y0) (e .y1) (yAt s m) in
-      let w = within-edges n l (shown-lives h) (e .x0) (e .x1) (xAt s m) other (shown-reaches h) in
+      let w = within-edges n l h (e .x0) (e .x1) (xAt s m) (distance-x _ _) in
       record { low = w .0; high = w .1 }
   shown-within n l h false =
-      let other = gapSquared (e .x0) (e .x1) (xAt s m) in
-      let w = within-edges n l (shown-lives h) (e .y0) (e .y1) (yAt s m) other (omega (arith, shown-reaches h)) in
+      let w = within-edges n l h (e .y0) (e .y1) (yAt s m) (distance-y _ _) in
       record { low = w .0; high = w .1 }
 
 -- ---- the test as the code makes it
 
-module _ (s : List ℕ) (k : ℕ) (e : Rectangle) (m : ℕ) {x y : ℕ}
-    (x-is : x ≡ gapSquared (e .x0) (e .x1) (xAt s m)) (y-is : y ≡ gapSquared (e .y0) (e .y1) (yAt s m)) where
-  distance-is : distanceSquared s e m ≡ x + y
-  unfolding distanceSquared
-  distance-is = rw (x-is, y-is)
-
-  pub reached : {r : ℕ} → r ≡ usedAt s m → leb (4096 * (x + y)) (k * k * (r * r)) ≡ reaches s k e m
+module _ (s : List ℕ) (k : ℕ) (e : Rectangle) (m : ℕ) {d : ℕ} (d-is : d ≡ distanceSquared s e m) where
+  pub reached : {r : ℕ} → r ≡ usedAt s m → leb (4096 * d) (k * k * (r * r)) ≡ reaches s k e m
   unfolding reaches
-  reached is = rw (distance-is, is)
+  reached is = rw (d-is, is)
 
   -- a point inside
-  pub reached-inside : x + y ≡ 0 → true ≡ reaches s k e m
+  pub reached-inside : d ≡ 0 → true ≡ reaches s k e m
   unfolding reaches
   reached-inside none =
-      sym (le-leb (4096 * distanceSquared s e m) (k * k * (usedAt s m * usedAt s m)) (omega (arith, distance-is, none)))
+      sym (le-leb (4096 * distanceSquared s e m) (k * k * (usedAt s m * usedAt s m)) (omega (arith, d-is, none)))

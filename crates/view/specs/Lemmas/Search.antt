@@ -14,7 +14,8 @@ use Rattle.lists.specs.Counting.{count, non, both, below}
 use Rattle.lists.specs.Blocks.{block}
 use Rattle.lists.specs.CountLaws.{count-le, count-split, both-le}
 use Rattle.lists.specs.BlockLaws.{block-all}
-use Rattle.elimination.specs.Records.{valueAt}
+use Rattle.marks.specs.Marks.{markSize}
+use Rattle.elimination.specs.Records.{recordSize, valueAt}
 use Rattle.zoom.specs.Living.{zoomSquared, livesAt}
 use Rattle.index.specs.Index.{beats, coordinate, axisKey}
 use Rattle.index.specs.Valid.{valid, isTree}
@@ -53,7 +54,7 @@ module _ {shown : ℕ → Bool} {s p t map : List ℕ} {b : Bounds} {k lo size :
     (r : Searchable shown s p t map b k lo size axis) (some : size ≢ 0) where
   -- ---- the root
 
-  pub root-fits : {root : ℕ} → root ≡ entryAt t lo → (11 * root + 11 ≤ length s) × (14 * root + 14 ≤ length p) × (root / 8 < length map)
+  pub root-fits : {root : ℕ} → root ≡ entryAt t lo → (markSize * root + markSize ≤ length s) × (recordSize * root + recordSize ≤ length p) × (root / 8 < length map)
   root-fits i = omega (arith, r .below lo (omega arith))
 
   pub all-marked : AllMarked s t

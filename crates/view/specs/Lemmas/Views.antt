@@ -13,6 +13,7 @@ use Rattle.lists.specs.Counting.{count, both, non, below}
 use Rattle.lists.specs.Blocks.{block}
 use Rattle.lists.specs.CountLaws.{count-le, times-le}
 use Rattle.numbers.specs.Little.{Bytes}
+use Rattle.zoom.specs.Zoom.{largestScale}
 use Rattle.index.specs.Index.{indexOf}
 use Rattle.index.specs.Blocks.{entryAt}
 use Rattle.index.specs.Laws.{index-below, index-once, index-block, block-tree, index-entries}
@@ -31,7 +32,7 @@ module _ {s p t map : List ℕ} {n : ℕ} (v : Viewable s p t map n) where
   few = omega arith
 
   -- `b` is what the code has worked out
-  pub whole-searchable : {cleared : List ℕ} (k : ℕ) (e : Rectangle) {b : Bounds} → length cleared ≡ length map → k ≤ 65536
+  pub whole-searchable : {cleared : List ℕ} (k : ℕ) (e : Rectangle) {b : Bounds} → length cleared ≡ length map → k ≤ largestScale
       → b ≡ boundsOf e k (widestLiving s p k n) → Searchable (shown s p k e) s p t cleared b k 0 n true
   whole-searchable k e long taken is =
       record {

@@ -9,7 +9,7 @@ use lib.Dec.{leb, eqb}
 use lib.Pow.{pow-mono}
 use lib.Ieee.{Float, nan, inf, fin, up, down}
 use lib.Ieee.Fits.{down-pos}
-use Rattle.zoom.specs.Zoom.{stopScale, wheelScale, Is64}
+use Rattle.zoom.specs.Zoom.{largestScale, stopScale, wheelScale, Is64}
 use Rattle.zoom.specs.declared.Scale.{Scale}
 use Rattle.zoom.specs.declared.Scale.the-variants.{Taken, Refused}
 
@@ -22,7 +22,7 @@ wheel-is (fin true m e) k i = absurd (true≢false (i .2 .0))
 wheel-is (fin false m e) k i =
     let q : m * up e * 64 / down e ≡ k = ap (λ (x : ℕ). x / down e) (i .2 .1) ∙ mul-div-cancel k (down-pos e) in
     let r : m * up e * 64 % down e ≡ 0 = ap (λ (x : ℕ). x % down e) (i .2 .1) ∙ mul-mod-left k (down e) in
-    simp (q, r, le-leb 1 k (i .0), le-leb k 65536 (i .1))
+    simp (q, r, le-leb 1 k (i .0), le-leb k largestScale (i .1))
 
 -- and back: where computing gives k, w is k / 64
 pub wheel-from : (w : Float) (k : ℕ) → wheelScale w ≡ Taken k → Is64 w k
@@ -30,19 +30,19 @@ unfolding wheelScale
 wheel-from nan k h = absurd (let z : _≡_ {A = ℕ} 0 1 = cc in omega arith)
 wheel-from (inf s) k h = absurd (let z : _≡_ {A = ℕ} 0 1 = cc in omega arith)
 wheel-from (fin true m e) k h = absurd (let z : _≡_ {A = ℕ} 0 1 = cc in omega arith)
-wheel-from (fin false m e) k h = cases (eqb (x % down e) 0) (leb 1 (x / down e)) (leb (x / down e) 65536) refl refl refl h
+wheel-from (fin false m e) k h = cases (eqb (x % down e) 0) (leb 1 (x / down e)) (leb (x / down e) largestScale) refl refl refl h
   where
     x : ℕ
     x = m * up e * 64
 
-    cases : (a b c : Bool) → eqb (x % down e) 0 ≡ a → leb 1 (x / down e) ≡ b → leb (x / down e) 65536 ≡ c
+    cases : (a b c : Bool) → eqb (x % down e) 0 ≡ a → leb 1 (x / down e) ≡ b → leb (x / down e) largestScale ≡ c
         → cond (a && b && c) (Taken (x / down e)) Refused ≡ Taken k → Is64 (fin false m e) k
     cases true true true p q r g =
         let is : x / down e ≡ k = cc in
         let z : x % down e ≡ 0 = eqb-true (x % down e) 0 p in
         let v : m * up e * 64 ≡ x / down e * down e =
         sym (div-add-mod' x (down e)) ∙ ap (λ (y : ℕ). x / down e * down e + y) z ∙ add-zero (x / down e * down e) in
-        subst (Is64 (fin false m e)) is (leb-true 1 (x / down e) q, leb-true (x / down e) 65536 r, (refl, v))
+        subst (Is64 (fin false m e)) is (leb-true 1 (x / down e) q, leb-true (x / down e) largestScale r, (refl, v))
     cases true true false p q r g = absurd (let z : _≡_ {A = ℕ} 0 1 = cc in omega arith)
     cases true false c p q r g = absurd (let z : _≡_ {A = ℕ} 0 1 = cc in omega arith)
     cases false b c p q r g = absurd (let z : _≡_ {A = ℕ} 0 1 = cc in omega arith)

@@ -1,0 +1,31 @@
+-- `view::gap` meets its contract: the gap is at most 131,070. Assumes nothing.
+use mathlib.Core.Path.{_∙_}
+use native.Mathlib.Omega.{arith}
+use borrow.Author.Needs.{needs}
+use mir.Facts.{toZ-ofZ}
+use Rattle.view.specs.Shown.{gap}
+use Rattle.view.proofs.gap.Statement.{statement}
+use Rattle.view.proofs.gap.Tie as tie
+
+above-requires : tie.Need-above-requires
+above-requires c κs = search needs
+
+above-requires-2 : tie.Need-above-requires-2
+above-requires-2 c κs = search needs
+
+add-result : tie.Need-add-result
+add-result c = search needs
+
+cast-result : tie.Need-cast-result
+cast-result c = record { sfits = omega arith }
+
+returns : tie.Need-returns
+unfolding gap
+returns c =
+    let f = c .before .before .fits in
+    let low = rw (toZ-ofZ (f .low), toZ-ofZ (f .place)) at (c .before .above .ensures .0) in
+    let high = rw (toZ-ofZ (f .place), toZ-ofZ (f .high)) at (c .above2 .ensures .0) in
+    (toZ-ofZ (cast-result c) ∙ rw (low, high), rw (← low, ← high) (omega arith))
+
+pub gap-spec : {M : Type 1} → statement M
+gap-spec = tie.close (tie.spec above-requires above-requires-2 add-result cast-result returns)
