@@ -17,7 +17,7 @@ use Rattle.lists.specs.TestLaws.{or-and}
 use Rattle.numbers.specs.Little.{leAt, signed, Bytes}
 use Rattle.numbers.specs.Laws.{le-bound, signed-fits}
 use Rattle.fractions.specs.Order.{Small}
-use Rattle.marks.specs.Marks.{markSize, yOffset, priorityOffset, radiusAt, kindAt, priorityAt, usedAt, houseOf, houseValue, isKind, isRadius, usedRadius}
+use Rattle.marks.specs.Marks.{markSize, yOffset, priorityOffset, radiusAt, kindAt, priorityAt, usedAt, houseOf, isKind, isRadius, usedRadius}
 use Rattle.marks.specs.declared.House.the-variants.{Radius, Refused}
 use Rattle.marks.specs.declared.Label.{Label}
 use Rattle.marks.specs.Marks.{Group, note, spot, streak, patch, break, kindGroup, groupRadius, houseRadius, oldGroupRadius, oldRadius}
@@ -41,9 +41,6 @@ kind-iff kind = (
   (λ e. elim (decLt kind 200) [ yes l ↦ l | no l ↦ absurd (false≢true (rw (house-none kind (omega arith)) at e)) ]),
   (λ l. rw (house-there kind l)),
 )
-
-pub house-value : (kind : ℕ) → isKind kind ≡ true → houseValue (houseOf kind) ≡ houseRadius kind
-house-value kind e = ap houseValue (house-there kind (kind-iff kind .0 e))
 
 -- ---- radii
 

@@ -94,11 +94,6 @@ abbrev pub houseNumber : House → ℕ
 houseNumber (Radius radius) = 0
 houseNumber Refused = 5
 
--- and its radius, with 0 where it is refused
-abbrev pub houseValue : House → ℕ
-houseValue (Radius radius) = radius
-houseValue Refused = 0
-
 -- 5. "is the kind below 200?": `kind-iff` of Laws
 unfoldable pub isKind : ℕ → Bool
 isKind kind = eqb (houseNumber (houseOf kind)) 0
@@ -138,9 +133,6 @@ touchingOf a b =
 
 unfoldable pub touching : List ℕ → ℕ → ℕ → Fraction
 touching s a b = touchingOf (labelAt s a) (labelAt s b)
-
-unfoldable pub square : ℤ → ℕ
-square d = natAbs d * natAbs d
 
 -- ---- rank
 
