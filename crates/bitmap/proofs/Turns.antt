@@ -9,18 +9,18 @@ use lib.ListN.{length, set, take, length-set}
 use lib.Seq.{getD-set-same, getD-set-other}
 use Rattle.numbers.specs.Little.{leAt, Bytes}
 use Rattle.bitmap.specs.Map.{mapSize, bitAt, walk}
-use Rattle.bitmap.specs.Facts.{bitOf, countBits, Cleared, NextBit}
+use Rattle.bitmap.specs.Facts.{bitOf, countBits, MapCleared, NextBit}
 use Rattle.bitmap.specs.Laws.{walked-is}
 use Rattle.bitmap.specs.Lemmas.Counts.{count-bits-same, count-bits-add, count-bits-past, count-bits-le}
 use Rattle.bitmap.proofs.Words.{bit-inside, bit-outside, word-bit}
 
 -- ---- `clear`: the first i bytes are cleared
 
-pub clear-none : (map : List ℕ) → Cleared 0 map map
+pub clear-none : (map : List ℕ) → MapCleared 0 map map
 clear-none map = record { zeros = λ i h. absurd (omega arith); rest = λ i h. refl; long = refl }
 
-pub clear-more : {i : ℕ} {before map : List ℕ} → Cleared i before map → i < length before
-    → Cleared (i + 1) before (set map i 0)
+pub clear-more : {i : ℕ} {before map : List ℕ} → MapCleared i before map → i < length before
+    → MapCleared (i + 1) before (set map i 0)
 clear-more {i} {before} {map} c h =
     record {
       zeros = λ k l.

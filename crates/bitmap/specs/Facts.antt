@@ -23,7 +23,7 @@ pub record BitSet (before : List ℕ) (m : ℕ) (after : List ℕ) : Type 0 wher
   pub long : length after ≡ length before
 
 -- the first `size` bytes are 0: the other bytes and the length are as they were
-pub record Cleared (size : ℕ) (before after : List ℕ) : Type 0 where
+pub record MapCleared (size : ℕ) (before after : List ℕ) : Type 0 where
   pub zeros : (i : ℕ) → i < size → getD after i 0 ≡ 0
   pub rest : (i : ℕ) → size ≤ i → getD after i 0 ≡ getD before i 0
   pub long : length after ≡ length before

@@ -9,7 +9,7 @@ use lib.ListN.{length, getD, drop}
 use Rattle.lists.specs.Tests.{bit}
 use Rattle.numbers.specs.Little.{Bytes}
 use Rattle.bitmap.specs.Map.{mapSize, mapBytes, countShown, shownFrom, bitAt, isSet, nextSet, walk}
-use Rattle.bitmap.specs.Facts.{Shows, Cleared, Walked, countBits}
+use Rattle.bitmap.specs.Facts.{Shows, MapCleared, Walked, countBits}
 use Rattle.bitmap.specs.Lemmas.Bits.{no-bit}
 use Rattle.bitmap.specs.Lemmas.Counts as Counts
 use Rattle.bitmap.specs.Lemmas.Maps as Maps
@@ -33,7 +33,7 @@ pub map-is : {shown : ℕ → Bool} {n : ℕ} {after : List ℕ} → Shows shown
 map-is = Maps.map-is
 
 -- After clearing, the bits of the cleared bytes are 0.
-pub cleared-bit : {size : ℕ} {before after : List ℕ} → Cleared size before after
+pub cleared-bit : {size : ℕ} {before after : List ℕ} → MapCleared size before after
     → (m : ℕ) → m < 8 * size → bitAt after m ≡ 0
 cleared-bit {after = after} c m h = no-bit (getD after (m / 8) 0) (m % 8) (c .zeros (m / 8) (omega arith))
 

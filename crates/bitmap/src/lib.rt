@@ -4,7 +4,7 @@ ghost use Prim.Native.Nat.{_*_, _/_, _<_, _≤_};
 ghost use lib.ListN.{length, take};
 ghost use Rattle.numbers.specs.Little.{leAt};
 ghost use Rattle.bitmap.specs.Map.{mapSize, bitAt, walk};
-ghost use Rattle.bitmap.specs.Facts.{bitOf, countBits, BitSet, Cleared, NextBit};
+ghost use Rattle.bitmap.specs.Facts.{bitOf, countBits, BitSet, MapCleared, NextBit};
 
 // Mark m's bit, 0 or 1.
 pub fn test_bit(map: &[u8], m: usize) -> u8
@@ -25,7 +25,7 @@ pub fn set_bit(map: &mut [u8], m: usize)
 // The first `size` bytes become 0.
 pub fn clear(map: &mut [u8], size: usize)
     requires { ⌜ size ≤ length (now map) ⌝ }
-    ensures { λ _. ⌜ Cleared size (now (map .entry)) (now (map .exit)) ⌝ }
+    ensures { λ _. ⌜ MapCleared size (now (map .entry)) (now (map .exit)) ⌝ }
 {
     let mut i = 0;
     while i < size {

@@ -1,22 +1,26 @@
--- What is known of bodies that fit one another: questions 4 to 9 as statements, for the proofs of whoever goes on with them.
-use Prim.Native.Nat.{ℕ, _*_, _≤_}
+-- What is known of parts that fit one another: questions 4 to 9 as statements, for the proofs of whoever goes on with them.
+use Prim.Native.Nat.{ℕ, _*_}
 use mathlib.Core.Path.{_≡_}
 use mathlib.Core.Bool.{true}
 use mathlib.Core.List.{List}
 use lib.ListN.{length}
+use Rattle.marks.specs.Marks.{markSize}
 use Rattle.marks.specs.Good.{GoodMarks}
+use Rattle.elimination.specs.Records.{recordSize}
 use Rattle.index.specs.Index.{isIndex}
-use Rattle.contents.specs.Contents.{marksPart, schedulePart, indexPart}
-use Rattle.bodies.specs.Questions.{markCount, question8}
+use Rattle.contents.specs.Contents.{Part, has, marksPart, schedulePart, indexPart}
+use Rattle.bodies.specs.Questions.{countOf, reelOf, isSchedule}
 
--- 4 to 9: the bodies fit one another. `s` is part 1, `p` part 2, `t` part 3, `k` how many parts there are and `n` how many marks.
-pub record Fit (s p t : List ℕ) (k n : ℕ) : Type 0 where
-  pub marks : GoodMarks s n
-  pub marks-long : length s ≡ 11 * n
-  pub schedule-long : 2 ≤ k → length p ≡ 14 * n
-  pub index-long : 3 ≤ k → length t ≡ 2 * n
-  pub schedule-right : 2 ≤ k → question8 (record { marks = s; count = n }) p ≡ true
-  pub index-right : 3 ≤ k → isIndex s p t n ≡ true
+-- 4 to 6, of a sheet's parts: they hold n marks, each of them right.
+pub record Marked (parts : List Part) (n : ℕ) : Type 0 where
+  pub counted : n ≡ countOf parts
+  pub marks : GoodMarks (marksPart parts) n
 
-abbrev pub Fitting : List (List ℕ) → Type 0
-Fitting bodies = Fit (marksPart bodies) (schedulePart bodies) (indexPart bodies) (length bodies) (markCount (marksPart bodies))
+-- 4 to 9: the parts fit one another.
+pub record Fitting (parts : List Part) : Type 0 where
+  pub marks : GoodMarks (marksPart parts) (countOf parts)
+  pub marks-long : length (marksPart parts) ≡ markSize * countOf parts
+  pub schedule-long : has parts 2 ≡ true → length (schedulePart parts) ≡ recordSize * countOf parts
+  pub index-long : has parts 3 ≡ true → length (indexPart parts) ≡ 2 * countOf parts
+  pub schedule-right : has parts 2 ≡ true → isSchedule (reelOf parts) (schedulePart parts) ≡ true
+  pub index-right : has parts 3 ≡ true → isIndex (marksPart parts) (schedulePart parts) (indexPart parts) (countOf parts) ≡ true

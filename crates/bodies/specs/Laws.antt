@@ -1,4 +1,4 @@
--- What the project cites of bodies that fit one another. The proofs are in Lemmas. Assumes nothing.
+-- What the project cites of parts that fit one another. The proofs are in Lemmas. Assumes nothing.
 use Prim.Native.Nat.{ℕ, _*_, _<_, _≤_}
 use mathlib.Core.Path.{_≡_, refl}
 use lib.Dec.{eqb}
@@ -10,23 +10,26 @@ use Rattle.numbers.specs.Little.{Bytes}
 use Rattle.fractions.specs.Order.{Small}
 use Rattle.elimination.specs.Records.{fractionAt}
 use Rattle.elimination.specs.Reel.{Reel}
-use Rattle.marks.specs.Marks.{houseOf, houseNumber, isKind}
+use Rattle.marks.specs.Marks.{markSize, houseOf, houseNumber, isKind}
 use Rattle.marks.specs.Good.{GoodMarks}
 use Rattle.marks.specs.declared.House.{House}
 use Rattle.marks.specs.declared.House.the-variants.{Radius, Refused}
 use Rattle.contents.specs.Asking.{_asks_, answer}
-use Rattle.contents.specs.Lemmas.Asked.{Numbered}
-use Rattle.bodies.specs.Questions.{markCount, fieldQuestions, part1Questions, question8, bodyQuestions}
+use Rattle.contents.specs.Contents.{Part, codesOf, Writable}
+use Rattle.contents.specs.Questions.{codesRight}
+use Rattle.contents.specs.Laws.{Numbered}
+use Rattle.bodies.specs.Questions.{markCount, fieldQuestions, part1Questions, isSchedule, bodyQuestions}
 use Rattle.bodies.specs.Fitting.{Fitting}
 use Rattle.bodies.specs.Lemmas.Numbered as Numbering
 use Rattle.bodies.specs.Lemmas.Fitting as Fits
+use Rattle.bodies.specs.Lemmas.Small as Small
 use Rattle.bodies.specs.Lemmas.Records as Records
 
 -- No question of the marks or of the bodies bears the number 0.
 pub part1-numbered : (s : List ℕ) → Numbered (part1Questions s)
 part1-numbered = Numbering.part1-numbered
 
-pub bodies-numbered : (bodies : List (List ℕ)) → Numbered (bodyQuestions bodies)
+pub bodies-numbered : (parts : List Part) → Numbered (bodyQuestions parts)
 bodies-numbered = Numbering.bodies-numbered
 
 -- Asking question 5 of a kind answers the number of its house radius.
@@ -43,13 +46,17 @@ pub field-iff : (kind radius : ℕ) → (answer (fieldQuestions kind radius) ≡
 field-iff = Fits.field-iff
 
 -- to 4 to 6
-pub part1-iff : (s : List ℕ) → (answer (part1Questions s) ≡ 0) ↔ (GoodMarks s (markCount s) × (length s ≡ 11 * markCount s))
+pub part1-iff : (s : List ℕ) → (answer (part1Questions s) ≡ 0) ↔ (GoodMarks s (markCount s) × (length s ≡ markSize * markCount s))
 part1-iff = Fits.part1-iff
 
 -- and to 4 to 9
-pub fitting-iff : (bodies : List (List ℕ)) → (answer (bodyQuestions bodies) ≡ 0) ↔ Fitting bodies
+pub fitting-iff : (parts : List Part) → (answer (bodyQuestions parts) ≡ 0) ↔ Fitting parts
 fitting-iff = Fits.fitting-iff
 
+-- Parts that fit one another are small enough for the contents.
+pub fitting-writable : (parts : List Part) → Fitting parts → codesRight (codesOf parts) ≡ true → Writable parts
+fitting-writable = Small.fitting-writable
+
 -- Both numbers of a schedule record that passed question 8 are small: their cross products fit 64 bits.
-pub record-small : (r : Reel) (p : List ℕ) (m : ℕ) → Bytes (r .marks) → GoodMarks (r .marks) (r .count) → question8 r p ≡ true → m < r .count → Small (fractionAt p m)
+pub record-small : (r : Reel) (p : List ℕ) (m : ℕ) → Bytes (r .marks) → GoodMarks (r .marks) (r .count) → isSchedule r p ≡ true → m < r .count → Small (fractionAt p m)
 record-small = Records.record-small

@@ -7,23 +7,27 @@ use lib.Dec.{ltb, leb, eqb}
 use Rattle.lists.specs.Tests.{every}
 use Rattle.fractions.specs.declared.Fraction.{Fraction}
 use Rattle.fractions.specs.Order.{later}
-use Rattle.marks.specs.Marks.{kindAt, radiusAt, isKind, isRadius, outranks, touching}
+use Rattle.marks.specs.Marks.{markSize, kindAt, radiusAt, isKind, isRadius, outranks, touching}
 use Rattle.elimination.specs.declared.Record.{Record}
-use Rattle.elimination.specs.Records.{fractionOf, isNever, markRecord, valueAt}
+use Rattle.elimination.specs.Records.{recordSize, fractionOf, isNever, markRecord, valueAt}
 use Rattle.elimination.specs.Reel.{Reel}
-use Rattle.index.specs.Index.{isIndex}
-use Rattle.contents.specs.Contents.{has, marksPart, schedulePart, indexPart}
+use Rattle.index.specs.Index.{entrySize, isIndex}
+use Rattle.contents.specs.Contents.{Part, has, marksPart, schedulePart, indexPart}
 use Rattle.contents.specs.Asking.{Question, _asks_, inTurn, ifThere}
 
 -- ---- of part 1, `s`
 
 -- 4. "Is part 1 a multiple of 11 and at most 45,056 bytes?"
 unfoldable pub question4 : List ℕ → Bool
-question4 s = eqb (length s % 11) 0 && leb (length s) 45056
+question4 s = eqb (length s % markSize) 0 && leb (length s) 45056
 
 -- n: how many marks part 1 has
 abbrev pub markCount : List ℕ → ℕ
-markCount s = length s / 11
+markCount s = length s / markSize
+
+-- the reel of marks as they stand
+abbrev pub reelFrom : List ℕ → Reel
+reelFrom s = record { marks = s; count = markCount s }
 
 -- 5 and 6. "before its radius: is the kind below 200? Is the radius at most 16,383?"
 abbrev pub fieldQuestions : ℕ → ℕ → List Question
@@ -40,16 +44,7 @@ markQuestions s n = inTurn (oneMark s) n
 unfoldable pub part1Questions : List ℕ → List Question
 part1Questions s = (4 asks question4 s) ∷ markQuestions s (markCount s)
 
--- the reel of part 1
-abbrev pub reelOf : List ℕ → Reel
-reelOf s = record { marks = s; count = markCount s }
-
--- ---- of parts 2 and 3; `r` is the reel, `s` part 1, `p` part 2 and `n` the number of marks
-
--- 7. "Are parts 2 and 3, if present, 14n and 2n bytes?"
-unfoldable pub question7 : List (List ℕ) → ℕ → Bool
-question7 bodies n =
-    ifThere (has bodies 2) (eqb (length (schedulePart bodies)) (14 * n)) && ifThere (has bodies 3) (eqb (length (indexPart bodies)) (2 * n))
+-- ---- of part 2; `r` is the reel and `p` part 2
 
 -- the two numbers as they stand: "its two unreduced numbers"
 abbrev pub exactly : Fraction → Fraction → Bool
@@ -61,30 +56,49 @@ namesRight r d m =
     let by = d .eliminator in
     (ltb by (r .count) && outranks (r .marks) by m) && exactly (fractionOf d) (touching (r .marks) by m)
 
--- "Is each schedule record the 'never' record, or else .., and is that mark removed later?"
+-- a record of the schedule is right: it is "the 'never' record", or it names a mark rightly, "and is that mark removed later?"
 unfoldable pub recordRight : Reel → List ℕ → ℕ → Bool
 recordRight r p m =
     let d = markRecord p m in
     isNever d || (namesRight r d m && later (valueAt p (d .eliminator)) (valueAt p m))
 
--- 8.
-unfoldable pub question8 : Reel → List ℕ → Bool
-question8 r p = every (recordRight r p) (r .count)
+-- each record of the schedule is right
+unfoldable pub isSchedule : Reel → List ℕ → Bool
+isSchedule r p = every (recordRight r p) (r .count)
+
+-- ---- of a sheet's parts
+
+-- n: how many marks there are
+abbrev pub countOf : List Part → ℕ
+countOf parts = markCount (marksPart parts)
+
+-- the reel that they hold
+abbrev pub reelOf : List Part → Reel
+reelOf parts = reelFrom (marksPart parts)
+
+-- a part that is there has this size
+unfoldable pub isSized : Bool → ℕ → ℕ → Bool
+isSized there size wanted = ifThere there (eqb size wanted)
+
+-- 7. "Are parts 2 and 3, if present, 14n and 2n bytes?"
+unfoldable pub question7 : List Part → Bool
+question7 parts =
+    isSized (has parts 2) (length (schedulePart parts)) (recordSize * countOf parts) && isSized (has parts 3) (length (indexPart parts)) (entrySize * countOf parts)
+
+-- 8. "Is each schedule record the 'never' record, or else ..?"
+unfoldable pub question8 : List Part → Bool
+question8 parts = ifThere (has parts 2) (isSchedule (reelOf parts) (schedulePart parts))
 
 -- 9. "Is part 3 the tree that parts 1 and 2 give?"
-unfoldable pub question9 : List ℕ → List ℕ → List ℕ → ℕ → Bool
-question9 = isIndex
+unfoldable pub question9 : List Part → Bool
+question9 parts = ifThere (has parts 3) (isIndex (marksPart parts) (schedulePart parts) (indexPart parts) (countOf parts))
 
 -- ---- in their order
 
--- 4 to 9, of a sheet's bodies
-unfoldable pub bodyQuestions : List (List ℕ) → List Question
-bodyQuestions bodies =
-    let s = marksPart bodies in
-    let p = schedulePart bodies in
-    let n = markCount s in
-    part1Questions s
-    ++ ((7 asks question7 bodies n)
-    ∷ (8 asks ifThere (has bodies 2) (question8 (reelOf s) p))
-    ∷ (9 asks ifThere (has bodies 3) (question9 s p (indexPart bodies) n))
-    ∷ [])
+-- 7 to 9
+unfoldable pub lastQuestions : List Part → List Question
+lastQuestions parts = (7 asks question7 parts) ∷ (8 asks question8 parts) ∷ (9 asks question9 parts) ∷ []
+
+-- 4 to 9
+unfoldable pub bodyQuestions : List Part → List Question
+bodyQuestions parts = part1Questions (marksPart parts) ++ lastQuestions parts

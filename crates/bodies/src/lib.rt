@@ -2,18 +2,23 @@
 use elimination::RECORD_SIZE;
 use elimination::Record;
 use fractions::Fraction;
+use index::ENTRY_SIZE;
 use marks::House;
+use marks::MARK_SIZE;
 ghost use mathlib.Core.Path.{_≡_};
 ghost use mathlib.Core.Bool.{true};
+ghost use mathlib.Core.List.{map};
 ghost use Prim.Native.Nat.{_+_, _*_, _<_, _≤_};
 ghost use lib.ListN.{length};
+ghost use Rattle.marks.specs.Marks.{markSize};
 ghost use Rattle.marks.specs.Good.{GoodMarks};
 ghost use Rattle.elimination.specs.Records.{recordSize};
-ghost use Rattle.contents.specs.Contents.{given};
+ghost use Rattle.contents.specs.Contents.{together};
 ghost use Rattle.contents.specs.Asking.{answer};
-ghost use Rattle.contents.specs.Questions.{isCount};
-ghost use Rattle.bodies.specs.Questions.{question4, fieldQuestions, oneMark, markQuestions, part1Questions, exactly, namesRight, recordRight, question8, bodyQuestions};
-ghost use Rattle.bodies.specs.Stages.{sizesRight, lastQuestions};
+ghost use Rattle.contents.specs.Questions.{codesRight};
+ghost use Rattle.bodies.specs.Questions.{question4, fieldQuestions, oneMark, markQuestions, part1Questions, exactly, namesRight, recordRight};
+ghost use Rattle.bodies.specs.Questions.{isSchedule, isSized, question7, question8, question9, lastQuestions, bodyQuestions};
+ghost use Rattle.bodies.specs.Fitting.{Marked};
 
 // ---- questions 4 to 6, of part 1
 
@@ -21,7 +26,7 @@ ghost use Rattle.bodies.specs.Stages.{sizesRight, lastQuestions};
 fn is_marks(s: &[u8]) -> bool
     ensures { λ r. ⌜ r ≡ question4 (now (s .entry)) ⌝ }
 {
-    s.len() % 11 == 0 && s.len() <= 45056
+    s.len() % MARK_SIZE == 0 && s.len() <= 45056
 }
 
 // 5 and 6, of a mark's fields: its kind is asked before its radius.
@@ -40,7 +45,7 @@ pub fn fields_answer(kind: u8, radius: u16) -> u32
 
 // The same of mark m.
 fn mark_answer(s: &[u8], m: usize) -> u32
-    requires { ⌜ 11 * m + 11 ≤ length (now s) ⌝ }
+    requires { ⌜ markSize * m + markSize ≤ length (now s) ⌝ }
     ensures { λ r. ⌜ r ≡ answer (oneMark (now (s .entry)) m) ⌝ }
 {
     fields_answer(marks::kind_at(s, m), marks::written_radius_at(s, m))
@@ -48,7 +53,7 @@ fn mark_answer(s: &[u8], m: usize) -> u32
 
 // 5 and 6, mark by mark: the first 'no' of the first n marks, or 0.
 fn marks_answer(s: &[u8], n: usize) -> u32
-    requires { ⌜ 11 * n ≤ length (now s) ⌝ }
+    requires { ⌜ markSize * n ≤ length (now s) ⌝ }
     ensures { λ r. ⌜ r ≡ answer (markQuestions (now (s .entry)) n) ⌝ }
 {
     let mut m = 0;
@@ -69,10 +74,10 @@ pub fn part1_answer(s: &[u8]) -> u32
     if !is_marks(s) {
         return 4;
     }
-    marks_answer(s, s.len() / 11)
+    marks_answer(s, s.len() / MARK_SIZE)
 }
 
-// ---- question 8, of part 2
+// ---- part 2: is each record right?
 
 // Are these the same two numbers?
 fn exactly(f: Fraction, g: Fraction) -> bool
@@ -115,10 +120,10 @@ fn record_right(marks: &[u8], schedule: &[u8], n: usize, m: usize) -> bool
     )
 }
 
-// 8. Is each record right?
-pub fn is_schedule(marks: &[u8], schedule: &[u8], n: usize) -> bool
+// Is each record right?
+fn is_schedule(marks: &[u8], schedule: &[u8], n: usize) -> bool
     requires { ⌜ GoodMarks (now marks) n × (recordSize * n ≤ length (now schedule)) ⌝ }
-    ensures { λ r. ⌜ r ≡ question8 (record { marks = now (marks .entry); count = n }) (now (schedule .entry)) ⌝ }
+    ensures { λ r. ⌜ r ≡ isSchedule (record { marks = now (marks .entry); count = n }) (now (schedule .entry)) ⌝ }
 {
     let mut m = 0;
     while m < n {
@@ -130,57 +135,86 @@ pub fn is_schedule(marks: &[u8], schedule: &[u8], n: usize) -> bool
     true
 }
 
-// ---- questions 7 to 9, and 4 to 9
+// ---- questions 7 to 9, and 4 to 9, of the bodies under these codes
 
-// 7, of the lengths of parts 2 and 3: are those that are there 14n and 2n bytes?
-fn has_sizes(count: usize, schedule: usize, index: usize, n: usize) -> bool
-    requires { ⌜ n ≤ 4096 ⌝ }
-    ensures { λ r. ⌜ r ≡ sizesRight count schedule index n ⌝ }
+// Has a part that is there this size?
+fn is_sized(there: bool, size: usize, wanted: usize) -> bool
+    ensures { λ r. ⌜ r ≡ isSized there size wanted ⌝ }
 {
-    if count < 2 {
+    if there {
+        return size == wanted;
+    }
+    true
+}
+
+// 7. Are parts 2 and 3, if present, 14n and 2n bytes?
+fn has_sizes(codes: &[u16], bodies: &[&[u8]], n: usize) -> bool
+    requires { ⌜ (length (now codes) ≡ length (now bodies)) × (0 < length (now bodies)) × Marked (together (now codes) (map now (now bodies))) n ⌝ }
+    ensures { λ r. ⌜ r ≡ question7 (together (now (codes .entry)) (map now (now (bodies .entry)))) ⌝ }
+{
+    let schedule = contents::find(codes, bodies, 2).len();
+    let index = contents::find(codes, bodies, 3).len();
+    is_sized(contents::names(codes, 2), schedule, RECORD_SIZE * n)
+        & is_sized(contents::names(codes, 3), index, ENTRY_SIZE * n)
+}
+
+// 8. Is each record of part 2 right?
+fn has_schedule(codes: &[u16], bodies: &[&[u8]], n: usize) -> bool
+    requires { ⌜ (length (now codes) ≡ length (now bodies)) × (0 < length (now bodies)) × Marked (together (now codes) (map now (now bodies))) n ⌝ }
+    requires { ⌜ question7 (together (now codes) (map now (now bodies))) ≡ true ⌝ }
+    ensures { λ r. ⌜ r ≡ question8 (together (now (codes .entry)) (map now (now (bodies .entry)))) ⌝ }
+{
+    if !contents::names(codes, 2) {
         return true;
     }
-    if schedule != 14 * n {
-        return false;
-    }
-    if count < 3 {
+    is_schedule(
+        contents::find(codes, bodies, 1),
+        contents::find(codes, bodies, 2),
+        n,
+    )
+}
+
+// 9. Is part 3 the tree that parts 1 and 2 give? It is there only with part 2.
+fn has_index(codes: &[u16], bodies: &[&[u8]], n: usize) -> bool
+    requires { ⌜ (length (now codes) ≡ length (now bodies)) × (0 < length (now bodies)) × Marked (together (now codes) (map now (now bodies))) n ⌝ }
+    requires { ⌜ (question7 (together (now codes) (map now (now bodies))) ≡ true) × (codesRight (now codes) ≡ true) ⌝ }
+    ensures { λ r. ⌜ r ≡ question9 (together (now (codes .entry)) (map now (now (bodies .entry)))) ⌝ }
+{
+    if !contents::names(codes, 3) {
         return true;
     }
-    index == 2 * n
+    index::is_index(
+        contents::find(codes, bodies, 1),
+        contents::find(codes, bodies, 2),
+        contents::find(codes, bodies, 3),
+        n,
+    )
 }
 
 // 7 to 9: the first 'no', or 0.
-fn last_answer(count: usize, marks: &[u8], schedule: &[u8], index: &[u8], n: usize) -> u32
-    requires { ⌜ GoodMarks (now marks) n ⌝ }
-    ensures { λ r. ⌜ r ≡ answer (lastQuestions (now (marks .entry)) (now (schedule .entry)) (now (index .entry)) count n) ⌝ }
+fn last_answer(codes: &[u16], bodies: &[&[u8]], n: usize) -> u32
+    requires { ⌜ (length (now codes) ≡ length (now bodies)) × (0 < length (now bodies)) × Marked (together (now codes) (map now (now bodies))) n ⌝ }
+    requires { ⌜ codesRight (now codes) ≡ true ⌝ }
+    ensures { λ r. ⌜ r ≡ answer (lastQuestions (together (now (codes .entry)) (map now (now (bodies .entry))))) ⌝ }
 {
-    if !has_sizes(count, schedule.len(), index.len(), n) {
+    if !has_sizes(codes, bodies, n) {
         return 7;
     }
-    if count < 2 {
-        return 0;
-    }
-    if !is_schedule(marks, schedule, n) {
+    if !has_schedule(codes, bodies, n) {
         return 8;
     }
-    if count < 3 {
-        return 0;
-    }
-    if index::is_index(marks, schedule, index, n) {
-        0
-    } else {
-        9
-    }
+    if has_index(codes, bodies, n) { 0 } else { 9 }
 }
 
-// 4 to 9, of the first `count` of three bodies: the first 'no', or 0.
-pub fn bodies_answer(count: usize, body1: &[u8], body2: &[u8], body3: &[u8]) -> u32
-    requires { ⌜ isCount count ≡ true ⌝ }
-    ensures { λ r. ⌜ r ≡ answer (bodyQuestions (given count (now (body1 .entry)) (now (body2 .entry)) (now (body3 .entry)))) ⌝ }
+// 4 to 9: the first 'no', or 0. The codes are right.
+pub fn bodies_answer(codes: &[u16], bodies: &[&[u8]]) -> u32
+    requires { ⌜ (length (now codes) ≡ length (now bodies)) × (0 < length (now bodies)) × (codesRight (now codes) ≡ true) ⌝ }
+    ensures { λ r. ⌜ r ≡ answer (bodyQuestions (together (now (codes .entry)) (map now (now (bodies .entry))))) ⌝ }
 {
-    let number = part1_answer(body1);
+    let marks = contents::find(codes, bodies, 1);
+    let number = part1_answer(marks);
     if number != 0 {
         return number;
     }
-    last_answer(count, body1, body2, body3, body1.len() / 11)
+    last_answer(codes, bodies, marks.len() / MARK_SIZE)
 }

@@ -1,29 +1,78 @@
--- 01, "The sheet: contents, then bodies". `s` is a sheet's bytes; a sheet's bodies are a list, that of code 1 first.
+-- 01, "The sheet: contents, then bodies": a sheet is a list of parts, each a body under a code. `s` is a sheet's bytes.
 use Prim.Native.Nat.{ℕ, zero, suc, _+_, _*_, _^_, _<_}
-use mathlib.Core.Bool.{Bool}
-use mathlib.Core.List.{List, [], _∷_, _++_}
+use mathlib.Core.Bool.{Bool, false, cond, _||_}
+use mathlib.Core.List.{List, [], _∷_, _++_, map}
 use lib.ListN.{length, getD, take, drop}
-use lib.Dec.{leb}
+use lib.Dec.{eqb}
 use Rattle.numbers.specs.Little.{leAt, leBytes}
+
+pub record Part : Type 0 where
+  pub code : ℕ
+  pub body : List ℕ
+
+infix 20 _holds_
+abbrev pub _holds_ : ℕ → List ℕ → Part
+code holds body = record { code = code; body = body }
+
+-- ---- the parts of a list
+
+abbrev pub codesOf : List Part → List ℕ
+codesOf parts = map (λ (p : Part). p .code) parts
+
+abbrev pub bodiesOf : List Part → List (List ℕ)
+bodiesOf parts = map (λ (p : Part). p .body) parts
+
+abbrev pub sizesOf : List (List ℕ) → List ℕ
+sizesOf bodies = map length bodies
+
+-- the body under this code; a part that is not there counts as empty
+abbrev pub find : List Part → ℕ → List ℕ
+find [] code = []
+find (p ∷ parts) code = cond (eqb (p .code) code) (p .body) (find parts code)
+
+-- Does a list name this code?
+abbrev pub names : List ℕ → ℕ → Bool
+names [] code = false
+names (c ∷ codes) code = eqb c code || names codes code
+
+-- Is there a part of this code?
+abbrev pub has : List Part → ℕ → Bool
+has parts code = names (codesOf parts) code
+
+-- "Part 1: the marks." "Part 2: the schedule." "Part 3: the index."
+abbrev pub marksPart : List Part → List ℕ
+marksPart parts = find parts 1
+
+abbrev pub schedulePart : List Part → List ℕ
+schedulePart parts = find parts 2
+
+abbrev pub indexPart : List Part → List ℕ
+indexPart parts = find parts 3
 
 -- ---- reading
 
 -- "Contents: number of parts (2 bytes, 1 to 3), then per part 10 bytes: code (2), offset (4), length (4)." Entries are counted from 0.
+abbrev pub countSize : ℕ
+countSize = 2
+
+abbrev pub entrySize : ℕ
+entrySize = 10
+
+-- how many bytes the contents of k parts take: where entry k would start
+abbrev pub contentsSize : ℕ → ℕ
+contentsSize k = entrySize * k + countSize
+
 abbrev pub countAt : List ℕ → ℕ
 countAt s = leAt 2 s 0
 
 abbrev pub codeAt : List ℕ → ℕ → ℕ
-codeAt s i = leAt 2 s (10 * i + 2)
+codeAt s i = leAt 2 s (contentsSize i)
 
 abbrev pub offsetAt : List ℕ → ℕ → ℕ
-offsetAt s i = leAt 4 s (10 * i + 4)
+offsetAt s i = leAt 4 s (contentsSize i + 2)
 
 abbrev pub lengthAt : List ℕ → ℕ → ℕ
-lengthAt s i = leAt 4 s (10 * i + 8)
-
--- how many bytes the contents of k parts take
-abbrev pub contentsSize : ℕ → ℕ
-contentsSize k = 10 * k + 2
+lengthAt s i = leAt 4 s (contentsSize i + 6)
 
 -- "The first body starts right after the contents, each next one where the last ended": where body i has to start.
 unfoldable pub startAt : List ℕ → ℕ → ℕ
@@ -33,53 +82,49 @@ startAt s (suc i) = offsetAt s i + lengthAt s i
 abbrev pub bodyAt : List ℕ → ℕ → List ℕ
 bodyAt s i = take (lengthAt s i) (drop (offsetAt s i) s)
 
--- the first k bodies of a sheet
-abbrev pub firstBodies : List ℕ → ℕ → List (List ℕ)
-firstBodies s zero = []
-firstBodies s (suc k) = firstBodies s k ++ (bodyAt s k ∷ [])
+-- the first k parts of a sheet
+abbrev pub firstParts : List ℕ → ℕ → List Part
+firstParts s zero = []
+firstParts s (suc k) = firstParts s k ++ ((codeAt s k holds bodyAt s k) ∷ [])
 
--- the bodies of a sheet
-unfoldable pub split : List ℕ → List (List ℕ)
-split s = firstBodies s (countAt s)
+-- the parts of a sheet
+unfoldable pub split : List ℕ → List Part
+split s = firstParts s (countAt s)
 
 -- ---- writing
 
--- the entries of the bodies, of which the first has this code and this offset
-unfoldable pub entries : ℕ → ℕ → List (List ℕ) → List ℕ
-entries code offset [] = []
-entries code offset (b ∷ bodies) =
-    leBytes 2 code ++ (leBytes 4 offset ++ (leBytes 4 (length b) ++ entries (suc code) (offset + length b) bodies))
+abbrev pub entry : ℕ → ℕ → ℕ → List ℕ
+entry code offset size = leBytes 2 code ++ (leBytes 4 offset ++ leBytes 4 size)
+
+-- the entries of parts of these codes and sizes, of which the first has this offset
+unfoldable pub entries : ℕ → List ℕ → List ℕ → List ℕ
+entries offset [] sizes = []
+entries offset (code ∷ codes) [] = []
+entries offset (code ∷ codes) (size ∷ sizes) = entry code offset size ++ entries (offset + size) codes sizes
+
+-- the contents, which depend on the codes and the sizes alone
+unfoldable pub contentsOf : List ℕ → List ℕ → List ℕ
+contentsOf codes sizes = leBytes 2 (length codes) ++ entries (contentsSize (length codes)) codes sizes
 
 -- the bodies, one after the other
 unfoldable pub chain : List (List ℕ) → List ℕ
 chain [] = []
-chain (b ∷ bodies) = b ++ chain bodies
+chain (body ∷ bodies) = body ++ chain bodies
 
--- the sheet of these bodies
-unfoldable pub join : List (List ℕ) → List ℕ
-join bodies = leBytes 2 (length bodies) ++ (entries 1 (contentsSize (length bodies)) bodies ++ chain bodies)
+-- the sheet of these parts
+unfoldable pub join : List Part → List ℕ
+join parts = contentsOf (codesOf parts) (sizesOf (bodiesOf parts)) ++ chain (bodiesOf parts)
 
--- bodies whose number, offsets and lengths fit the fields that hold them
-pub record Writable (bodies : List (List ℕ)) : Type 0 where
-  pub count-fits : length bodies < 2 ^ 16
-  pub size-fits : length (join bodies) < 2 ^ 32
+-- parts whose number, codes, offsets and lengths fit the fields that hold them
+pub record Writable (parts : List Part) : Type 0 where
+  pub count-fits : length parts < 2 ^ 16
+  pub codes-fit : (i : ℕ) → getD (codesOf parts) i 0 < 2 ^ 16
+  pub size-fits : length (join parts) < 2 ^ 32
 
--- ---- the parts
+-- ---- codes and bodies that are given apart
 
--- Is there a part of this code?
-abbrev pub has : List (List ℕ) → ℕ → Bool
-has bodies code = leb code (length bodies)
-
--- "Part 1: the marks." "Part 2: the schedule." "Part 3: the index." A part that is not there counts as empty.
-abbrev pub marksPart : List (List ℕ) → List ℕ
-marksPart bodies = getD bodies 0 []
-
-abbrev pub schedulePart : List (List ℕ) → List ℕ
-schedulePart bodies = getD bodies 1 []
-
-abbrev pub indexPart : List (List ℕ) → List ℕ
-indexPart bodies = getD bodies 2 []
-
--- "takes the number of parts (1 to 3) and that many bodies; further bodies are ignored"
-abbrev pub given : ℕ → List ℕ → List ℕ → List ℕ → List (List ℕ)
-given k body1 body2 body3 = take k (body1 ∷ body2 ∷ body3 ∷ [])
+-- the parts of these codes and bodies, one by one
+abbrev pub together : List ℕ → List (List ℕ) → List Part
+together [] bodies = []
+together (code ∷ codes) [] = []
+together (code ∷ codes) (body ∷ bodies) = (code holds body) ∷ together codes bodies

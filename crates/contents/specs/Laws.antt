@@ -1,58 +1,87 @@
 -- What the project cites of questions put in turn, of a sheet's contents and of writing a sheet. The proofs are in Lemmas. Assumes nothing.
-use Prim.Native.Nat.{ℕ, _+_, _<_, _≤_}
-use mathlib.Core.Path.{_≡_}
-use mathlib.Core.Bool.{cond}
-use mathlib.Core.List.{List, [], _++_, map}
-use mathlib.Core.Logic.{_↔_}
-use lib.Dec.{eqb}
-use lib.ListN.{length}
-use lib.Seq.{sets}
+use Prim.Native.Nat.{ℕ, _+_, _*_, _<_, _≤_}
+use mathlib.Core.Path.{_≡_, refl}
+use mathlib.Core.Bool.{true, false}
+use mathlib.Core.List.{List, [], _∷_}
+use mathlib.Core.Logic.{_↔_, _⊎_}
+use borrow.Author.Tests.{ltb-true, lt-ltb}
+use Rattle.lists.specs.TestLaws.{same-test}
+use lib.ListN.{length, getD}
 use Rattle.numbers.specs.Little.{Bytes}
-use Rattle.contents.specs.Contents.{countAt, contentsSize, split, chain, join, Writable, given}
-use Rattle.contents.specs.Asking.{Question, answer}
-use Rattle.contents.specs.Questions.{contentsQuestions}
+use Rattle.contents.specs.Contents.{Part, codesOf, bodiesOf, names, has, find, countAt, contentsSize, split, contentsOf, chain, join, Writable, together}
+use Rattle.contents.specs.Asking.{answer}
+use Rattle.contents.specs.Questions.{topCode, isCount, codesRight, contentsQuestions}
 use Rattle.contents.specs.Laid.{Laid}
-use Rattle.contents.specs.Written.{contentsOf}
+use Rattle.contents.specs.Places.{layoutOf, noParts, placeOf, isThere, cutOf, Located}
 use Rattle.contents.specs.Lemmas.Asked as Asked
 use Rattle.contents.specs.Lemmas.Asked.{Numbered}
+use Rattle.contents.specs.Lemmas.Turns as Turns
 use Rattle.contents.specs.Lemmas.Laid as Laying
+use Rattle.contents.specs.Lemmas.Codes as Codes
 use Rattle.contents.specs.Lemmas.Parts as Parts
 use Rattle.contents.specs.Lemmas.Entries as Entries
 use Rattle.contents.specs.Lemmas.Joined as Joined
+use Rattle.contents.specs.Lemmas.Places as Places
 use Rattle.contents.specs.Lemmas.Writing as Writing
+-- ---- answers: one question, one list after another, and questions put to one thing after another
 
--- ---- answers
-
-module _ (first rest : List Question) (numbered : Numbered first) where
-  -- The first 'no' of the first list, else of the second.
-  pub answer-append : answer (first ++ rest) ≡ cond (eqb (answer first) 0) (answer rest) (answer first)
-  answer-append = Asked.answer-append first rest numbered
-
-  pub append-yes : answer first ≡ 0 → answer (first ++ rest) ≡ answer rest
-  append-yes = Asked.append-yes first rest numbered
-
-  pub append-no : 0 < answer first → answer (first ++ rest) ≡ answer first
-  append-no = Asked.append-no first rest numbered
-
-  pub append-iff : (answer (first ++ rest) ≡ 0) ↔ ((answer first ≡ 0) × (answer rest ≡ 0))
-  append-iff = Asked.append-iff first rest numbered
+pub use Rattle.contents.specs.Lemmas.Asked.{Numbered, numbered-append, none-asked, asked-yes, asked-no, asked-iff}
+pub use Rattle.contents.specs.Lemmas.Asked.{append-yes, append-no, append-iff}
+pub use Rattle.contents.specs.Lemmas.Turns.{turn-numbered, turn-none, turn-more, turn-stop, turn-at, turn-of}
 
 -- ---- the contents
 
 -- what the answer 0 to questions 1 to 3 says
+pub contents-numbered : (s : List ℕ) → Numbered (contentsQuestions s)
+contents-numbered = Laying.contents-numbered
+
 pub laid-iff : (s : List ℕ) → (answer (contentsQuestions s) ≡ 0) ↔ Laid s
-laid-iff s = ((λ e. Laying.laid-iff s [] .0 e .0), (λ l. Laying.laid-iff s [] .1 (l, Asked.none-asked)))
+laid-iff = Laying.laid-iff
+
+pub count-iff : (k : ℕ) → (isCount k ≡ true) ↔ ((1 ≤ k) × (k ≤ topCode))
+count-iff = Laying.count-iff
+
+-- Question 2 takes these three lists of codes and no other.
+pub codes-iff : (codes : List ℕ) → (codesRight codes ≡ true) ↔ ((codes ≡ 1 ∷ []) ⊎ ((codes ≡ 1 ∷ 2 ∷ []) ⊎ (codes ≡ 1 ∷ 2 ∷ 3 ∷ [])))
+codes-iff = Codes.codes-iff
+
+-- codes that question 2 takes: at least one, at most as many as there are, each at most the top code
+module _ (codes : List ℕ) (right : codesRight codes ≡ true) where
+  pub codes-some : 1 ≤ length codes
+  codes-some = Codes.codes-some codes right
+
+  pub codes-few : length codes ≤ topCode
+  codes-few = Codes.codes-few codes right
+
+  -- part 3 is there only with part 2
+  pub two-there : names codes 3 ≡ true → names codes 2 ≡ true
+  two-there = Codes.two-there codes right
+
+  pub codes-positive : (i : ℕ) → i < length codes → 0 < getD codes i 0
+  codes-positive = Codes.codes-positive codes right
+
+  pub codes-most : (i : ℕ) → getD codes i 0 ≤ topCode
+  codes-most = Codes.codes-most codes right
+
+-- no code stands twice: under its own code a part is found
+pub find-own : (parts : List Part) → codesRight (codesOf parts) ≡ true → (i : ℕ) → i < length parts
+    → find parts (getD (codesOf parts) i 0) ≡ getD (bodiesOf parts) i []
+find-own = Codes.find-own
 
 pub split-length : (s : List ℕ) → length (split s) ≡ countAt s
 split-length = Parts.split-length
 
-pub given-length : (k : ℕ) (body1 body2 body3 : List ℕ) → k ≤ 3 → length (given k body1 body2 body3) ≡ k
-given-length = Parts.given-length
+pub find-none : (parts : List Part) (code : ℕ) → has parts code ≡ false → find parts code ≡ []
+find-none = Parts.find-none
+
+-- The parts of a list of bytes are lists of bytes.
+pub find-bytes : (s : List ℕ) → Bytes s → (code : ℕ) → Bytes (find (split s) code)
+find-bytes = Parts.find-bytes
 
 -- ---- joining and splitting
 
--- Join then split gives the bodies back, of any number of parts.
-pub split-join : (bodies : List (List ℕ)) → Writable bodies → split (join bodies) ≡ bodies
+-- Join then split gives the parts back, of any number and any codes.
+pub split-join : (parts : List Part) → Writable parts → split (join parts) ≡ parts
 split-join = Joined.split-join
 
 -- Split then join gives a sheet back, byte for byte, where its contents are right.
@@ -60,22 +89,52 @@ pub join-split : (s : List ℕ) → Bytes s → Laid s → join (split s) ≡ s
 join-split s b l = Joined.join-split s l b
 
 -- The contents of a joined sheet pass questions 1 to 3.
-pub join-laid : (bodies : List (List ℕ)) → 1 ≤ length bodies → length bodies ≤ 3 → Writable bodies → Laid (join bodies)
-join-laid bodies some few fits = Joined.join-laid bodies fits some few
+pub join-laid : (parts : List Part) → Writable parts → codesRight (codesOf parts) ≡ true → Laid (join parts)
+join-laid = Joined.join-laid
 
--- ---- for whoever writes a sheet: the contents, then the bodies
-
-pub join-contents : (bodies : List (List ℕ)) → join bodies ≡ contentsOf (map length bodies) ++ chain bodies
-join-contents = Entries.join-contents
-
-pub contents-length : (sizes : List ℕ) → length (contentsOf sizes) ≡ contentsSize (length sizes)
-contents-length = Entries.contents-length
-
-pub join-length : (bodies : List (List ℕ)) → length (join bodies) ≡ contentsSize (length bodies) + length (chain bodies)
+pub join-length : (parts : List Part) → length (join parts) ≡ contentsSize (length parts) + length (chain (bodiesOf parts))
 join-length = Entries.join-length
 
--- three bodies, one after the other
-pub bodies-sets : (l : List ℕ) {l₁ l₂ l₃ : List ℕ} (a b c : List ℕ) (at : ℕ) {i j : ℕ}
-    → (i ≡ at + length a) × (l₁ ≡ sets l at a) → (j ≡ i + length b) × (l₂ ≡ sets l₁ i b) → l₃ ≡ sets l₂ j c
-    → l₃ ≡ sets l at (a ++ (b ++ c))
-bodies-sets = Writing.bodies-sets
+-- bodies of at most `most` bytes each
+pub chain-most : (most : ℕ) (bodies : List (List ℕ)) → ((i : ℕ) → i < length bodies → length (getD bodies i []) ≤ most)
+    → length (chain bodies) ≤ most * length bodies
+chain-most = Parts.chain-most
+
+-- ---- where the parts lie, by a layout
+
+-- The bytes at the place of a code are its part's, and the place is above 0 exactly where the part is there.
+pub layout-part : (s : List ℕ) → Laid s → (code : ℕ) → cutOf s (placeOf (layoutOf s) code) ≡ find (split s) code
+layout-part s laid code = Places.layout-at s laid code .0
+
+pub layout-located : (s : List ℕ) → Laid s → (code : ℕ)
+    → Located s (split s) code ((placeOf (layoutOf s) code) .offset) ((placeOf (layoutOf s) code) .length)
+layout-located s laid code = Places.layout-at s laid code .1
+
+pub layout-there : (s : List ℕ) → Laid s → (code : ℕ) → isThere (layoutOf s) code ≡ has (split s) code
+layout-there s laid code =
+    let at = layout-located s laid code .there in
+    same-test (isThere (layoutOf s) code) (has (split s) code) (λ e. at .0 (ltb-true _ _ e)) (λ e. lt-ltb _ _ (at .1 e))
+
+-- without parts
+pub none-part : (s : List ℕ) (code : ℕ) → cutOf s (placeOf noParts code) ≡ []
+none-part s code = rw (Places.place-none code) (Places.cut-nowhere s)
+
+pub none-located : (s : List ℕ) (code : ℕ) → Located s [] code ((placeOf noParts code) .offset) ((placeOf noParts code) .length)
+none-located s code = rw (Places.place-none code) (Places.located-none s [] code refl)
+
+-- ---- codes and bodies, apart and together
+
+module _ (codes : List ℕ) (bodies : List (List ℕ)) (same : length codes ≡ length bodies) where
+  pub together-codes : codesOf (together codes bodies) ≡ codes
+  together-codes = Parts.together-codes codes bodies same
+
+  pub together-bodies : bodiesOf (together codes bodies) ≡ bodies
+  together-bodies = Parts.together-bodies codes bodies same
+
+pub together-parts : (parts : List Part) → together (codesOf parts) (bodiesOf parts) ≡ parts
+together-parts = Parts.together-parts
+
+-- ---- for whoever writes a sheet
+
+pub contents-length : (codes sizes : List ℕ) → length codes ≡ length sizes → length (contentsOf codes sizes) ≡ contentsSize (length codes)
+contents-length = Entries.contents-length

@@ -2,8 +2,9 @@
 pub mod Asked
 pub mod Turns
 pub mod Parts
+pub mod Codes
 pub mod Laid
 pub mod Entries
 pub mod Joined
-pub mod Cut
+pub mod Places
 pub mod Writing

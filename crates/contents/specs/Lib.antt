@@ -3,7 +3,6 @@ pub mod Contents
 pub mod Asking
 pub mod Questions
 pub mod Laid
-pub mod Extent
-pub mod Written
+pub mod Places
 pub mod Laws
 pub mod Lemmas

@@ -1,16 +1,29 @@
-// The contents of a sheet: questions 1 to 3, where the bodies lie, and writing.
+// The contents of a sheet: questions 1 to 3, where the parts lie, and writing.
 ghost use mathlib.Core.Path.{_≡_};
 ghost use mathlib.Core.Bool.{true};
-ghost use mathlib.Core.List.{[], _++_};
-ghost use Prim.Native.Nat.{ℕ, _+_, _*_, _<_, _≤_};
-ghost use lib.ListN.{length, getD};
+ghost use mathlib.Core.List.{[], map};
+ghost use Prim.Native.Nat.{ℕ, _+_, _<_, _≤_};
+ghost use lib.Dec.{leb};
+ghost use lib.ListN.{length, getD, take};
 ghost use lib.Seq.{sets};
-ghost use Rattle.contents.specs.Contents.{countAt, codeAt, offsetAt, lengthAt, contentsSize, split};
+ghost use Rattle.contents.specs.Contents.{codesOf, bodiesOf, names, countAt, codeAt, offsetAt, lengthAt, contentsSize, split};
+ghost use Rattle.contents.specs.Contents.{sizesOf, entry, contentsOf, chain, join, together, find};
 ghost use Rattle.contents.specs.Asking.{answer};
-ghost use Rattle.contents.specs.Questions.{isCount, question1, question2, question3, contentsQuestions};
+ghost use Rattle.contents.specs.Questions.{isCount, rising, codesRight, question1, question2, question3, contentsQuestions};
 ghost use Rattle.contents.specs.Laid.{Whole, Laid};
-ghost use Rattle.contents.specs.Extent.{nowhere, extentAt, cutOf};
-ghost use Rattle.contents.specs.Written.{entry, contentsOf, partsOf};
+ghost use Rattle.contents.specs.Places.{nowhere, extentAt, layoutOf, noParts, placeOf, withPlace, isThere, cutOf};
+
+// The greatest code of a part, and so the most parts that a sheet has.
+const TOP: usize = 3;
+
+// The sizes of the number of parts and of an entry, whose fields are code (2 bytes), offset (4) and length (4).
+const COUNT_SIZE: usize = 2;
+
+const ENTRY_SIZE: usize = 10;
+
+const OFFSET: usize = 2;
+
+const LENGTH: usize = 6;
 
 // ---- the fields of the contents
 
@@ -22,25 +35,25 @@ pub fn count_at(s: &[u8]) -> usize
     numbers::read(s, 0, 2) as usize
 }
 
-fn code_at(s: &[u8], i: usize) -> usize
-    requires { ⌜ 10 * i + 12 ≤ length (now s) ⌝ }
+fn code_at(s: &[u8], i: usize) -> u16
+    requires { ⌜ contentsSize (i + 1) ≤ length (now s) ⌝ }
     ensures { λ r. ⌜ r ≡ codeAt (now (s .entry)) i ⌝ }
 {
-    numbers::read(s, 10 * i + 2, 2) as usize
+    numbers::read_u16(s, ENTRY_SIZE * i + COUNT_SIZE)
 }
 
 fn offset_at(s: &[u8], i: usize) -> u32
-    requires { ⌜ 10 * i + 12 ≤ length (now s) ⌝ }
+    requires { ⌜ contentsSize (i + 1) ≤ length (now s) ⌝ }
     ensures { λ r. ⌜ r ≡ offsetAt (now (s .entry)) i ⌝ }
 {
-    numbers::read_u32(s, 10 * i + 4)
+    numbers::read_u32(s, ENTRY_SIZE * i + COUNT_SIZE + OFFSET)
 }
 
 fn length_at(s: &[u8], i: usize) -> u32
-    requires { ⌜ 10 * i + 12 ≤ length (now s) ⌝ }
+    requires { ⌜ contentsSize (i + 1) ≤ length (now s) ⌝ }
     ensures { λ r. ⌜ r ≡ lengthAt (now (s .entry)) i ⌝ }
 {
-    numbers::read_u32(s, 10 * i + 8)
+    numbers::read_u32(s, ENTRY_SIZE * i + COUNT_SIZE + LENGTH)
 }
 
 // ---- questions 1 to 3
@@ -49,34 +62,93 @@ fn length_at(s: &[u8], i: usize) -> u32
 pub fn is_count(k: usize) -> bool
     ensures { λ r. ⌜ r ≡ isCount k ⌝ }
 {
-    1 <= k && k <= 3
+    1 <= k && k <= TOP
 }
 
 // 1. Are there 2 bytes, 1 to 3 parts, and the whole contents?
 fn has_contents(s: &[u8]) -> bool
     ensures { λ r. ⌜ r ≡ question1 (now (s .entry)) ⌝ }
 {
-    if s.len() < 2 {
+    if s.len() < COUNT_SIZE {
         return false;
     }
     let count = count_at(s);
-    is_count(count) && 10 * count + 2 <= s.len()
+    is_count(count) && ENTRY_SIZE * count + COUNT_SIZE <= s.len()
 }
 
-// 2. Are the codes 1, 2, .. in order?
+// Does each code lie above the one before it, and none above the top code?
+fn is_rising(codes: &[u16]) -> bool
+    ensures { λ r. ⌜ r ≡ rising 0 (now (codes .entry)) ⌝ }
+{
+    let mut low: u16 = 0;
+    let mut i = 0;
+    while i < codes.len() {
+        let code = codes[i];
+        if code <= low {
+            return false;
+        }
+        if TOP < code as usize {
+            return false;
+        }
+        low = code;
+        i += 1;
+    }
+    true
+}
+
+// Is this code among them?
+pub fn names(codes: &[u16], code: u16) -> bool
+    ensures { λ r. ⌜ r ≡ names (now (codes .entry)) code ⌝ }
+{
+    let mut i = 0;
+    while i < codes.len() {
+        if codes[i] == code {
+            return true;
+        }
+        i += 1;
+    }
+    false
+}
+
+// 2, of codes: do they rise within 1 to the top code, is part 1 there, and part 3 only with part 2?
+fn codes_right(codes: &[u16]) -> bool
+    ensures { λ r. ⌜ r ≡ codesRight (now (codes .entry)) ⌝ }
+{
+    if !is_rising(codes) {
+        return false;
+    }
+    if !names(codes, 1) {
+        return false;
+    }
+    if names(codes, 3) {
+        return names(codes, 2);
+    }
+    true
+}
+
+// The codes of the parts, in the order of their entries; 0 behind the last.
+pub fn codes_of(s: &[u8]) -> [u16; 3]
+    requires { ⌜ Whole (now s) ⌝ }
+    ensures { λ r. ⌜ (length r ≡ 3) × (take (countAt (now (s .entry))) r ≡ codesOf (split (now (s .entry)))) ⌝ }
+{
+    let count = count_at(s);
+    let mut codes = [0u16; 3];
+    let mut i = 0;
+    while i < count {
+        codes[i] = code_at(s, i);
+        i += 1;
+    }
+    codes
+}
+
+// 2. Are the codes right?
 fn has_codes(s: &[u8]) -> bool
     requires { ⌜ Whole (now s) ⌝ }
     ensures { λ r. ⌜ r ≡ question2 (now (s .entry)) ⌝ }
 {
     let count = count_at(s);
-    let mut i = 0;
-    while i < count {
-        if code_at(s, i) != i + 1 {
-            return false;
-        }
-        i += 1;
-    }
-    true
+    let codes = codes_of(s);
+    codes_right(&codes[..count])
 }
 
 // 3. Does each body start where the last ended, and does the last end with the sheet? An end may need 33 bits, so that one
@@ -86,7 +158,7 @@ fn bodies_join(s: &[u8]) -> bool
     ensures { λ r. ⌜ r ≡ question3 (now (s .entry)) ⌝ }
 {
     let count = count_at(s);
-    let mut start = 10 * count + 2;
+    let mut start = ENTRY_SIZE * count + COUNT_SIZE;
     let mut i = 0;
     while i < count {
         if offset_at(s, i) as usize != start {
@@ -111,16 +183,25 @@ pub fn contents_answer(s: &[u8]) -> u32
     if bodies_join(s) { 0 } else { 3 }
 }
 
-// ---- where the bodies lie
+// ---- where the parts lie
 
-// A part's place in the sheet. A part that is not there has 0 bytes at 0.
+// A part's place in the sheet. A part that is not there has 0 bytes at 0, where the contents stand.
+#[repr(C)]
 pub struct Extent {
     pub offset: u32,
     pub length: u32,
 }
 
+// How many parts there are, and where each lies, by its code.
+pub struct Layout {
+    pub count: usize,
+    pub marks: Extent,
+    pub schedule: Extent,
+    pub index: Extent,
+}
+
 // The place of a part that is not there.
-pub fn nowhere() -> Extent
+fn nowhere() -> Extent
     ensures { λ r. ⌜ r ≡ nowhere ⌝ }
 {
     Extent {
@@ -130,7 +211,7 @@ pub fn nowhere() -> Extent
 }
 
 // Where body i lies, by the contents.
-pub fn extent_at(s: &[u8], i: usize) -> Extent
+fn extent_at(s: &[u8], i: usize) -> Extent
     requires { ⌜ Whole (now s) ⌝ }
     ensures { λ r. ⌜ r ≡ extentAt (now (s .entry)) i ⌝ }
 {
@@ -143,8 +224,93 @@ pub fn extent_at(s: &[u8], i: usize) -> Extent
     nowhere()
 }
 
+// No parts.
+pub fn no_parts() -> Layout
+    ensures { λ r. ⌜ r ≡ noParts ⌝ }
+{
+    let none = nowhere();
+    Layout {
+        count: 0,
+        marks: none,
+        schedule: none,
+        index: none,
+    }
+}
+
+// A layout with this place for this code.
+fn with_place(l: Layout, code: u16, place: Extent) -> Layout
+    ensures { λ r. ⌜ r ≡ withPlace l code place ⌝ }
+{
+    let count = l.count;
+    let marks = l.marks;
+    let schedule = l.schedule;
+    let index = l.index;
+    match code {
+        1 => Layout {
+            count,
+            marks: place,
+            schedule,
+            index,
+        },
+        2 => Layout {
+            count,
+            marks,
+            schedule: place,
+            index,
+        },
+        3 => Layout {
+            count,
+            marks,
+            schedule,
+            index: place,
+        },
+        _ => l,
+    }
+}
+
+// Where all parts lie, by the contents.
+pub fn layout_of(s: &[u8]) -> Layout
+    requires { ⌜ Whole (now s) ⌝ }
+    ensures { λ r. ⌜ r ≡ layoutOf (now (s .entry)) ⌝ }
+{
+    let count = count_at(s);
+    let none = nowhere();
+    let mut layout = Layout {
+        count,
+        marks: none,
+        schedule: none,
+        index: none,
+    };
+    let mut i = 0;
+    while i < count {
+        layout = with_place(layout, code_at(s, i), extent_at(s, i));
+        i += 1;
+    }
+    layout
+}
+
+// Where the part of this code lies, by a layout.
+pub fn place_of(l: Layout, code: u32) -> Extent
+    ensures { λ r. ⌜ r ≡ placeOf l code ⌝ }
+{
+    match code {
+        1 => l.marks,
+        2 => l.schedule,
+        3 => l.index,
+        _ => nowhere(),
+    }
+}
+
+// Is the part of this code there, by a layout? No body starts at 0, where the contents stand.
+pub fn is_there(l: Layout, code: u32) -> bool
+    ensures { λ r. ⌜ r ≡ isThere l code ⌝ }
+{
+    let place = place_of(l, code);
+    0 < place.offset
+}
+
 // The bytes at a place, and none where it does not lie in the sheet.
-pub fn cut<'a>(s: &'a [u8], e: Extent) -> &'a [u8]
+fn cut<'a>(s: &'a [u8], e: Extent) -> &'a [u8]
     ensures { λ r. ⌜ now r ≡ cutOf (now (s .entry)) e ⌝ }
 {
     let from = e.offset as usize;
@@ -155,12 +321,45 @@ pub fn cut<'a>(s: &'a [u8], e: Extent) -> &'a [u8]
     &s[..0]
 }
 
+// The bytes of the part of this code, by a layout, which may be any.
+pub fn part<'a>(s: &'a [u8], l: Layout, code: u32) -> &'a [u8]
+    ensures { λ r. ⌜ now r ≡ cutOf (now (s .entry)) (placeOf l code) ⌝ }
+{
+    cut(s, place_of(l, code))
+}
+
 // Body i, of a sheet whose contents are right.
 pub fn body<'a>(s: &'a [u8], i: usize) -> &'a [u8]
     requires { ⌜ Laid (now s) ⌝ }
-    ensures { λ r. ⌜ now r ≡ getD (split (now (s .entry))) i [] ⌝ }
+    ensures { λ r. ⌜ now r ≡ getD (bodiesOf (split (now (s .entry)))) i [] ⌝ }
 {
     cut(s, extent_at(s, i))
+}
+
+// ---- bodies that are lent one beside the other, under the codes beside them
+
+// Body i.
+fn body_of<'a, 'b>(bodies: &'a [&'b [u8]], i: usize) -> &'b [u8]
+    requires { ⌜ i < length (now bodies) ⌝ }
+    ensures { λ r. ⌜ now r ≡ getD (map now (now (bodies .entry))) i [] ⌝ }
+{
+    bodies[i]
+}
+
+// The body under this code, and no bytes where there is none.
+pub fn find<'a, 'b>(codes: &[u16], bodies: &'a [&'b [u8]], code: u16) -> &'b [u8]
+    requires { ⌜ (length (now codes) ≡ length (now bodies)) × (0 < length (now bodies)) ⌝ }
+    ensures { λ r. ⌜ now r ≡ find (together (now (codes .entry)) (map now (now (bodies .entry)))) code ⌝ }
+{
+    let mut i = 0;
+    while i < codes.len() {
+        if codes[i] == code {
+            return body_of(bodies, i);
+        }
+        i += 1;
+    }
+    let first = body_of(bodies, 0);
+    &first[..0]
 }
 
 // ---- writing
@@ -179,53 +378,101 @@ pub fn put(out: &mut [u8], at: usize, body: &[u8]) -> usize
 }
 
 // Writes entry i of the contents.
-fn put_entry(out: &mut [u8], i: usize, offset: usize, size: usize)
-    requires { ⌜ 10 * i + 12 ≤ length (now out) ⌝ }
-    ensures { λ _. ⌜ now (out .exit) ≡ sets (now (out .entry)) (10 * i + 2) (entry (i + 1) offset size) ⌝ }
+fn put_entry(out: &mut [u8], i: usize, code: u16, offset: usize, size: usize)
+    requires { ⌜ contentsSize (i + 1) ≤ length (now out) ⌝ }
+    ensures { λ _. ⌜ now (out .exit) ≡ sets (now (out .entry)) (contentsSize i) (entry code offset size) ⌝ }
 {
-    let at = 10 * i + 2;
-    numbers::write(out, at, 2, (i + 1) as u64);
-    numbers::write(out, at + 2, 4, offset as u64);
-    numbers::write(out, at + 6, 4, size as u64);
+    let at = ENTRY_SIZE * i + COUNT_SIZE;
+    numbers::write(out, at, 2, code as u64);
+    numbers::write(out, at + OFFSET, 4, offset as u64);
+    numbers::write(out, at + LENGTH, 4, size as u64);
 }
 
-// Writes the contents of bodies of these sizes, and answers where the first body starts.
-pub fn put_contents(out: &mut [u8], sizes: &[usize]) -> usize
-    requires { ⌜ (length (now sizes) < 65536) × (contentsSize (length (now sizes)) ≤ length (now out)) ⌝ }
+// Writes the contents of parts of these codes and sizes, and answers where the first body starts.
+pub fn put_contents(out: &mut [u8], codes: &[u16], sizes: &[usize]) -> usize
+    requires { ⌜ (length (now codes) < 65536) × (length (now sizes) ≡ length (now codes)) × (contentsSize (length (now codes)) ≤ length (now out)) ⌝ }
     requires { ⌜ ((i : ℕ) → getD (now sizes) i 0 < 4294967296) ⌝ }
-    ensures { λ r. ⌜ (r ≡ contentsSize (length (now (sizes .entry)))) × (now (out .exit) ≡ sets (now (out .entry)) 0 (contentsOf (now (sizes .entry)))) ⌝ }
+    ensures { λ r. ⌜ (r ≡ contentsSize (length (now (codes .entry)))) × (now (out .exit) ≡ sets (now (out .entry)) 0 (contentsOf (now (codes .entry)) (now (sizes .entry)))) ⌝ }
 {
-    let count = sizes.len();
+    let count = codes.len();
     numbers::write(out, 0, 2, count as u64);
-    let start = 10 * count + 2;
+    let start = ENTRY_SIZE * count + COUNT_SIZE;
     let mut offset = start;
     let mut i = 0;
     while i < count {
         let size = sizes[i];
-        put_entry(out, i, offset, size);
+        put_entry(out, i, codes[i], offset, size);
         offset += size;
         i += 1;
     }
     start
 }
 
-// Copies three bodies one after the other, from `at` on.
-fn put_bodies(out: &mut [u8], at: usize, body1: &[u8], body2: &[u8], body3: &[u8])
-    requires { ⌜ at + (length (now body1) + (length (now body2) + length (now body3))) ≤ length (now out) ⌝ }
-    ensures { λ _. ⌜ now (out .exit) ≡ sets (now (out .entry)) at (now (body1 .entry) ++ (now (body2 .entry) ++ now (body3 .entry))) ⌝ }
+// The sizes of at most three bodies; 0 behind the last.
+fn sizes_of(bodies: &[&[u8]]) -> [usize; 3]
+    requires { ⌜ length (now bodies) ≤ 3 ⌝ }
+    ensures { λ r. ⌜ (length r ≡ 3) × (take (length (now (bodies .entry))) r ≡ sizesOf (map now (now (bodies .entry)))) ⌝ }
 {
-    let second = put(out, at, body1);
-    let third = put(out, second, body2);
-    put(out, third, body3);
+    let mut sizes = [0usize; 3];
+    let mut i = 0;
+    while i < bodies.len() {
+        sizes[i] = body_of(bodies, i).len();
+        i += 1;
+    }
+    sizes
 }
 
-// Writes the contents of `count` parts, and then three bodies, of which those that are no parts have no bytes.
-pub fn put_parts(out: &mut [u8], count: usize, body1: &[u8], body2: &[u8], body3: &[u8])
-    requires { ⌜ (count ≤ 3) × (10 * count + 2 + (length (now body1) + (length (now body2) + length (now body3))) ≤ length (now out)) ⌝ }
-    requires { ⌜ length (now body1) + (length (now body2) + length (now body3)) < 4294967296 ⌝ }
-    ensures { λ _. ⌜ now (out .exit) ≡ sets (now (out .entry)) 0 (partsOf count (now (body1 .entry)) (now (body2 .entry)) (now (body3 .entry))) ⌝ }
+// Copies the bodies one after the other from `start` on, and answers where the last ends.
+fn put_bodies(out: &mut [u8], start: usize, bodies: &[&[u8]]) -> usize
+    requires { ⌜ start + length (chain (map now (now bodies))) ≤ length (now out) ⌝ }
+    ensures { λ r. ⌜ (r ≡ start + length (chain (map now (now (bodies .entry))))) × (now (out .exit) ≡ sets (now (out .entry)) start (chain (map now (now (bodies .entry))))) ⌝ }
 {
-    let sizes = [body1.len(), body2.len(), body3.len()];
-    let start = put_contents(out, &sizes[..count]);
-    put_bodies(out, start, body1, body2, body3);
+    let mut at = start;
+    let mut i = 0;
+    while i < bodies.len() {
+        at = put(out, at, body_of(bodies, i));
+        i += 1;
+    }
+    at
+}
+
+// Have the bodies, one after the other, at most `room` bytes? No sum is made, so none wraps.
+fn fits(bodies: &[&[u8]], room: usize) -> bool
+    ensures { λ r. ⌜ r ≡ leb (length (chain (map now (now (bodies .entry))))) room ⌝ }
+{
+    let mut left = room;
+    let mut i = 0;
+    while i < bodies.len() {
+        let size = body_of(bodies, i).len();
+        if left < size {
+            return false;
+        }
+        left -= size;
+        i += 1;
+    }
+    true
+}
+
+// Has the sheet of the bodies under these codes at most `room` bytes?
+pub fn has_room(codes: &[u16], bodies: &[&[u8]], room: usize) -> bool
+    requires { ⌜ (length (now codes) ≡ length (now bodies)) × (length (now bodies) ≤ 3) ⌝ }
+    ensures { λ r. ⌜ r ≡ leb (length (join (together (now (codes .entry)) (map now (now (bodies .entry)))))) room ⌝ }
+{
+    let head = ENTRY_SIZE * codes.len() + COUNT_SIZE;
+    if room < head {
+        return false;
+    }
+    fits(bodies, room - head)
+}
+
+// Writes the sheet of the bodies under these codes at the start of `out`, and answers its length.
+pub fn put_parts(out: &mut [u8], codes: &[u16], bodies: &[&[u8]]) -> usize
+    requires { ⌜ (length (now codes) ≡ length (now bodies)) × (length (now bodies) ≤ 3) ⌝ }
+    requires { ⌜ (length (join (together (now codes) (map now (now bodies)))) ≤ length (now out)) × (length (join (together (now codes) (map now (now bodies)))) < 4294967296) ⌝ }
+    ensures { λ r. ⌜ (r ≡ length (join (together (now (codes .entry)) (map now (now (bodies .entry)))))) × (now (out .exit) ≡ sets (now (out .entry)) 0 (join (together (now (codes .entry)) (map now (now (bodies .entry)))))) ⌝ }
+{
+    let count = bodies.len();
+    let sizes = sizes_of(bodies);
+    let start = put_contents(out, codes, &sizes[..count]);
+    put_bodies(out, start, bodies)
 }

@@ -1,5 +1,5 @@
 -- To be believed: what marks are, the two rules, the process, the bytes of a schedule, and the reel, which decides it.
--- To be used: Theorems, for a sheet's marks Sheet and Schedule, and for scheduling Settled and RankOrder.
+-- To be used: Theorems, for a sheet's marks Sheet and Schedule, for scheduling Settled and RankOrder, and Laws.
 pub mod Marks
 pub mod Rules
 pub mod Process
@@ -10,4 +10,5 @@ pub mod RankOrder
 pub mod Theorems
 pub mod Sheet
 pub mod Schedule
+pub mod Laws
 pub mod Lemmas

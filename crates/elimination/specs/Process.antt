@@ -1,11 +1,12 @@
 -- 01's process: z grows from 0, and at each first touch the lower-ranked of two living marks is removed.
-use Prim.Native.Nat.{ℕ, zero, suc, _*_, _/_, compare, Ordering, Ordering·lt, Ordering·eq, Ordering·gt}
-use mathlib.Core.Bool.{Bool, true, false, cond, _&&_}
+use Prim.Native.Nat.{ℕ, zero, suc}
+use mathlib.Core.Bool.{Bool, true, false, cond, _&&_, _||_}
 use mathlib.Core.Option.{Option, none, some}
 use lib.Dec.{ltb, eqb}
 use Rattle.fractions.specs.declared.Fraction.{Fraction}
 use Rattle.fractions.specs.declared.Value.{Value}
 use Rattle.fractions.specs.declared.Value.the-variants.{Never, At}
+use Rattle.fractions.specs.Order.{less, same}
 use Rattle.elimination.specs.Marks.{Marks}
 
 -- ---- what becomes of a mark
@@ -35,21 +36,6 @@ infix 60 _over_
 abbrev pub _over_ : ℕ → ℕ → Pair
 h over l = record { high = h; low = l }
 
--- the first order decides, and where it says `eq` the second
-infixr 30 _then_
-abbrev pub _then_ : Ordering → Ordering → Ordering
-Ordering·lt then o = Ordering·lt
-Ordering·eq then o = o
-Ordering·gt then o = Ordering·gt
-
-abbrev pub isLt : Ordering → Bool
-isLt Ordering·lt = true
-isLt Ordering·eq = false
-isLt Ordering·gt = false
-
-abbrev pub cross : Fraction → Fraction → Ordering
-cross f g = compare (f .num * g .den) (g .num * f .den)
-
 -- ---- the least of the offers 0, .., k - 1 by a test; the first of equals; an offer of `none` is passed over
 
 module _ {A : Type 0} (before : A → A → Bool) where
@@ -76,7 +62,9 @@ module _ (M : Marks) where
 
   -- "it takes the least touching value; among equal values the pair whose higher mark ranks highest, then the pair whose lower mark ranks highest"
   unfoldable pub before : Pair → Pair → Bool
-  before p q = isLt (cross (worth p) (worth q) then compare (key (p .high)) (key (q .high)) then compare (key (p .low)) (key (q .low)))
+  before p q =
+      less (worth p) (worth q)
+      || (same (worth p) (worth q) && (ltb (key (p .high)) (key (q .high)) || (eqb (key (p .high)) (key (q .high)) && ltb (key (p .low)) (key (q .low)))))
 
   -- the pair of `h` and `l`, where both live and `h` outranks `l`
   unfoldable pub pair : (ℕ → Removal) → ℕ → ℕ → Option Pair

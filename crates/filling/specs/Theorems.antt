@@ -3,7 +3,7 @@ use Prim.Native.Nat.{ℕ, _*_, _<_}
 use mathlib.Core.Path.{_≡_}
 use mathlib.Core.List.{List}
 use lib.ListN.{length}
-use Rattle.marks.specs.Marks.{radiusAt, kindAt, usedAt}
+use Rattle.marks.specs.Marks.{markSize, radiusAt, kindAt, usedAt}
 use Rattle.marks.specs.Good.{GoodMarks}
 use Rattle.contents.specs.Asking.{answer}
 use Rattle.bodies.specs.Questions.{markCount, part1Questions}
@@ -19,7 +19,7 @@ module _ (s : List ℕ) (accepted : answer (part1Questions s) ≡ 0) where
   good = part1-iff s .0 accepted .0
 
   -- As many marks, 11 bytes each.
-  pub filled-length : length (filled s) ≡ 11 * n
+  pub filled-length : length (filled s) ≡ markSize * n
   unfolding filled
   filled-length = Lemmas.full-long s n good
 

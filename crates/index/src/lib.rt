@@ -5,6 +5,8 @@ ghost use mathlib.Core.Logic.{_↔_};
 ghost use Prim.Native.Nat.{_+_, _*_, _<_, _≤_, min, max};
 ghost use lib.ListN.{length};
 ghost use Rattle.lists.specs.Blocks.{block};
+ghost use Rattle.marks.specs.Marks.{markSize};
+ghost use Rattle.elimination.specs.Records.{recordSize};
 ghost use Rattle.index.specs.Index.{beats, coordinate, axisKey, entrySize, isIndex};
 ghost use Rattle.index.specs.Valid.{heads};
 ghost use Rattle.index.specs.Blocks.{entryAt};
@@ -14,7 +16,7 @@ ghost use Rattle.index.specs.Check.{keyBound, findingOf, joinSpans, side
 
 // Is a removed later than b, or at an equal value with the lower number?
 pub fn beats(schedule: &[u8], a: usize, b: usize) -> bool
-    requires { ⌜ (14 * a + 14 ≤ length (now schedule)) × (14 * b + 14 ≤ length (now schedule)) ⌝ }
+    requires { ⌜ (recordSize * a + recordSize ≤ length (now schedule)) × (recordSize * b + recordSize ≤ length (now schedule)) ⌝ }
     ensures { λ r. ⌜ r ≡ beats (now (schedule .entry)) a b ⌝ }
 {
     let v = elimination::value_at(schedule, a);
@@ -32,7 +34,7 @@ pub fn beats(schedule: &[u8], a: usize, b: usize) -> bool
 
 // A mark's x or y, shifted.
 pub fn coordinate(marks: &[u8], axis: bool, m: usize) -> u64
-    requires { ⌜ 11 * m + 11 ≤ length (now marks) ⌝ }
+    requires { ⌜ markSize * m + markSize ≤ length (now marks) ⌝ }
     ensures { λ r. ⌜ (r ≡ coordinate (now (marks .entry)) axis m) × (r < 65536) ⌝ }
 {
     if axis {
@@ -43,7 +45,7 @@ pub fn coordinate(marks: &[u8], axis: bool, m: usize) -> u64
 
 // A mark's coordinate and number, as one number: equal coordinates are ordered by number.
 pub fn axis_key(marks: &[u8], axis: bool, m: usize) -> u64
-    requires { ⌜ (11 * m + 11 ≤ length (now marks)) × (m < 65536) ⌝ }
+    requires { ⌜ (markSize * m + markSize ≤ length (now marks)) × (m < 65536) ⌝ }
     ensures { λ r. ⌜ (r ≡ axisKey (now (marks .entry)) axis m) × (r < keyBound) ⌝ }
 {
     coordinate(marks, axis, m) * 65536 + m as u64

@@ -4,11 +4,13 @@ use Prim.Native.Nat.{ℕ, _+_, _*_, _≤_}
 use mathlib.Core.List.{List, _++_}
 use lib.ListN.{length, take, drop}
 use Rattle.numbers.specs.Little.{leAt}
+use Rattle.marks.specs.Marks.{markSize}
+use Rattle.elimination.specs.Records.{recordSize}
 use Rattle.index.specs.Index.{entrySize, indexOf, indexBytes}
 
 -- "11 bytes a mark", 14 bytes a record and 2 a number: where parts 2 and 3 begin, and where part 3 ends
 abbrev pub scheduleFrom : ℕ → ℕ
-scheduleFrom n = 11 * n
+scheduleFrom n = markSize * n
 
 abbrev pub indexFrom : ℕ → ℕ
 indexFrom n = 25 * n
@@ -22,7 +24,7 @@ marksIn n a = take (scheduleFrom n) a
 
 -- part 2
 abbrev pub scheduleIn : ℕ → List ℕ → List ℕ
-scheduleIn n a = take (14 * n) (drop (scheduleFrom n) a)
+scheduleIn n a = take (recordSize * n) (drop (scheduleFrom n) a)
 
 -- number i of part 3
 abbrev pub memberAt : ℕ → List ℕ → ℕ → ℕ

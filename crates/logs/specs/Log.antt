@@ -5,16 +5,29 @@ use mathlib.Core.List.{List, _++_}
 use lib.IntN.{ℤ, pos, negsuc}
 use lib.ListN.{length, getD, take, drop}
 use Rattle.numbers.specs.Little.{leAt, leBytes}
-use Rattle.marks.specs.Marks.{xAt, yAt}
+use Rattle.marks.specs.Marks.{markSize, radiusOffset, xAt, yAt}
 use Rattle.rows.specs.Rows.{rows}
 use Rattle.bodies.specs.Questions.{markCount}
 use Rattle.logs.specs.Packed.{packedValue, packed}
 
 -- ---- a log's records; `s` is the log and `r` a record's number
 
+-- "13-byte records": the bytes of one, and where y, radius and kind begin
+abbrev pub logRecordSize : ℕ
+logRecordSize = 13
+
+abbrev pub logYOffset : ℕ
+logYOffset = 3
+
+abbrev pub logRadiusOffset : ℕ
+logRadiusOffset = 6
+
+abbrev pub logKindOffset : ℕ
+logKindOffset = 10
+
 -- how many there are
 abbrev pub recordCount : List ℕ → ℕ
-recordCount s = length s / 13
+recordCount s = length s / logRecordSize
 
 -- the coordinate whose three bytes stand at `at`
 abbrev pub coordinateAt : List ℕ → ℕ → ℤ
@@ -22,10 +35,10 @@ coordinateAt s at = packedValue (getD s at 0) (getD s (at + 1) 0) (getD s (at + 
 
 -- "then radius, priority, kind and tag as in a sheet"
 abbrev pub radiusOf : List ℕ → ℕ → ℕ
-radiusOf s r = leAt 2 s (13 * r + 6)
+radiusOf s r = leAt 2 s (logRecordSize * r + logRadiusOffset)
 
 abbrev pub kindOf : List ℕ → ℕ → ℕ
-kindOf s r = leAt 1 s (13 * r + 10)
+kindOf s r = leAt 1 s (logRecordSize * r + logKindOffset)
 
 -- ---- logs into marks
 
@@ -37,7 +50,8 @@ placeBits (negsuc n) = 65535 - n
 -- the 11 bytes of the mark: the last 7 are the record's own
 abbrev pub markOfRecord : List ℕ → ℕ → List ℕ
 markOfRecord s r =
-    leBytes 2 (placeBits (coordinateAt s (13 * r))) ++ (leBytes 2 (placeBits (coordinateAt s (13 * r + 3))) ++ take 7 (drop (13 * r + 6) s))
+    leBytes 2 (placeBits (coordinateAt s (logRecordSize * r)))
+    ++ (leBytes 2 (placeBits (coordinateAt s (logRecordSize * r + logYOffset))) ++ take 7 (drop (logRecordSize * r + logRadiusOffset) s))
 
 unfoldable pub marksOfLog : List ℕ → List ℕ
 marksOfLog s = rows (markOfRecord s) (recordCount s)
@@ -45,7 +59,7 @@ marksOfLog s = rows (markOfRecord s) (recordCount s)
 -- ---- marks into logs; `s` is the marks' bytes and `m` a mark's number
 
 abbrev pub recordOfMark : List ℕ → ℕ → List ℕ
-recordOfMark s m = packed (xAt s m) ++ (packed (yAt s m) ++ take 7 (drop (11 * m + 4) s))
+recordOfMark s m = packed (xAt s m) ++ (packed (yAt s m) ++ take 7 (drop (markSize * m + radiusOffset) s))
 
 unfoldable pub logOfMarks : List ℕ → List ℕ
 logOfMarks s = rows (recordOfMark s) (markCount s)

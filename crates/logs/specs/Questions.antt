@@ -4,16 +4,17 @@ use mathlib.Core.Bool.{Bool, _&&_}
 use mathlib.Core.List.{List, [], _∷_, _++_}
 use lib.Dec.{leb, eqb}
 use lib.ListN.{length, getD}
+use Rattle.marks.specs.Marks.{markSize}
 use Rattle.contents.specs.Asking.{Question, _asks_, inTurn}
 use Rattle.bodies.specs.Questions.{markCount, fieldQuestions, part1Questions}
 use Rattle.logs.specs.Packed.{isPacked, isPlace}
-use Rattle.logs.specs.Log.{recordCount, coordinateAt, radiusOf, kindOf}
+use Rattle.logs.specs.Log.{logRecordSize, logYOffset, recordCount, coordinateAt, radiusOf, kindOf}
 
 -- ---- of a log, `s`
 
 -- 4. "a log that isn't a multiple of 13, or has over 4,096 records, gets 4"
 unfoldable pub logSize : List ℕ → Bool
-logSize s = eqb (length s % 13) 0 && leb (recordCount s) 4096
+logSize s = eqb (length s % logRecordSize) 0 && leb (recordCount s) 4096
 
 -- the three bytes at `at` are packed decimal
 abbrev pub packedAt : List ℕ → ℕ → Bool
@@ -26,17 +27,17 @@ placeQuestions s at = (15 asks packedAt s at) ∷ (16 asks isPlace (coordinateAt
 -- "then record by record, x by 15 and 16 and after it y by both, .. then 5, 6 for that record, before the next one"
 unfoldable pub recordQuestions : List ℕ → ℕ → List Question
 recordQuestions s r =
-    placeQuestions s (13 * r) ++ (placeQuestions s (13 * r + 3) ++ fieldQuestions (kindOf s r) (radiusOf s r))
+    placeQuestions s (logRecordSize * r) ++ (placeQuestions s (logRecordSize * r + logYOffset) ++ fieldQuestions (kindOf s r) (radiusOf s r))
 
 unfoldable pub logChecks : List ℕ → List Question
 logChecks s = (4 asks logSize s) ∷ inTurn (recordQuestions s) (recordCount s)
 
 -- "Buffers last, 13."
 unfoldable pub logQuestions : List ℕ → ℕ → List Question
-logQuestions s room = logChecks s ++ ((13 asks leb (11 * recordCount s) room) ∷ [])
+logQuestions s room = logChecks s ++ ((13 asks leb (markSize * recordCount s) room) ∷ [])
 
 -- ---- of marks, `s`
 
 -- "Marks to logs ask 4, 5, 6 and 13."
 unfoldable pub marksQuestions : List ℕ → ℕ → List Question
-marksQuestions s room = part1Questions s ++ ((13 asks leb (13 * markCount s) room) ∷ [])
+marksQuestions s room = part1Questions s ++ ((13 asks leb (logRecordSize * markCount s) room) ∷ [])

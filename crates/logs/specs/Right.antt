@@ -5,7 +5,7 @@ use mathlib.Core.Bool.{true}
 use mathlib.Core.List.{List}
 use lib.ListN.{length}
 use Rattle.logs.specs.Packed.{isPlace}
-use Rattle.logs.specs.Log.{coordinateAt, radiusOf, kindOf}
+use Rattle.logs.specs.Log.{logRecordSize, logYOffset, coordinateAt, radiusOf, kindOf}
 use Rattle.logs.specs.Questions.{packedAt}
 
 -- 15 and 16, of the coordinate at `at`
@@ -15,13 +15,13 @@ pub record PlaceRight (s : List ℕ) (at : ℕ) : Type 0 where
 
 -- all questions of record r
 pub record RecordRight (s : List ℕ) (r : ℕ) : Type 0 where
-  pub x : PlaceRight s (13 * r)
-  pub y : PlaceRight s (13 * r + 3)
+  pub x : PlaceRight s (logRecordSize * r)
+  pub y : PlaceRight s (logRecordSize * r + logYOffset)
   pub kind : kindOf s r < 200
   pub radius : radiusOf s r ≤ 16383
 
 -- a log of n records, each of them right
 pub record LogRight (s : List ℕ) (n : ℕ) : Type 0 where
   pub few : n ≤ 4096
-  pub long : length s ≡ 13 * n
+  pub long : length s ≡ logRecordSize * n
   pub each : (r : ℕ) → r < n → RecordRight s r

@@ -6,13 +6,14 @@ use mathlib.Core.List.{List, [], _∷_}
 use lib.IntN.{ℤ, natAbs}
 use lib.ListN.{length}
 use Rattle.numbers.specs.Little.{Bytes}
+use Rattle.marks.specs.Marks.{markSize}
 use Rattle.marks.specs.Good.{GoodMarks}
 use Rattle.contents.specs.Asking.{answer}
-use Rattle.contents.specs.Lemmas.Asked.{Numbered}
+use Rattle.contents.specs.Laws.{Numbered}
 use Rattle.bodies.specs.Questions.{markCount, part1Questions}
 use Rattle.bodies.specs.Laws.{part1-iff}
 use Rattle.logs.specs.Packed.{packedValue, isPacked, packed}
-use Rattle.logs.specs.Log.{recordCount, coordinateAt, marksOfLog, logOfMarks}
+use Rattle.logs.specs.Log.{logRecordSize, recordCount, coordinateAt, marksOfLog, logOfMarks}
 use Rattle.logs.specs.Questions.{packedAt, logChecks}
 use Rattle.logs.specs.Right.{LogRight}
 use Rattle.logs.specs.Lemmas.Packed as Packing
@@ -44,7 +45,7 @@ module _ (s : List ℕ) (accepted : answer (logChecks s) ≡ 0) where
   log-right = log-iff s .0 accepted
 
   -- It has as many marks, 11 bytes each, and they pass 4 to 6.
-  pub marks-length : length (marksOfLog s) ≡ 11 * n
+  pub marks-length : length (marksOfLog s) ≡ markSize * n
   unfolding marksOfLog
   marks-length = Back.marks-long s n log-right
 
@@ -85,6 +86,6 @@ module _ (s : List ℕ) (bytes : Bytes s) (accepted : answer (part1Questions s) 
   marks-again = rw (Back.log-count s marks bytes good) (Back.marks-are s marks bytes good (part1-iff s .0 accepted .1))
 
 -- 13 bytes a record
-pub log-length : (s : List ℕ) → answer (part1Questions s) ≡ 0 → length (logOfMarks s) ≡ 13 * markCount s
+pub log-length : (s : List ℕ) → answer (part1Questions s) ≡ 0 → length (logOfMarks s) ≡ logRecordSize * markCount s
 unfolding logOfMarks
 log-length s accepted = Back.log-long s (markCount s) (part1-iff s .0 accepted .0)

@@ -1,17 +1,30 @@
 // Logs from the winder: what is asked of a log, the marks of a log, and the log of marks. `s` is a log or the marks' bytes.
+use marks::MARK_SIZE;
+use marks::RADIUS_OFFSET;
+use marks::Y_OFFSET;
 ghost use mathlib.Core.Path.{_≡_};
 ghost use mathlib.Core.Bool.{true};
 ghost use Prim.Native.Nat.{_+_, _*_, _/_, _%_, _<_, _≤_};
 ghost use lib.ListN.{length};
 ghost use lib.Seq.{sets};
 ghost use Rattle.numbers.specs.Little.{signed};
+ghost use Rattle.marks.specs.Marks.{markSize};
 ghost use Rattle.contents.specs.Asking.{answer, inTurn};
 ghost use Rattle.rows.specs.Rows.{rows};
 ghost use Rattle.bodies.specs.Questions.{fieldQuestions};
 ghost use Rattle.logs.specs.Packed.{magnitude, isMinus, withSign, areDigits, isLast, isPacked, isPlace, packed, packedOf};
-ghost use Rattle.logs.specs.Log.{coordinateAt, radiusOf, kindOf, placeBits, markOfRecord, recordOfMark};
+ghost use Rattle.logs.specs.Log.{logRecordSize, coordinateAt, radiusOf, kindOf, placeBits, markOfRecord, recordOfMark};
 ghost use Rattle.logs.specs.Questions.{logSize, placeQuestions, recordQuestions, logChecks};
 ghost use Rattle.logs.specs.Right.{LogRight};
+
+// The bytes of a log's record, and where y, radius and kind begin.
+pub const LOG_RECORD_SIZE: usize = 13;
+
+const LOG_Y_OFFSET: usize = 3;
+
+const LOG_RADIUS_OFFSET: usize = 6;
+
+const LOG_KIND_OFFSET: usize = 10;
 
 // ---- packed decimal
 
@@ -111,7 +124,7 @@ fn put_place(out: &mut [u8], at: usize, u: u16)
 fn is_log(s: &[u8]) -> bool
     ensures { λ r. ⌜ r ≡ logSize (now (s .entry)) ⌝ }
 {
-    (s.len() % 13 == 0) & (s.len() / 13 <= 4096)
+    (s.len() % LOG_RECORD_SIZE == 0) & (s.len() / LOG_RECORD_SIZE <= 4096)
 }
 
 // 15 and 16, of the coordinate at `at`.
@@ -133,24 +146,24 @@ fn place_answer(s: &[u8], at: usize) -> u32
 
 // 5 and 6, of record r.
 fn field_answer(s: &[u8], r: usize) -> u32
-    requires { ⌜ 13 * r + 13 ≤ length (now s) ⌝ }
+    requires { ⌜ logRecordSize * r + logRecordSize ≤ length (now s) ⌝ }
     ensures { λ a. ⌜ a ≡ answer (fieldQuestions (kindOf (now (s .entry)) r) (radiusOf (now (s .entry)) r)) ⌝ }
 {
-    let kind = numbers::read(s, 13 * r + 10, 1) as u8;
-    let radius = numbers::read_u16(s, 13 * r + 6);
+    let kind = numbers::read(s, LOG_RECORD_SIZE * r + LOG_KIND_OFFSET, 1) as u8;
+    let radius = numbers::read_u16(s, LOG_RECORD_SIZE * r + LOG_RADIUS_OFFSET);
     bodies::fields_answer(kind, radius)
 }
 
 // All questions of record r: x, y, and then the fields.
 fn record_answer(s: &[u8], r: usize) -> u32
-    requires { ⌜ 13 * r + 13 ≤ length (now s) ⌝ }
+    requires { ⌜ logRecordSize * r + logRecordSize ≤ length (now s) ⌝ }
     ensures { λ a. ⌜ a ≡ answer (recordQuestions (now (s .entry)) r) ⌝ }
 {
-    let x = place_answer(s, 13 * r);
+    let x = place_answer(s, LOG_RECORD_SIZE * r);
     if x != 0 {
         return x;
     }
-    let y = place_answer(s, 13 * r + 3);
+    let y = place_answer(s, LOG_RECORD_SIZE * r + LOG_Y_OFFSET);
     if y != 0 {
         return y;
     }
@@ -159,7 +172,7 @@ fn record_answer(s: &[u8], r: usize) -> u32
 
 // Record by record: the first 'no' of the first n, or 0.
 fn records_answer(s: &[u8], n: usize) -> u32
-    requires { ⌜ 13 * n ≤ length (now s) ⌝ }
+    requires { ⌜ logRecordSize * n ≤ length (now s) ⌝ }
     ensures { λ a. ⌜ a ≡ answer (inTurn (recordQuestions (now (s .entry))) n) ⌝ }
 {
     let mut r = 0;
@@ -180,7 +193,7 @@ pub fn log_answer(s: &[u8]) -> u32
     if !is_log(s) {
         return 4;
     }
-    records_answer(s, s.len() / 13)
+    records_answer(s, s.len() / LOG_RECORD_SIZE)
 }
 
 // ---- logs into marks
@@ -198,23 +211,23 @@ fn place_bits(s: &[u8], at: usize) -> u32
 
 // Writes the mark of record r at its place.
 fn put_mark(out: &mut [u8], s: &[u8], n: usize, r: usize)
-    requires { ⌜ LogRight (now s) n × (r < n) × (11 * n ≤ length (now out)) ⌝ }
-    ensures { λ _. ⌜ now (out .exit) ≡ sets (now (out .entry)) (11 * r) (markOfRecord (now (s .entry)) r) ⌝ }
+    requires { ⌜ LogRight (now s) n × (r < n) × (markSize * n ≤ length (now out)) ⌝ }
+    ensures { λ _. ⌜ now (out .exit) ≡ sets (now (out .entry)) (markSize * r) (markOfRecord (now (s .entry)) r) ⌝ }
 {
-    let from = 13 * r;
-    let at = 11 * r;
+    let from = LOG_RECORD_SIZE * r;
+    let at = MARK_SIZE * r;
     let x = place_bits(s, from);
-    let y = place_bits(s, from + 3);
+    let y = place_bits(s, from + LOG_Y_OFFSET);
     numbers::write(out, at, 2, x as u64);
-    numbers::write(out, at + 2, 2, y as u64);
-    let start = from + 6;
-    let end = from + 13;
-    contents::put(out, at + 4, &s[start..end]);
+    numbers::write(out, at + Y_OFFSET, 2, y as u64);
+    let start = from + LOG_RADIUS_OFFSET;
+    let end = from + LOG_RECORD_SIZE;
+    contents::put(out, at + RADIUS_OFFSET, &s[start..end]);
 }
 
 // Writes the marks of n records.
 pub fn put_marks(out: &mut [u8], s: &[u8], n: usize)
-    requires { ⌜ LogRight (now s) n × (11 * n ≤ length (now out)) ⌝ }
+    requires { ⌜ LogRight (now s) n × (markSize * n ≤ length (now out)) ⌝ }
     ensures { λ _. ⌜ now (out .exit) ≡ sets (now (out .entry)) 0 (rows (markOfRecord (now (s .entry))) n) ⌝ }
 {
     let mut r = 0;
@@ -228,21 +241,25 @@ pub fn put_marks(out: &mut [u8], s: &[u8], n: usize)
 
 // Writes the record of mark m at its place.
 fn put_record(out: &mut [u8], s: &[u8], m: usize)
-    requires { ⌜ (11 * m + 11 ≤ length (now s)) × (13 * m + 13 ≤ length (now out)) ⌝ }
-    ensures { λ _. ⌜ now (out .exit) ≡ sets (now (out .entry)) (13 * m) (recordOfMark (now (s .entry)) m) ⌝ }
+    requires { ⌜ (markSize * m + markSize ≤ length (now s)) × (logRecordSize * m + logRecordSize ≤ length (now out)) ⌝ }
+    ensures { λ _. ⌜ now (out .exit) ≡ sets (now (out .entry)) (logRecordSize * m) (recordOfMark (now (s .entry)) m) ⌝ }
 {
-    let from = 11 * m;
-    let at = 13 * m;
+    let from = MARK_SIZE * m;
+    let at = LOG_RECORD_SIZE * m;
     put_place(out, at, numbers::read_u16(s, from));
-    put_place(out, at + 3, numbers::read_u16(s, from + 2));
-    let start = from + 4;
-    let end = from + 11;
-    contents::put(out, at + 6, &s[start..end]);
+    put_place(
+        out,
+        at + LOG_Y_OFFSET,
+        numbers::read_u16(s, from + Y_OFFSET),
+    );
+    let start = from + RADIUS_OFFSET;
+    let end = from + MARK_SIZE;
+    contents::put(out, at + LOG_RADIUS_OFFSET, &s[start..end]);
 }
 
 // Writes the records of n marks.
 pub fn put_records(out: &mut [u8], s: &[u8], n: usize)
-    requires { ⌜ (11 * n ≤ length (now s)) × (13 * n ≤ length (now out)) ⌝ }
+    requires { ⌜ (markSize * n ≤ length (now s)) × (logRecordSize * n ≤ length (now out)) ⌝ }
     ensures { λ _. ⌜ now (out .exit) ≡ sets (now (out .entry)) 0 (rows (recordOfMark (now (s .entry))) n) ⌝ }
 {
     let mut m = 0;

@@ -1,9 +1,8 @@
 -- What the machine makes of signed places, their differences and their squares, which it keeps as bits. Assumes nothing.
-use Prim.Native.Nat.{_*_, _≤_, _<_}
+use Prim.Native.Nat.{_*_, _≤_}
 use mathlib.Core.Path.{_≡_, refl, _∙_}
 use native.Mathlib.Omega.{arith}
 use native.Mathlib.Nat.{mul-le-mul}
-use borrow.Author.Needs.{sfits-of}
 use lib.Dec.{T, leb}
 use lib.IntN.{ℤ, pos, negsuc, natAbs, _-ℤ_, _*ℤ_}
 use lib.Signed.{mag}
@@ -20,11 +19,6 @@ module _ {w : Width} (w′ : Width) {z : ℤ} (wider : T (leb (hbits w) (hbits w
 
   pub widened : toZ w′ (ofZ w′ (toZ w (ofZ w z))) ≡ z
   widened = toZ-ofZ widens ∙ toZ-ofZ fits
-
--- ---- a place that one call returns, as the next call reads it
-
-pub passed : {z v : ℤ} → mag z < 32768 → z ≡ v → toZ w16 (ofZ w16 z) ≡ v
-passed h e = toZ-ofZ (sfits-of h) ∙ e
 
 -- ---- a difference of places fits 32 bits
 

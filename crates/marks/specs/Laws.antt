@@ -8,11 +8,13 @@ use native.Mathlib.Decide.{decLt}
 use native.Mathlib.Nat.{mul-pos, mul-le-mul}
 use native.Mathlib.Omega.{arith}
 use borrow.Author.Tests.{ltb-true, eqb-true, leb-true, lt-ltb, le-ltb, eq-eqb}
+use borrow.Author.Needs.{sfits-of}
 use lib.Dec.{ltb, eqb, eqb·suc-zero}
 use lib.IntN.{ℤ, pos, negsuc, negℤ, natAbs, subℕ, _+ℤ_, _-ℤ_, +ℤ-comm, negℤ-+ℤ, negℤ-negℤ}
 use lib.Signed.{mag}
 use mir.Syntax.{w16}
-use mir.Val.{SFits}
+use mir.Val.{SFits, toZ, ofZ}
+use mir.Facts.{toZ-ofZ}
 use Rattle.lists.specs.TestLaws.{or-and}
 use Rattle.numbers.specs.Little.{leAt, signed, Bytes}
 use Rattle.numbers.specs.Laws.{le-bound, signed-fits}
@@ -93,6 +95,10 @@ used-bound (suc radius) kind h = rw (eqb·suc-zero radius) (leb-true (suc radius
 -- a place as read is a number of 16 bits with a sign
 pub place-fits : (s : List ℕ) (at : ℕ) → Bytes s → SFits w16 (signed 2 (leAt 2 s at))
 place-fits s at b = signed-fits w16 (leAt 2 s at) (record { fits = le-bound 2 s at b })
+
+-- as one call returns it, and the next call reads it
+pub place-passed : {z v : ℤ} → mag z < 32768 → z ≡ v → toZ w16 (ofZ w16 z) ≡ v
+place-passed h e = toZ-ofZ (sfits-of h) ∙ e
 
 sub-abs : (a b most : ℕ) → (0 < most) × (a ≤ most) × (b ≤ most) → natAbs (subℕ a b) ≤ most
 sub-abs a b most h = go (ltb a b)

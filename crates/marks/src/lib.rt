@@ -13,9 +13,9 @@ pub const MARK_SIZE: usize = 11;
 
 pub const Y_OFFSET: usize = 2;
 
-const RADIUS_OFFSET: usize = 4;
+pub const RADIUS_OFFSET: usize = 4;
 
-const PRIORITY_OFFSET: usize = 6;
+pub const PRIORITY_OFFSET: usize = 6;
 
 const KIND_OFFSET: usize = 8;
 

@@ -15,16 +15,16 @@ use Rattle.elimination.specs.Records.{eliminatorAt, numAt, denAt, isNever, valu
 use Rattle.elimination.specs.Reel.{scheduleOf}
 use Rattle.index.specs.Tree.{treeOf}
 use Rattle.index.specs.Index.{beats, coordinate, axisKey, indexOf, indexBytes, sameBytes, isIndex}
-use Rattle.contents.specs.Contents.{startAt, split, entries, chain, join, marksPart, schedulePart, indexPart}
+use Rattle.contents.specs.Contents.{_holds_, startAt, split, entries, contentsOf, chain, join, marksPart, schedulePart, indexPart}
 use Rattle.contents.specs.Asking.{answer, inTurn}
-use Rattle.contents.specs.Questions.{question1, question2, question3}
+use Rattle.contents.specs.Questions.{question1, codesRight, question3, contentsQuestions}
 use Rattle.rows.specs.Rows as Rows
-use Rattle.bodies.specs.Questions.{question4, markQuestions, part1Questions, question7, namesRight, recordRight, question8, question9, bodyQuestions}
+use Rattle.bodies.specs.Questions.{question4, markQuestions, part1Questions, question7, namesRight, recordRight, isSchedule, isSized, question8, question9, lastQuestions, bodyQuestions}
 use Rattle.filling.specs.Filling.{filledRadius, filled, fillQuestions}
 use Rattle.logs.specs.Packed.{magnitude, isMinus, withSign, areDigits, isLast, isPacked, isPlace, packedOf}
 use Rattle.logs.specs.Log.{placeBits, marksOfLog, logOfMarks}
 use Rattle.logs.specs.Questions.{logSize, recordQuestions, logChecks, logQuestions, marksQuestions}
-use Rattle.sheet.specs.Questions.{checkQuestions, check, assembleQuestions}
+use Rattle.sheet.specs.Questions.{checkQuestions, check, partsQuestions}
 use Rattle.zoom.specs.declared.Zoom.{Zoom}
 use Rattle.zoom.specs.declared.Zoom.the-variants.{Stop, Wheel}
 use Rattle.zoom.specs.Zoom.{stopScale, wheelScale, scaleOf}
@@ -34,7 +34,7 @@ use Rattle.view.specs.declared.Rectangle.{Rectangle}
 use Rattle.view.specs.Shown.{gap, distanceSquared, reaches, shown}
 use Rattle.bitmap.specs.Map.{mapByte, mapPart, mapBytes, countShown}
 use Rattle.view.specs.Questions as Viewing
-use Rattle.rollmap.specs.Jobs.{outcome, checkJob, scheduled, assembleJob, fillJob, logToMarksJob, marksToLogJob, shownIn, viewJob}
+use Rattle.rollmap.specs.Jobs.{outcome, checkJob, scheduled, assembleQuestions, assembleJob, fillJob, logToMarksJob, marksToLogJob, shownIn, viewJob}
 use Rattle.text.specs.Text.{digits}
 use Rattle.report.specs.Text.{text, line, markLine, markLines, listing, refusalLine, printQuestions, printed}
 
@@ -62,7 +62,7 @@ marks (m ∷ rest) =
 
 -- a sheet of one part
 sheet : List Mark → List ℕ
-sheet l = join (marks l ∷ [])
+sheet l = join ((1 holds marks l) ∷ [])
 
 -- ---- what is asked, and its answer as a list of numbers
 
@@ -158,7 +158,7 @@ oldSheet : List ℕ
 oldSheet =
     let never = leBytes 2 65535 ++ (leBytes 8 0 ++ leBytes 4 0) in
     let gone = leBytes 2 0 ++ (leBytes 8 10000 ++ leBytes 4 57600) in
-    join (marks patches ∷ (never ++ gone) ∷ (leBytes 2 0 ++ leBytes 2 1) ∷ [])
+    join ((1 holds marks patches) ∷ (2 holds (never ++ gone)) ∷ (3 holds (leBytes 2 0 ++ leBytes 2 1)) ∷ [])
 
 -- a log of one record, its x and y by their bytes; radius 300, priority 5, kind 0, tag 0
 abbrev log : ℕ → ℕ → ℕ → ℕ → ℕ → ℕ → List ℕ
@@ -245,11 +245,11 @@ pub examples : map (λ (r : Row). answers (r .asked)) table ≡ map (λ (r : Row
 unfolding table answers recordOf pairs sheet marks oldSheet ofBits
     leAt leBytes less same later level kindGroup houseRadius oldRadius houseOf isKind isRadius usedRadius distance touchingOf touching outranks rankKey
     least put before pair next run process isNever valueAt records scheduleOf treeOf beats coordinate axisKey indexOf indexBytes sameBytes isIndex
-    startAt split entries chain join answer inTurn every question1 question2 question3 question4
+    startAt split entries contentsOf chain join answer inTurn every question1 codesRight question3 contentsQuestions question4
     magnitude isMinus withSign areDigits isLast isPacked isPlace packedOf placeBits marksOfLog logOfMarks
     logSize recordQuestions logChecks logQuestions marksQuestions logToMarksJob marksToLogJob
-    Rows.rows filledRadius filled fillQuestions markQuestions part1Questions question7 namesRight recordRight question8
-    question9 bodyQuestions checkQuestions check assembleQuestions stopScale wheelScale scaleOf livesAt gap distanceSquared reaches
+    Rows.rows filledRadius filled fillQuestions markQuestions part1Questions isSized question7 namesRight recordRight isSchedule question8
+    question9 lastQuestions bodyQuestions checkQuestions check partsQuestions assembleQuestions stopScale wheelScale scaleOf livesAt gap distanceSquared reaches
     shown mapByte mapPart mapBytes countShown Viewing.question10 Viewing.question11 Viewing.viewQuestions outcome checkJob scheduled
     assembleJob fillJob shownIn viewJob digits line rootStep root zoomDown markLine markLines listing refusalLine printQuestions printed
 examples = refl

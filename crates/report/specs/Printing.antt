@@ -9,9 +9,10 @@ use Rattle.lists.specs.Stores.{over}
 use Rattle.fractions.specs.Order.{Small}
 use Rattle.text.specs.Text.{numberRoom}
 use Rattle.elimination.specs.Process.{Removal, stays, gone}
-use Rattle.elimination.specs.Records.{isNever, markRecord, eliminatorAt, denAt, fractionAt}
+use Rattle.elimination.specs.Records.{recordSize, isNever, markRecord, eliminatorAt, denAt, fractionAt}
 use Rattle.elimination.specs.Reel.{scheduleOf}
-use Rattle.contents.specs.Contents.{split, marksPart}
+use Rattle.scheduling.specs.Filling.{workSize}
+use Rattle.contents.specs.Contents.{split}
 use Rattle.contents.specs.Asking.{answer}
 use Rattle.bodies.specs.Questions.{reelOf}
 use Rattle.report.specs.Text.{mostMarks, printQuestions, printed}
@@ -29,7 +30,7 @@ pub record Zoomable (p : List ℕ) (m : ℕ) : Type 0 where
 
 -- n records, each of them 'never' or with a removal zoom
 pub record Printable (p : List ℕ) (n : ℕ) : Type 0 where
-  pub long : 14 * n ≤ length p
+  pub long : recordSize * n ≤ length p
   pub zooms : (m : ℕ) → m < n → isNever (markRecord p m) ≡ false → Zoomable p m
 
 -- ---- room
@@ -47,15 +48,15 @@ textRoom n = lineRoom * n + firstRoom
 
 -- "at most 2,000 marks": their work buffer, their records and their lines
 pub record Room (work schedule out : List ℕ) : Type 0 where
-  pub work-room : 32 * mostMarks + 1024 ≤ length work
-  pub schedule-room : 14 * mostMarks ≤ length schedule
+  pub work-room : workSize mostMarks ≤ length work
+  pub schedule-room : recordSize * mostMarks ≤ length schedule
   pub out-room : textRoom mostMarks ≤ length out
 
 -- ---- the whole call
 
 -- the records that are worked out for a sheet: none where it is refused
 unfoldable pub workedOut : List ℕ → List ℕ
-workedOut s = cond (eqb (answer (printQuestions s)) 0) (scheduleOf (reelOf (marksPart (split s)))) []
+workedOut s = cond (eqb (answer (printQuestions s)) 0) (scheduleOf (reelOf (split s))) []
 
 -- What printing the sheet `s` answers, `r`, and what it leaves in `out` and `schedule`; of `work`, its length, and that a refusal leaves it
 -- alone.

@@ -10,7 +10,7 @@ use Rattle.text.specs.Text.{decimal}
 use Rattle.zoom.specs.Printed.{zoomDown}
 use Rattle.elimination.specs.Process.{Removal, stays, gone, process}
 use Rattle.elimination.specs.Reel.{marksOf}
-use Rattle.contents.specs.Contents.{split, marksPart}
+use Rattle.contents.specs.Contents.{split}
 use Rattle.contents.specs.Asking.{Question, _asks_, answer}
 use Rattle.bodies.specs.Questions.{reelOf}
 use Rattle.sheet.specs.Questions.{sheetCount, checkQuestions}
@@ -63,4 +63,4 @@ printQuestions s = (14 asks leb (length s) longestInput) ∷ checkQuestions s ++
 unfoldable pub printed : List ℕ → List ℕ
 printed s =
     let number = answer (printQuestions s) in
-    cond (eqb number 0) (listing (process (marksOf (reelOf (marksPart (split s))))) (sheetCount s)) (refusalLine number)
+    cond (eqb number 0) (listing (process (marksOf (reelOf (split s)))) (sheetCount s)) (refusalLine number)

@@ -1,6 +1,7 @@
 // The printed schedule as bytes in a lent buffer.
 use elimination::RECORD_SIZE;
 use fractions::Fraction;
+use marks::MARK_SIZE;
 ghost use mathlib.Core.Path.{_≡_};
 ghost use mathlib.Core.Bool.{false};
 ghost use mathlib.Core.List.{[], _∷_};
@@ -9,7 +10,7 @@ ghost use lib.ListN.{length};
 ghost use Rattle.fractions.specs.Order.{Small};
 ghost use Rattle.text.specs.Text.{decimal, numberRoom, Wrote};
 ghost use Rattle.elimination.specs.Process.{stays, gone};
-ghost use Rattle.elimination.specs.Records.{isNever, markRecord};
+ghost use Rattle.elimination.specs.Records.{recordSize, isNever, markRecord};
 ghost use Rattle.contents.specs.Asking.{answer};
 ghost use Rattle.report.specs.Text.{line, markLine, markLines, listing, printQuestions};
 ghost use Rattle.report.specs.Printing.{removalAt, Zoomable, Printable, lineRoom, textRoom, Room, Prints};
@@ -51,7 +52,7 @@ fn put_gone(out: &mut [u8], at: usize, m: usize, by: usize, value: Fraction) -> 
 
 // The line of mark m, by its record; gives the place behind it.
 fn put_mark(schedule: &[u8], out: &mut [u8], at: usize, m: usize) -> usize
-    requires { ⌜ (14 * m + 14 ≤ length (now schedule)) × (at + lineRoom ≤ length (now out)) ⌝ }
+    requires { ⌜ (recordSize * m + recordSize ≤ length (now schedule)) × (at + lineRoom ≤ length (now out)) ⌝ }
     requires { ⌜ (isNever (markRecord (now schedule) m) ≡ false → Zoomable (now schedule) m) ⌝ }
     ensures { λ r. ⌜ Wrote (now (out .entry)) (now (out .exit)) at (markLine m (removalAt (now (schedule .entry)) m)) r ⌝ }
 {
@@ -95,11 +96,13 @@ fn print_answer(input: &[u8]) -> u32
     if 65536 < input.len() {
         return 14;
     }
-    let number = sheet::check(input);
+    let found = sheet::opened(input);
+    let number = found.number;
     if number != 0 {
         return number;
     }
-    if 2000 < contents::body(input, 0).len() / 11 {
+    let layout = found.layout;
+    if 2000 < contents::part(input, layout, 1).len() / MARK_SIZE {
         14
     } else {
         0
@@ -116,8 +119,9 @@ pub fn print(input: &[u8], work: &mut [u8], schedule: &mut [u8], out: &mut [u8])
     if number != 0 {
         return put_first_line(out, b"refused", number as u64);
     }
-    let marks = contents::body(input, 0);
-    let n = marks.len() / 11;
+    let layout = contents::layout_of(input);
+    let marks = contents::part(input, layout, 1);
+    let n = marks.len() / MARK_SIZE;
     scheduling::schedule(marks, work, schedule, n);
     put_listing(schedule, out, n)
 }

@@ -4,10 +4,8 @@ use mathlib.Core.Path.{_≡_}
 use mathlib.Core.List.{List}
 use lib.IntN.{ℤ}
 use lib.ListN.{length}
-use Rattle.contents.specs.declared.Extent as Sheet
 use Rattle.view.specs.declared.Rectangle.{Rectangle}
 use Rattle.rollmap.specs.declared.Answer.{Answer}
-use Rattle.rollmap.specs.declared.Extent.{Extent}
 use Rattle.rollmap.specs.Jobs.{Outcome, after}
 
 -- the number and the value of an outcome
@@ -21,10 +19,6 @@ refusal number = record { number = number; value = 0 }
 -- the rectangle of these edges
 abbrev pub edges : ℤ → ℤ → ℤ → ℤ → Rectangle
 edges x0 x1 y0 y1 = record { x0 = x0; x1 = x1; y0 = y0; y1 = y1 }
-
--- a part's place
-abbrev pub extentOf : Sheet.Extent → Extent
-extentOf e = record { offset = e .offset; length = e .length }
 
 -- What a call that writes answers, `r`, and leaves in a buffer that held `before`.
 pub record Gives (o : Outcome) (before : List ℕ) (r : Answer) (buffer : List ℕ) : Type 0 where

@@ -31,7 +31,7 @@ use Rattle.rollmap.specs.Jobs.{after, ScheduledHere, viewJob}
 
 -- the marks of a sheet, as the process and the rules see them
 abbrev pub sheetMarks : List ℕ → Marks
-sheetMarks s = marksOf (reelOf (marksPart (split s)))
+sheetMarks s = marksOf (reelOf (split s))
 
 -- "ours are those in the scheduled sheet's part 2": the removal value that it names for mark m
 abbrev pub sheetValue : List ℕ → ℕ → Value

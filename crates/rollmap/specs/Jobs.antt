@@ -7,15 +7,18 @@ use lib.ListN.{length, take}
 use lib.Dec.{ltb, leb, eqb}
 use Rattle.lists.specs.Stores.{over}
 use Rattle.numbers.specs.Little.{Bytes}
+use Rattle.marks.specs.Marks.{markSize}
 use Rattle.elimination.specs.Reel.{scheduleOf}
+use Rattle.scheduling.specs.Filling.{workSize}
 use Rattle.index.specs.Index.{indexOf, indexBytes}
-use Rattle.contents.specs.Contents.{split, join, marksPart, schedulePart, given}
+use Rattle.contents.specs.Contents.{Part, _holds_, split, join, marksPart, schedulePart}
+use Rattle.contents.specs.Questions.{isCount}
 use Rattle.contents.specs.Asking.{Question, _asks_, answer}
-use Rattle.bodies.specs.Questions.{markCount, reelOf}
+use Rattle.bodies.specs.Questions.{markCount, reelFrom}
 use Rattle.filling.specs.Filling.{filled, fillQuestions}
-use Rattle.logs.specs.Log.{recordCount, marksOfLog, logOfMarks}
+use Rattle.logs.specs.Log.{logRecordSize, recordCount, marksOfLog, logOfMarks}
 use Rattle.logs.specs.Questions.{logQuestions, marksQuestions}
-use Rattle.sheet.specs.Questions.{sheetCount, checkQuestions, check, assembleQuestions}
+use Rattle.sheet.specs.Questions.{sheetCount, checkQuestions, check, partsQuestions}
 use Rattle.zoom.specs.declared.Zoom.{Zoom}
 use Rattle.zoom.specs.Zoom.{scaleOf, scale}
 use Rattle.view.specs.declared.Rectangle.{Rectangle}
@@ -50,21 +53,25 @@ checkJob s = outcome (checkQuestions s) 0 []
 
 -- the parts that it writes for part 1, `s`: "a sheet of three parts, with the marks copied unchanged"
 abbrev pub newSchedule : List ℕ → List ℕ
-newSchedule s = scheduleOf (reelOf s)
+newSchedule s = scheduleOf (reelFrom s)
 
 abbrev pub newIndex : List ℕ → List ℕ
 newIndex s = indexBytes (indexOf s (newSchedule s) (markCount s))
 
-abbrev pub newBodies : List ℕ → List (List ℕ)
-newBodies s = s ∷ newSchedule s ∷ newIndex s ∷ []
+abbrev pub newParts : List ℕ → List Part
+newParts s = (1 holds s) ∷ (2 holds newSchedule s) ∷ (3 holds newIndex s) ∷ []
 
 -- What scheduling writes for a sheet.
 unfoldable pub scheduled : List ℕ → List ℕ
-scheduled s = join (newBodies (marksPart (split s)))
+scheduled s = join (newParts (marksPart (split s)))
 
--- "32 + 27n bytes for n marks", "a work buffer of at least 32n + 1,024 bytes"
+-- "32 + 27n bytes for n marks"
+abbrev pub scheduledSize : ℕ → ℕ
+scheduledSize n = 27 * n + 32
+
+-- 13 of scheduling: the sheet, and "a work buffer of at least 32n + 1,024 bytes"
 abbrev pub hasRoom : ℕ → ℕ → ℕ → Bool
-hasRoom n work room = leb (32 * n + 1024) work && leb (27 * n + 32) room
+hasRoom n work room = leb (workSize n) work && leb (scheduledSize n) room
 
 -- "scheduling 1 to 9 and 13"
 unfoldable pub scheduleQuestions : List ℕ → ℕ → ℕ → List Question
@@ -92,26 +99,34 @@ pub record LeftByScheduling (s : List ℕ) : Type 0 where
 
 -- ---- putting together
 
+-- "takes the number of parts (1 to 3) and that many bodies; further bodies are ignored": parts 1, 2, .. of the first k of three bodies
+abbrev pub given : ℕ → List ℕ → List ℕ → List ℕ → List Part
+given k body1 body2 body3 = take k ((1 holds body1) ∷ (2 holds body2) ∷ (3 holds body3) ∷ [])
+
+-- "Putting together asks 1 (of the number of parts only), 4 to 9 and 13."
+unfoldable pub assembleQuestions : ℕ → List Part → ℕ → List Question
+assembleQuestions k parts room = (1 asks isCount k) ∷ partsQuestions parts room
+
 unfoldable pub assembleJob : ℕ → List ℕ → List ℕ → List ℕ → ℕ → Outcome
 assembleJob k body1 body2 body3 room =
-    let bodies = given k body1 body2 body3 in
-    outcome (assembleQuestions k bodies room) (length (join bodies)) (join bodies)
+    let parts = given k body1 body2 body3 in
+    outcome (assembleQuestions k parts room) (length (join parts)) (join parts)
 
 -- ---- filling
 
 -- 11 bytes a mark
 unfoldable pub fillJob : List ℕ → ℕ → Outcome
-fillJob s room = outcome (fillQuestions s room) (11 * markCount s) (filled s)
+fillJob s room = outcome (fillQuestions s room) (markSize * markCount s) (filled s)
 
 -- ---- turning: 02, request 3, "logs turned into marks and marks into logs"
 
 -- 11 bytes a record
 unfoldable pub logToMarksJob : List ℕ → ℕ → Outcome
-logToMarksJob s room = outcome (logQuestions s room) (11 * recordCount s) (marksOfLog s)
+logToMarksJob s room = outcome (logQuestions s room) (markSize * recordCount s) (marksOfLog s)
 
 -- 13 bytes a mark
 unfoldable pub marksToLogJob : List ℕ → ℕ → Outcome
-marksToLogJob s room = outcome (marksQuestions s room) (13 * markCount s) (logOfMarks s)
+marksToLogJob s room = outcome (marksQuestions s room) (logRecordSize * markCount s) (logOfMarks s)
 
 -- ---- viewing
 

@@ -1,3 +1,4 @@
+pub mod Given
 pub mod Outcomes
 pub mod Rooms
 pub mod Filling

@@ -18,12 +18,14 @@ use Rattle.fractions.specs.Order.{Equal}
 use Rattle.marks.specs.Good.{GoodMarks}
 use Rattle.elimination.specs.Reel.{scheduleOf}
 use Rattle.elimination.specs.Schedule.{schedule-iff, schedule-later}
-use Rattle.contents.specs.Contents.{countAt, split, join, marksPart, schedulePart, given}
+use Rattle.contents.specs.Contents.{Part, countAt, split, join, marksPart, schedulePart}
 use Rattle.contents.specs.Asking.{Question, answer}
-use Rattle.contents.specs.Laws.{append-iff, split-join, given-length}
+use Rattle.contents.specs.Laws.{asked-iff, append-iff, count-iff, split-join}
+use Rattle.contents.specs.Questions.{isCount}
 use Rattle.bodies.specs.Questions.{reelOf}
-use Rattle.sheet.specs.Questions.{sheetCount, checkQuestions, check, assembleQuestions}
-use Rattle.sheet.specs.Laws.{check-numbered, accepted-iff, assemble-iff, fitting-writable, join-accepted, join-split, assemble-again}
+use Rattle.bodies.specs.Laws.{fitting-writable}
+use Rattle.sheet.specs.Questions.{sheetCount, checkQuestions, check}
+use Rattle.sheet.specs.Laws.{check-numbered, accepted-iff, parts-iff, join-accepted, join-split, parts-again}
 use Rattle.bitmap.specs.Map.{mapSize, mapBytes, countShown, shownFrom, isSet}
 use Rattle.bitmap.specs.Facts.{Shows}
 use Rattle.bitmap.specs.Laws.{map-shows, map-length, shown-set, shown-same}
@@ -34,15 +36,19 @@ use Rattle.view.specs.declared.Rectangle.{Rectangle}
 use Rattle.view.specs.Shown.{shown}
 use Rattle.view.specs.Questions.{viewQuestions, isMap, walkQuestions}
 use Rattle.rollmap.specs.declared.Answer.{Answer}
-use Rattle.rollmap.specs.Jobs.{Outcome, outcome, after, newBodies, scheduled, hasRoom, scheduleQuestions, scheduleJob, ScheduledHere, LeftByScheduling}
-use Rattle.rollmap.specs.Jobs.{assembleJob, shownIn, viewJob, walksFrom, isShownJob}
+use Rattle.rollmap.specs.Jobs.{Outcome, outcome, after, newParts, scheduled, hasRoom, scheduleQuestions, scheduleJob, ScheduledHere, LeftByScheduling}
+use Rattle.rollmap.specs.Jobs.{given, assembleQuestions, assembleJob, shownIn, viewJob, walksFrom, isShownJob}
 use Rattle.rollmap.specs.Answers.{answerOf, Gives}
 use Rattle.rollmap.specs.Parts.{Joins}
 use Rattle.rollmap.specs.Demand3.{sheetValue, IsList, KeepsRules, shownBy, ShowsLiving, Demand3, Meets, MeetsView}
+use Rattle.rollmap.specs.Lemmas.Given.{codes-right, given-right}
 use Rattle.rollmap.specs.Lemmas.Outcomes.{outcome-yes, outcome-number, all-yes, kept}
 use Rattle.rollmap.specs.Lemmas.Walking.{map-iff, map-asked, map-taken, walks-all}
 use Rattle.rollmap.specs.Lemmas.Scheduling.{sheet-long, room-asked}
 use Rattle.rollmap.specs.Lemmas.Scheduled.{later-same, count-same, new-fitting, good, marks-long, marks-bytes}
+-- ---- part 1 of an accepted sheet
+
+pub use Rattle.rollmap.specs.Lemmas.Scheduled.{good, marks-bytes}
 
 -- ---- demand 2: what scheduling writes, for an accepted sheet g
 
@@ -50,14 +56,14 @@ module _ (g : List ℕ) (bytes : Bytes g) (ok : check g ≡ 0) where
   -- It is accepted.
   pub scheduled-accepted : check (scheduled g) ≡ 0
   unfolding scheduled
-  scheduled-accepted = join-accepted (newBodies (marksPart (split g))) (omega arith) (omega arith) (new-fitting (marksPart (split g)) (good g bytes ok) (marks-long g bytes ok) (marks-bytes g bytes ok))
+  scheduled-accepted = join-accepted (newParts (marksPart (split g))) (codes-right 3 refl) (new-fitting (marksPart (split g)) (good g bytes ok) (marks-long g bytes ok) (marks-bytes g bytes ok))
 
   -- Its parts are these: part 1 is the given one, byte for byte.
-  pub scheduled-parts : split (scheduled g) ≡ newBodies (marksPart (split g))
+  pub scheduled-parts : split (scheduled g) ≡ newParts (marksPart (split g))
   unfolding scheduled
   scheduled-parts =
-      split-join (newBodies (marksPart (split g)))
-      (fitting-writable (newBodies (marksPart (split g))) (omega arith) (omega arith) (new-fitting (marksPart (split g)) (good g bytes ok) (marks-long g bytes ok) (marks-bytes g bytes ok)))
+      split-join (newParts (marksPart (split g)))
+      (fitting-writable (newParts (marksPart (split g))) (new-fitting (marksPart (split g)) (good g bytes ok) (marks-long g bytes ok) (marks-bytes g bytes ok)) (codes-right 3 refl))
 
   -- "32 + 27n bytes for n marks"
   pub scheduled-length : length (scheduled g) ≡ 32 + 27 * sheetCount g
@@ -69,7 +75,7 @@ module _ (g : List ℕ) (bytes : Bytes g) (ok : check g ≡ 0) where
   pub scheduled-again : scheduled (scheduled g) ≡ scheduled g
   unfolding scheduled
   scheduled-again =
-      let parts : split (join (newBodies (marksPart (split g)))) ≡ newBodies (marksPart (split g)) = scheduled-parts in
+      let parts : split (join (newParts (marksPart (split g)))) ≡ newParts (marksPart (split g)) = scheduled-parts in
       rw parts
 
 -- ---- 'scheduled here' over the job
@@ -130,36 +136,38 @@ here-iff s = (
 -- ---- putting together, over the job
 
 module _ (k : ℕ) (body1 body2 body3 : List ℕ) (room : ℕ) where
-  abbrev bodies : List (List ℕ)
-  bodies = given k body1 body2 body3
+  abbrev handed : List Part
+  handed = given k body1 body2 body3
 
   -- Number 0: what was written is accepted, and splits into what was given.
   pub assembled-reads : (assembleJob k body1 body2 body3 room) .number ≡ 0
-      → (check ((assembleJob k body1 body2 body3 room) .written) ≡ 0) × (split ((assembleJob k body1 body2 body3 room) .written) ≡ bodies)
-  unfolding assembleJob
+      → (check ((assembleJob k body1 body2 body3 room) .written) ≡ 0) × (split ((assembleJob k body1 body2 body3 room) .written) ≡ handed)
+  unfolding assembleJob assembleQuestions
   assembled-reads zero =
-      let yes : answer (assembleQuestions k bodies room) ≡ 0 = sym (outcome-number (assembleQuestions k bodies room) (length (join bodies)) (join bodies)) ∙ zero in
-      let a = assemble-iff k bodies room .0 yes in
-      let some : 1 ≤ length bodies = rw (given-length k body1 body2 body3 (a .0 .1)) (a .0 .0) in
-      let few : length bodies ≤ 3 = rw (given-length k body1 body2 body3 (a .0 .1)) (a .0 .1) in
-      rw (outcome-yes (assembleQuestions k bodies room) (length (join bodies)) (join bodies) yes)
-      (join-accepted bodies some few (a .1), split-join bodies (fitting-writable bodies some few (a .1)))
+      let yes : answer (assembleQuestions k handed room) ≡ 0 = sym (outcome-number (assembleQuestions k handed room) (length (join handed)) (join handed)) ∙ zero in
+      let a = asked-iff 1 (isCount k) _ (omega arith) .0 yes in
+      let fits = parts-iff handed room .0 (a .1) .0 in
+      let right = given-right k body1 body2 body3 (a .0) in
+      rw (outcome-yes (assembleQuestions k handed room) (length (join handed)) (join handed) yes)
+      (join-accepted handed right fits, split-join handed (fitting-writable handed fits right))
 
   -- An accepted sheet's parts, put together with room enough: 0, its length, its bytes.
-  pub assembled-again : (s : List ℕ) → Bytes s → check s ≡ 0 → countAt s ≡ k → split s ≡ bodies → length s ≤ room
+  pub assembled-again : (s : List ℕ) → Bytes s → check s ≡ 0 → countAt s ≡ k → split s ≡ handed → length s ≤ room
       → assembleJob k body1 body2 body3 room ≡ record { number = 0; value = length s; written = s }
-  unfolding assembleJob
-  assembled-again s bytes ok count parts fits =
-      let yes : answer (assembleQuestions k bodies room) ≡ 0 = rw (count, parts) at (assemble-again s room bytes ok fits) in
-      let same : join bodies ≡ s = rw parts at (join-split s bytes ok) in
-      outcome-yes (assembleQuestions k bodies room) (length (join bodies)) (join bodies) yes ∙ rw same
+  unfolding assembleJob assembleQuestions
+  assembled-again s bytes ok count are fits =
+      let w = accepted-iff s .0 ok .laid .whole in
+      let taken : isCount k ≡ true = rw count at (count-iff (countAt s) .1 (w .some, w .few)) in
+      let yes : answer (assembleQuestions k handed room) ≡ 0 = asked-iff 1 (isCount k) _ (omega arith) .1 (taken, rw are at (parts-again s room bytes ok fits)) in
+      let same : join handed ≡ s = rw are at (join-split s bytes ok) in
+      outcome-yes (assembleQuestions k handed room) (length (join handed)) (join handed) yes ∙ rw same
 
 pub assemble-joins : (k : ℕ) (body1 body2 body3 before : List ℕ) {r : Answer} {out : List ℕ}
     → Gives (assembleJob k body1 body2 body3 (length before)) before r out → Joins k (given k body1 body2 body3) before r out
 unfolding assembleJob after over
 assemble-joins k body1 body2 body3 before {r} {out} gives =
     record {
-      parts = λ z. ap split (kept questions sheet before gives z ∙ sym (written z)) ∙ assembled-reads k body1 body2 body3 (length before) (number z) .1;
+      split-again = λ z. ap split (kept questions sheet before gives z ∙ sym (written z)) ∙ assembled-reads k body1 body2 body3 (length before) (number z) .1;
       accepted = λ z. ap check (kept questions sheet before gives z ∙ sym (written z)) ∙ assembled-reads k body1 body2 body3 (length before) (number z) .0;
       again = λ s bytes ok count parts fits.
           (let job = assembled-again k body1 body2 body3 (length before) s bytes ok count parts fits in
@@ -183,7 +191,7 @@ assemble-joins k body1 body2 body3 before {r} {out} gives =
 module _ (s : List ℕ) (here : ScheduledHere s) where
   open ScheduledHere here using (given-sheet as g, bytes, accepted, written)
 
-  parts : split s ≡ newBodies (marksPart (split g))
+  parts : split s ≡ newParts (marksPart (split g))
   parts = ap split written ∙ scheduled-parts g bytes accepted
 
   -- Its part 1 is the given sheet's, byte for byte, so no mark handed in is missing.
@@ -196,19 +204,19 @@ module _ (s : List ℕ) (here : ScheduledHere s) where
   part1-bytes : Bytes (marksPart (split s))
   part1-bytes = rw parts (marks-bytes g bytes accepted)
 
-  schedule-is : schedulePart (split s) ≡ scheduleOf (reelOf (marksPart (split s)))
+  schedule-is : schedulePart (split s) ≡ scheduleOf (reelOf (split s))
   schedule-is = rw parts
 
   module _ (list : ℕ → Value) (sound : IsList s list) where
     -- A list equals ours, mark by mark, exactly when it keeps both rules.
     pub same-iff : ((m : ℕ) → m < sheetCount s → Equal (sheetValue s m) (list m)) ↔ KeepsRules s list
-    same-iff = rw schedule-is (schedule-iff (reelOf (marksPart (split s))) part1-good part1-bytes list sound)
+    same-iff = rw schedule-is (schedule-iff (reelOf (split s)) part1-good part1-bytes list sound)
 
     -- And such a list has the same marks living at every zoom.
     pub lives-same : KeepsRules s list → (m k : ℕ) → m < sheetCount s → livesAt k (list m) ≡ livesAt k (sheetValue s m)
     unfolding livesAt
     lives-same rules m k h =
-        let e = rw (← schedule-is) at (schedule-later (reelOf (marksPart (split s))) part1-good part1-bytes list sound rules m (zoomSquared k) h) in
+        let e = rw (← schedule-is) at (schedule-later (reelOf (split s)) part1-good part1-bytes list sound rules m (zoomSquared k) h) in
         later-same (list m) (sheetValue s m) (zoomSquared k) e
 
     -- The view clause. `buffer` is what the lent map held.

@@ -1,39 +1,53 @@
 // The public library, for C and Rust.
+use contents::Extent;
+use contents::Layout;
+use elimination::RECORD_SIZE;
+use index::ENTRY_SIZE;
+use logs::LOG_RECORD_SIZE;
+use marks::MARK_SIZE;
 use sheet::Assembled;
 use view::Rectangle;
 use zoom::Scale;
 use zoom::Zoom;
 ghost use mathlib.Core.Path.{_≡_};
+ghost use mathlib.Core.Bool.{true};
 ghost use Prim.Native.Nat.{_+_, _*_, _≤_};
 ghost use lib.ListN.{length, take};
 ghost use Rattle.lists.specs.Stores.{over};
+ghost use Rattle.marks.specs.Marks.{markSize};
 ghost use Rattle.marks.specs.Good.{GoodMarks};
-ghost use Rattle.contents.specs.Contents.{countAt, join, given};
+ghost use Rattle.scheduling.specs.Filling.{workSize};
+ghost use Rattle.scheduling.specs.Behind.{reelIn};
+ghost use Rattle.indexing.specs.Buffer.{indexEnd};
+ghost use Rattle.contents.specs.Contents.{split, join};
+ghost use Rattle.contents.specs.Places.{layoutOf, placeOf, Located};
 ghost use Rattle.sheet.specs.Questions.{check};
-ghost use Rattle.sheet.specs.Layout.{opened, placeOf, Located};
+ghost use Rattle.sheet.specs.Opened.{opened, openParts};
 ghost use Rattle.zoom.specs.declared.Zoom.the-variants.{Stop, Wheel};
-ghost use Rattle.view.specs.Questions.{question11, isMap};
-ghost use Rattle.rollmap.specs.Jobs.{checkJob, newBodies, hasRoom, scheduleJob, assembleJob, fillJob, logToMarksJob, marksToLogJob, viewJob, walkJob, isShownJob};
-ghost use Rattle.rollmap.specs.Answers.{refusal, answerOf, extentOf, edges, Gives, Lent};
+ghost use Rattle.view.specs.Questions.{question10, question11, isMap};
+ghost use Rattle.rollmap.specs.Jobs.{checkJob, newParts, scheduledSize, hasRoom, scheduleJob, given, assembleJob, fillJob, logToMarksJob, marksToLogJob, viewJob, walkJob, isShownJob};
+ghost use Rattle.rollmap.specs.Answers.{refusal, answerOf, edges, Gives, Lent};
 ghost use Rattle.rollmap.specs.Parts.{Joins};
 ghost use Rattle.rollmap.specs.Demand3.{Meets, MeetsView};
 ghost use Rattle.rollmap.specs.Filled.{MeetsFilling};
 ghost use Rattle.rollmap.specs.Turned.{MeetsLog, MeetsMarks};
 ghost use Rattle.rollmap.specs.Stops.{MeetsStop};
-ghost use Rattle.rollmap.specs.Steps.{resultsOver, viewAt};
+ghost use Rattle.rollmap.specs.Steps.{resultsOver, isIndexed, viewAt};
+
+// What scheduling asks for, in bytes a mark and in bytes beside them: the work buffer, and the sheet of three parts with its contents.
+const WORK_EACH: usize = 32;
+
+const WORK_BESIDE: usize = 1024;
+
+const SHEET_EACH: usize = 27;
+
+const SHEET_BESIDE: usize = 32;
 
 // What a call answers: 0 or the refusal's number, and the length, count or mark number asked for.
 #[repr(C)]
 pub struct Answer {
     pub number: u32,
     pub value: u32,
-}
-
-// Where a part lies in a sheet; 0 bytes at 0 where there is none.
-#[repr(C)]
-pub struct Extent {
-    pub offset: u32,
-    pub length: u32,
 }
 
 // A refusal counts and measures nothing.
@@ -59,29 +73,31 @@ pub extern "C" fn rollmap_check(sheet: &[u8]) -> Answer
 // Where the part of this code lies in an accepted sheet: above 0 where it is there, be it empty or not, and 0 where it is not.
 #[no_mangle]
 pub extern "C" fn rollmap_part(sheet: &[u8], code: u32) -> Extent
-    ensures { λ r. ⌜ (r ≡ extentOf (placeOf (opened (now (sheet .entry))) code)) × Located (now (sheet .entry)) code (r .offset) (r .length) ⌝ }
+    ensures { λ r. ⌜ (r ≡ placeOf ((opened (now (sheet .entry))) .layout) code) × Located (now (sheet .entry)) (openParts (now (sheet .entry))) code (r .offset) (r .length) ⌝ }
 {
-    let place = sheet::part_of(sheet, code);
-    Extent {
-        offset: place.offset,
-        length: place.length,
-    }
+    sheet::place_of(sheet, code)
 }
 
 // Puts parts together into a sheet at the start of `out`: questions 1 (of the number of parts), 4 to 9 and 13. The sheet has these parts
 // and is accepted; an accepted sheet's own parts give that sheet.
 #[no_mangle]
-pub extern "C" fn rollmap_assemble(
+pub extern "C" fn rollmap_assemble<'a>(
     parts: u32,
-    body1: &[u8],
-    body2: &[u8],
-    body3: &[u8],
+    body1: &'a [u8],
+    body2: &'a [u8],
+    body3: &'a [u8],
     out: &mut [u8],
 ) -> Answer
     ensures { λ r. ⌜ Gives (assembleJob parts (now (body1 .entry)) (now (body2 .entry)) (now (body3 .entry)) (length (now (out .entry)))) (now (out .entry)) r (now (out .exit)) ⌝ }
     ensures { λ r. ⌜ Joins parts (given parts (now (body1 .entry)) (now (body2 .entry)) (now (body3 .entry))) (now (out .entry)) r (now (out .exit)) ⌝ }
 {
-    match sheet::assemble(parts, body1, body2, body3, out) {
+    let count = parts as usize;
+    if !contents::is_count(count) {
+        return refused(1);
+    }
+    let codes: [u16; 3] = [1, 2, 3];
+    let lent = [body1, body2, body3];
+    match sheet::assemble(&codes[..count], &lent[..count], out) {
         Assembled::Refused(number) => refused(number),
         Assembled::Written(size) => Answer {
             number: 0,
@@ -93,26 +109,25 @@ pub extern "C" fn rollmap_assemble(
 // ---- scheduling
 
 // Writes part 2, the schedule of the n marks that `all` begins with, and part 3, their index, behind them.
-fn put_results(marks: &[u8], all: &mut [u8], work: &mut [u8], n: usize)
-    requires { ⌜ GoodMarks (now marks) n × (length (now marks) ≡ 11 * n) × (32 * n + 1024 ≤ length (now work)) ⌝ }
-    requires { ⌜ (27 * n ≤ length (now all)) × (take (11 * n) (now all) ≡ now marks) ⌝ }
-    ensures { λ _. ⌜ now (all .exit) ≡ resultsOver (record { marks = now (marks .entry); count = n }) (now (all .entry)) ⌝ }
+fn put_results(all: &mut [u8], work: &mut [u8], n: usize)
+    requires { ⌜ GoodMarks (take (markSize * n) (now all)) n × (workSize n ≤ length (now work)) × (indexEnd n ≤ length (now all)) ⌝ }
+    ensures { λ _. ⌜ now (all .exit) ≡ resultsOver (reelIn (now (all .entry)) n) (now (all .entry)) ⌝ }
 {
-    let rest = 11 * n;
-    scheduling::schedule(marks, work, &mut all[rest..], n);
+    scheduling::schedule_behind(all, work, n);
     indexing::build(all, work, n);
 }
 
 // Writes the scheduled sheet of the n marks that part 1 of an accepted sheet has.
 fn put_scheduled(marks: &[u8], work: &mut [u8], out: &mut [u8], n: usize)
-    requires { ⌜ GoodMarks (now marks) n × (length (now marks) ≡ 11 * n) ⌝ }
-    requires { ⌜ (32 * n + 1024 ≤ length (now work)) × (27 * n + 32 ≤ length (now out)) ⌝ }
-    ensures { λ _. ⌜ now (out .exit) ≡ over (join (newBodies (now (marks .entry)))) (now (out .entry)) ⌝ }
+    requires { ⌜ GoodMarks (now marks) n × (length (now marks) ≡ markSize * n) ⌝ }
+    requires { ⌜ (workSize n ≤ length (now work)) × (scheduledSize n ≤ length (now out)) ⌝ }
+    ensures { λ _. ⌜ now (out .exit) ≡ over (join (newParts (now (marks .entry)))) (now (out .entry)) ⌝ }
 {
-    let sizes = [marks.len(), 14 * n, 2 * n];
-    let start = contents::put_contents(out, &sizes);
+    let codes: [u16; 3] = [1, 2, 3];
+    let sizes = [marks.len(), RECORD_SIZE * n, ENTRY_SIZE * n];
+    let start = contents::put_contents(out, &codes, &sizes);
     contents::put(out, start, marks);
-    put_results(marks, &mut out[start..], work, n);
+    put_results(&mut out[start..], work, n);
 }
 
 // 13. Are the work buffer and the written one long enough for n marks?
@@ -120,7 +135,7 @@ fn has_room(n: usize, work: usize, out: usize) -> bool
     requires { ⌜ n ≤ 4096 ⌝ }
     ensures { λ r. ⌜ r ≡ hasRoom n work out ⌝ }
 {
-    32 * n + 1024 <= work && 27 * n + 32 <= out
+    WORK_EACH * n + WORK_BESIDE <= work && SHEET_EACH * n + SHEET_BESIDE <= out
 }
 
 // Writes the sheet of three parts that a sheet's marks give, and answers its length: questions 1 to 9 and 13. What the work buffer holds
@@ -130,19 +145,21 @@ pub extern "C" fn rollmap_schedule(sheet: &[u8], work: &mut [u8], out: &mut [u8]
     ensures { λ r. ⌜ Gives (scheduleJob (now (sheet .entry)) (length (now (work .entry))) (length (now (out .entry)))) (now (out .entry)) r (now (out .exit)) ⌝ }
     ensures { λ r. ⌜ Lent r (now (work .entry)) (now (work .exit)) × Meets (now (sheet .entry)) r (now (out .exit)) ⌝ }
 {
-    let number = sheet::check(sheet);
+    let found = sheet::opened(sheet);
+    let number = found.number;
     if number != 0 {
         return refused(number);
     }
-    let marks = contents::body(sheet, 0);
-    let n = marks.len() / 11;
+    let layout = found.layout;
+    let marks = contents::part(sheet, layout, 1);
+    let n = marks.len() / MARK_SIZE;
     if !has_room(n, work.len(), out.len()) {
         return refused(13);
     }
     put_scheduled(marks, work, out, n);
     Answer {
         number: 0,
-        value: (27 * n + 32) as u32,
+        value: (SHEET_EACH * n + SHEET_BESIDE) as u32,
     }
 }
 
@@ -159,8 +176,8 @@ pub extern "C" fn rollmap_fill(marks: &[u8], out: &mut [u8]) -> Answer
     if number != 0 {
         return refused(number);
     }
-    let n = marks.len() / 11;
-    let size = 11 * n;
+    let n = marks.len() / MARK_SIZE;
+    let size = MARK_SIZE * n;
     if out.len() < size {
         return refused(13);
     }
@@ -184,8 +201,8 @@ pub extern "C" fn rollmap_log_to_marks(log: &[u8], out: &mut [u8]) -> Answer
     if number != 0 {
         return refused(number);
     }
-    let n = log.len() / 13;
-    let marks_size = 11 * n;
+    let n = log.len() / LOG_RECORD_SIZE;
+    let marks_size = MARK_SIZE * n;
     if out.len() < marks_size {
         return refused(13);
     }
@@ -207,8 +224,8 @@ pub extern "C" fn rollmap_marks_to_log(marks: &[u8], out: &mut [u8]) -> Answer
     if number != 0 {
         return refused(number);
     }
-    let n = marks.len() / 11;
-    let log_size = 13 * n;
+    let n = marks.len() / MARK_SIZE;
+    let log_size = LOG_RECORD_SIZE * n;
     if out.len() < log_size {
         return refused(13);
     }
@@ -228,18 +245,25 @@ fn is_rectangle(e: Rectangle) -> bool
     (e.x0 <= e.x1) & (e.y0 <= e.y1)
 }
 
-// The view of an accepted sheet of three parts at z = k/64: question 13, and then the map and the count.
-fn view_at(sheet: &[u8], rectangle: Rectangle, k: u32, map: &mut [u8]) -> Answer
-    requires { ⌜ (check (now sheet) ≡ 0) × (countAt (now sheet) ≡ 3) × (k ≤ 65536) ⌝ }
+// 10. Are parts 2 and 3 there?
+fn is_indexed(layout: Layout) -> bool
+    ensures { λ r. ⌜ r ≡ isIndexed layout ⌝ }
+{
+    contents::is_there(layout, 2) & contents::is_there(layout, 3)
+}
+
+// The view of an accepted sheet with parts 2 and 3 at z = k/64: question 13, and then the map and the count.
+fn view_at(sheet: &[u8], layout: Layout, rectangle: Rectangle, k: u32, map: &mut [u8]) -> Answer
+    requires { ⌜ (check (now sheet) ≡ 0) × (layout ≡ layoutOf (now sheet)) × (question10 (split (now sheet)) ≡ true) × (k ≤ 65536) ⌝ }
     ensures { λ r. ⌜ Gives (viewAt (now (sheet .entry)) rectangle k (length (now (map .entry)))) (now (map .entry)) r (now (map .exit)) ⌝ }
 {
-    let marks = contents::body(sheet, 0);
-    let n = marks.len() / 11;
+    let marks = contents::part(sheet, layout, 1);
+    let n = marks.len() / MARK_SIZE;
     if map.len() < (n + 7) / 8 {
         return refused(13);
     }
-    let schedule = contents::body(sheet, 1);
-    let index = contents::body(sheet, 2);
+    let schedule = contents::part(sheet, layout, 2);
+    let index = contents::part(sheet, layout, 3);
     Answer {
         number: 0,
         value: view::show(marks, schedule, index, n, rectangle, k, map),
@@ -250,11 +274,13 @@ fn view_at(sheet: &[u8], rectangle: Rectangle, k: u32, map: &mut [u8]) -> Answer
 fn view(sheet: &[u8], rectangle: Rectangle, zoom: Zoom, map: &mut [u8]) -> Answer
     ensures { λ r. ⌜ Gives (viewJob (now (sheet .entry)) rectangle zoom (length (now (map .entry)))) (now (map .entry)) r (now (map .exit)) ⌝ }
 {
-    let number = sheet::check(sheet);
+    let found = sheet::opened(sheet);
+    let number = found.number;
     if number != 0 {
         return refused(number);
     }
-    if contents::count_at(sheet) < 3 {
+    let layout = found.layout;
+    if !is_indexed(layout) {
         return refused(10);
     }
     if !is_rectangle(rectangle) {
@@ -262,7 +288,7 @@ fn view(sheet: &[u8], rectangle: Rectangle, zoom: Zoom, map: &mut [u8]) -> Answe
     }
     match zoom::scale_of(zoom) {
         Scale::Refused => refused(12),
-        Scale::Taken(k) => view_at(sheet, rectangle, k, map),
+        Scale::Taken(k) => view_at(sheet, layout, rectangle, k, map),
     }
 }
 

@@ -89,13 +89,13 @@ module _ (s front tail : List ℕ) (f k at : ℕ) (l : length front ≡ f) (e : 
       ∙ ap (drop f) cut ∙ drop-at front tail f l)
 
 -- the three pieces of a row
-pub record Split (s a b c : List ℕ) (p q r at : ℕ) : Type 0 where
+pub record Pieces (s a b c : List ℕ) (p q r at : ℕ) : Type 0 where
   pub first : take p (drop at s) ≡ a
   pub second : take q (drop (at + p) s) ≡ b
   pub third : take r (drop (at + (p + q)) s) ≡ c
 
 pub split : (s a b c : List ℕ) (p q r at : ℕ) → length a ≡ p → length b ≡ q → at + (p + (q + r)) ≤ length s
-    → take (p + (q + r)) (drop at s) ≡ a ++ (b ++ c) → Split s a b c p q r at
+    → take (p + (q + r)) (drop at s) ≡ a ++ (b ++ c) → Pieces s a b c p q r at
 split s a b c p q r at la lb h e =
     let t = tail-of s a (b ++ c) p (q + r) at la e h in
     let far : at + (p + q) ≡ at + p + q = omega arith in
@@ -113,6 +113,12 @@ pieces s at p q r =
     rw (e, ← drop-drop p at s, ← drop-drop q (at + p) s, take-add p (q + r) (drop at s), take-add q r (drop p (drop at s)), ← drop-drop p at s)
 
 -- ---- writing
+
+-- three pieces, each where the last ended
+pub pieces-sets : (l : List ℕ) {l₁ l₂ l₃ : List ℕ} (a b c : List ℕ) (at : ℕ) {i j : ℕ}
+    → (i ≡ at + length a) × (l₁ ≡ sets l at a) → (j ≡ i + length b) × (l₂ ≡ sets l₁ i b) → l₃ ≡ sets l₂ j c
+    → l₃ ≡ sets l at (a ++ (b ++ c))
+pieces-sets l a b c at p q e = rw (e, q .1, q .0, p .1, p .0, sets-append l at a, sets-append _ (at + length a) b)
 
 module _ (row : ℕ → List ℕ) (w : ℕ) (before : List ℕ) where
   pub rows-none : before ≡ sets before 0 (rows row 0)

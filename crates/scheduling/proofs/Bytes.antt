@@ -9,12 +9,11 @@ use lib.Seq.{sets, sets-eq, length-sets, length-take-le, take-at, drop-at, ext-g
 use Rattle.lists.specs.Stores.{Clear, Kept}
 use Rattle.lists.specs.StoreLaws.{kept-sets}
 use Rattle.numbers.specs.Little.{leAt, leBytes, Bytes}
-use Rattle.numbers.specs.Laws.{le-length, le-bound, read-back-sets, number-kept}
+use Rattle.numbers.specs.Laws.{le-length, le-bound, read-back-sets, number-kept, write-then, write-joined}
 use Rattle.marks.specs.Marks.{markSize, yOffset, usedAt}
 use Rattle.elimination.specs.declared.Record.{Record}
 use Rattle.elimination.specs.Records.{recordSize, numOffset, denOffset, recordAt, recordBytes}
 use Rattle.elimination.specs.Schedule.{record-length}
-use Rattle.elimination.proofs.Bytes.{write-then, joined}
 use Rattle.searching.specs.Rows.{rowSize, rowXOffset, rowYOffset, rowRadiusOffset, rowRecordOffset}
 use Rattle.scheduling.specs.Filling.{rowBytes, RowAt}
 
@@ -23,7 +22,7 @@ pub row-put : (s : List ℕ) (m : ℕ) (w : List ℕ) (at : ℕ) {t u v z : List
     → v ≡ sets u (at + rowYOffset) (leBytes 2 (leAt 2 s (markSize * m + yOffset)))
     → z ≡ sets v (at + rowRadiusOffset) (leBytes 2 (usedAt s m)) → z ≡ sets w at (rowBytes s m)
 row-put s m w at {t} {u} a b c d =
-    joined 2 m w at _ refl a (joined 2 _ t (at + rowXOffset) _ (omega arith) b (joined 2 _ u (at + rowYOffset) _ (omega arith) c d))
+    write-joined 2 m w at _ refl a (write-joined 2 _ t (at + rowXOffset) _ (omega arith) b (write-joined 2 _ u (at + rowYOffset) _ (omega arith) c d))
 
 read-first : (w v : ℕ) (s : List ℕ) (at : ℕ) (rest : List ℕ) → at + w ≤ length s → v < 2 ^ (8 * w)
     → leAt w (sets s at (leBytes w v ++ rest)) at ≡ v

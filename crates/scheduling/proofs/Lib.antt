@@ -3,3 +3,4 @@ pub mod Cells
 pub mod Progress
 pub mod Sending
 pub mod Filling
+pub mod Behind

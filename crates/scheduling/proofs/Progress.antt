@@ -21,7 +21,7 @@ use Rattle.elimination.specs.Marks.{Marks}
 use Rattle.elimination.specs.Process.{Removal, stays, put}
 use Rattle.elimination.specs.Records.{recordSize, numOffset, denOffset, recordBytes, fractionOf}
 use Rattle.elimination.specs.Settled.{SettledAt}
-use Rattle.elimination.specs.Lemmas.RankOrder.{visited, all-settled}
+use Rattle.elimination.specs.Laws.{visited, all-settled}
 use Rattle.elimination.specs.Theorems.{settled-process}
 use Rattle.searching.specs.Rows.{rowSize, rowXOffset, rowYOffset, rowRadiusOffset, rowRecordOffset, rowNumber, rowLabel, rowValue, rowsTouch, rowRecord, Stored, StoredAt}
 use Rattle.searching.specs.Scan.{Above, Scanned}

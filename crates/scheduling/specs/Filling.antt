@@ -63,3 +63,8 @@ pub record RowsPut (s : List ℕ) (n p : ℕ) (w₀ w : List ℕ) : Type 0 where
 pub record InRank (s w : List ℕ) (n : ℕ) : Type 0 where
   pub ranking : Ranking (marksOf (record { marks = s; count = n })) (rowNumber w)
   pub label-is : (q : ℕ) → q < n → rowLabel w q ≡ labelAt s (rowNumber w q)
+
+-- w, which was w₀, begins with the rows of the n marks of s in the order of rank
+pub record Ranked (s : List ℕ) (n : ℕ) (w₀ w : List ℕ) : Type 0 where
+  pub long : length w ≡ length w₀
+  pub in-rank : InRank s w n

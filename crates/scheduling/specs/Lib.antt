@@ -3,3 +3,4 @@
 pub mod Settling
 pub mod Sending
 pub mod Filling
+pub mod Behind

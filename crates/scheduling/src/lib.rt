@@ -16,9 +16,10 @@ use searching::ROW_Y;
 ghost use mathlib.Core.Path.{_≡_};
 ghost use mathlib.Core.List.{_++_};
 ghost use Prim.Native.Nat.{ℕ, _+_, _*_, _<_, _≤_};
-ghost use lib.ListN.{length, drop};
+ghost use lib.ListN.{length, take, drop};
 ghost use lib.Seq.{sets};
 ghost use Rattle.marks.specs.Marks.{markSize, usedAt};
+ghost use Rattle.marks.specs.Good.{GoodMarks};
 ghost use Rattle.elimination.specs.Records.{recordSize};
 ghost use Rattle.elimination.specs.Reel.{scheduleOf};
 ghost use Rattle.grid.specs.Plan.{Divides};
@@ -26,7 +27,8 @@ ghost use Rattle.searching.specs.Rows.{rowSize, rowRecordOffset, rowNumber, row
 ghost use Rattle.searching.specs.Cells.{Gridded};
 ghost use Rattle.scheduling.specs.Settling.{Scannable, Settles, Processed};
 ghost use Rattle.scheduling.specs.Sending.{sentRecord, sendAt, RowsNumbered, Spread, Published};
-ghost use Rattle.scheduling.specs.Filling.{workSize, Schedulable, rowBytes, Keyed, numberAt, RowsPut};
+ghost use Rattle.scheduling.specs.Filling.{workSize, Schedulable, rowBytes, Keyed, numberAt, RowsPut, Ranked};
+ghost use Rattle.scheduling.specs.Behind.{scheduleEnd, withSchedule};
 
 // From this many rows on a grid pays.
 const MANY: usize = 256;
@@ -200,14 +202,32 @@ fn put_rows(marks: &[u8], work: &mut [u8], n: usize)
     }
 }
 
-// Writes part 2 for the n marks at the start of `marks`: who removes each mark, and where. `work` begins with the spare places of the
-// sort, and the keys stand behind them; then it begins with the rows, and the grid stands behind these.
-pub fn schedule(marks: &[u8], work: &mut [u8], out: &mut [u8], n: usize)
-    requires { ⌜ Schedulable (now marks) (now work) (now out) n ⌝ }
-    ensures { λ _. ⌜ now (out .exit) ≡ scheduleOf (record { marks = now (marks .entry); count = n }) ++ drop (recordSize * n) (now (out .entry)) ⌝ }
+// The rows of the n marks at the start of `marks`, in the order of rank. `work` begins with the spare places of the sort, and the keys stand
+// behind them; then it begins with the rows, and the grid stands behind these.
+fn put_ranked(marks: &[u8], work: &mut [u8], n: usize)
+    requires { ⌜ GoodMarks (now marks) n × (workSize n ≤ length (now work)) ⌝ }
+    ensures { λ _. ⌜ Ranked (now (marks .entry)) n (now (work .entry)) (now (work .exit)) ⌝ }
 {
     put_keys(marks, work, n);
     sorting::sort(work, KEYS * n, 0, n);
     put_rows(marks, work, n);
+}
+
+// Writes part 2 for the n marks at the start of `marks`: who removes each mark, and where.
+pub fn schedule(marks: &[u8], work: &mut [u8], out: &mut [u8], n: usize)
+    requires { ⌜ Schedulable (now marks) (now work) (now out) n ⌝ }
+    ensures { λ _. ⌜ now (out .exit) ≡ scheduleOf (record { marks = now (marks .entry); count = n }) ++ drop (recordSize * n) (now (out .entry)) ⌝ }
+{
+    put_ranked(marks, work, n);
     schedule_rows(work, out, n);
+}
+
+// The same where the marks stand in the buffer that is written, with the room for part 2 behind them: no copy of them stands elsewhere.
+pub fn schedule_behind(all: &mut [u8], work: &mut [u8], n: usize)
+    requires { ⌜ GoodMarks (take (markSize * n) (now all)) n × (workSize n ≤ length (now work)) × (scheduleEnd n ≤ length (now all)) ⌝ }
+    ensures { λ _. ⌜ now (all .exit) ≡ withSchedule (now (all .entry)) n ⌝ }
+{
+    let size = MARK_SIZE * n;
+    put_ranked(&all[..size], work, n);
+    schedule_rows(work, &mut all[size..], n);
 }

@@ -1,4 +1,4 @@
--- The rows that scheduling works on, one a mark, in the order of rank: number (2), x (2), y (2), used radius (2), room for a popup (4), and
+-- The rows that scheduling works on, one a mark, in the order of rank: number (2), x (2), y (2), used radius (2), room for a popup (3), and
 -- what was found for the mark, as its record in part 2 (14). `w` begins with the rows and `q` is a row.
 use Prim.Native.Nat.{ℕ, _+_, _*_, _<_, _≤_}
 use mathlib.Core.Path.{_≡_}
@@ -15,7 +15,7 @@ use Rattle.elimination.specs.Records.{recordAt, fractionOf}
 -- ---- the fields
 
 abbrev pub rowSize : ℕ
-rowSize = 26
+rowSize = 25
 
 -- where the fields behind the number begin
 abbrev pub rowXOffset : ℕ
@@ -28,7 +28,7 @@ abbrev pub rowRadiusOffset : ℕ
 rowRadiusOffset = 6
 
 abbrev pub rowRecordOffset : ℕ
-rowRecordOffset = 12
+rowRecordOffset = 11
 
 abbrev pub rowNumber : List ℕ → ℕ → ℕ
 rowNumber w q = leAt 2 w (rowSize * q)

@@ -19,7 +19,7 @@ ghost use Rattle.searching.specs.Cells.{Gridded, CellAdded, Own, Other, 
 const FEW: usize = 192;
 
 // The bytes of a row, and where the fields behind its number begin. The bytes before the record are room for a popup.
-pub const ROW_SIZE: usize = 26;
+pub const ROW_SIZE: usize = 25;
 
 pub const ROW_X: usize = 2;
 
@@ -27,7 +27,7 @@ pub const ROW_Y: usize = 4;
 
 pub const ROW_RADIUS: usize = 6;
 
-pub const ROW_RECORD: usize = 12;
+pub const ROW_RECORD: usize = 11;
 
 // ---- rows
 

@@ -1,14 +1,16 @@
 // A whole sheet: checking, putting together and opening.
 use contents::Extent;
+use contents::Layout;
 ghost use mathlib.Core.Path.{_≡_};
 ghost use mathlib.Core.Bool.{true};
-ghost use Rattle.contents.specs.Contents.{Writable, given};
-ghost use Rattle.contents.specs.Questions.{isCount};
-ghost use Rattle.contents.specs.Laid.{Whole};
-ghost use Rattle.contents.specs.Extent.{cutOf};
+ghost use mathlib.Core.List.{map};
+ghost use lib.ListN.{length};
+ghost use Rattle.contents.specs.Contents.{together};
+ghost use Rattle.contents.specs.Questions.{codesRight};
+ghost use Rattle.contents.specs.Places.{placeOf, cutOf};
 ghost use Rattle.sheet.specs.Questions.{check};
-ghost use Rattle.sheet.specs.Layout.{layoutOf, opened, placeOf};
-ghost use Rattle.sheet.specs.Assembled.{kept, Placing, Assembling};
+ghost use Rattle.sheet.specs.Opened.{opened};
+ghost use Rattle.sheet.specs.Assembled.{Assembling};
 
 // ---- checking
 
@@ -20,12 +22,14 @@ pub fn check(s: &[u8]) -> u32
     if number != 0 {
         return number;
     }
-    bodies::bodies_answer(
-        contents::count_at(s),
+    let count = contents::count_at(s);
+    let codes = contents::codes_of(s);
+    let lent = [
         contents::body(s, 0),
         contents::body(s, 1),
         contents::body(s, 2),
-    )
+    ];
+    bodies::bodies_answer(&codes[..count], &lent[..count])
 }
 
 // ---- putting together
@@ -36,108 +40,58 @@ pub enum Assembled {
     Written(u32),
 }
 
-// A body where there is one, else no bytes.
-fn kept<'a>(there: bool, body: &'a [u8]) -> &'a [u8]
-    ensures { λ r. ⌜ now r ≡ kept there (now (body .entry)) ⌝ }
+// Puts the bodies under these codes, which are right, together: questions 4 to 9 and 13, and then the sheet.
+pub fn assemble(codes: &[u16], bodies: &[&[u8]], out: &mut [u8]) -> Assembled
+    requires { ⌜ (length (now codes) ≡ length (now bodies)) × (codesRight (now codes) ≡ true) ⌝ }
+    ensures { λ r. ⌜ Assembling (together (now (codes .entry)) (map now (now (bodies .entry)))) (now (out .entry)) r (now (out .exit)) ⌝ }
 {
-    if there {
-        return body;
-    }
-    &body[..0]
-}
-
-// The sheet of the first `count` of three bodies, at the start of `out`, if there is room.
-fn put_sheet(out: &mut [u8], count: usize, body1: &[u8], body2: &[u8], body3: &[u8]) -> Assembled
-    requires { ⌜ (isCount count ≡ true) × Writable (given count (now body1) (now body2) (now body3)) ⌝ }
-    ensures { λ r. ⌜ Placing (given count (now (body1 .entry)) (now (body2 .entry)) (now (body3 .entry))) (now (out .entry)) r (now (out .exit)) ⌝ }
-{
-    let second = kept(2 <= count, body2);
-    let third = kept(3 <= count, body3);
-    let size = 10 * count + 2 + (body1.len() + (second.len() + third.len()));
-    if out.len() < size {
-        return Assembled::Refused(13);
-    }
-    contents::put_parts(out, count, body1, second, third);
-    Assembled::Written(size as u32)
-}
-
-// Puts the first `count` of three bodies together: questions 1 (of the count), 4 to 9 and 13, and then the sheet.
-pub fn assemble(count: u32, body1: &[u8], body2: &[u8], body3: &[u8], out: &mut [u8]) -> Assembled
-    ensures { λ r. ⌜ Assembling count (given count (now (body1 .entry)) (now (body2 .entry)) (now (body3 .entry))) (now (out .entry)) r (now (out .exit)) ⌝ }
-{
-    let parts = count as usize;
-    if !contents::is_count(parts) {
-        return Assembled::Refused(1);
-    }
-    let number = bodies::bodies_answer(parts, body1, body2, body3);
+    let number = bodies::bodies_answer(codes, bodies);
     if number != 0 {
         return Assembled::Refused(number);
     }
-    put_sheet(out, parts, body1, body2, body3)
+    if !contents::has_room(codes, bodies, out.len()) {
+        return Assembled::Refused(13);
+    }
+    let size = contents::put_parts(out, codes, bodies);
+    Assembled::Written(size as u32)
 }
 
 // ---- the opened sheet
 
-// How many parts there are, and where each lies.
-pub struct Layout {
-    pub count: usize,
-    pub marks: Extent,
-    pub schedule: Extent,
-    pub index: Extent,
+// What opening a sheet finds: the number that checking answers, and where the parts lie: none where it is refused.
+pub struct Opening {
+    pub number: u32,
+    pub layout: Layout,
 }
 
-// Where all parts lie, by the contents.
-fn layout_of(s: &[u8]) -> Layout
-    requires { ⌜ Whole (now s) ⌝ }
-    ensures { λ r. ⌜ r ≡ layoutOf (now (s .entry)) ⌝ }
-{
-    Layout {
-        count: contents::count_at(s),
-        marks: contents::extent_at(s, 0),
-        schedule: contents::extent_at(s, 1),
-        index: contents::extent_at(s, 2),
-    }
-}
-
-// Where the part of this code lies.
-fn place_of(l: Layout, code: u32) -> Extent
-    ensures { λ r. ⌜ r ≡ placeOf l code ⌝ }
-{
-    match code {
-        1 => l.marks,
-        2 => l.schedule,
-        3 => l.index,
-        _ => contents::nowhere(),
-    }
-}
-
-// Where the parts of a sheet lie, and no parts where it is refused.
-pub fn opened(s: &[u8]) -> Layout
+pub fn opened(s: &[u8]) -> Opening
     ensures { λ r. ⌜ r ≡ opened (now (s .entry)) ⌝ }
 {
-    if check(s) == 0 {
-        return layout_of(s);
+    let number = check(s);
+    if number != 0 {
+        let none = contents::no_parts();
+        return Opening {
+            number,
+            layout: none,
+        };
     }
-    Layout {
-        count: 0,
-        marks: contents::nowhere(),
-        schedule: contents::nowhere(),
-        index: contents::nowhere(),
-    }
+    let layout = contents::layout_of(s);
+    Opening { number, layout }
 }
 
-// The bytes of the part of this code, by a layout, which may be any.
-fn part_in<'a>(s: &'a [u8], l: Layout, code: u32) -> &'a [u8]
-    ensures { λ r. ⌜ now r ≡ cutOf (now (s .entry)) (placeOf l code) ⌝ }
+// Where the parts of a sheet lie.
+fn layout_of(s: &[u8]) -> Layout
+    ensures { λ r. ⌜ r ≡ (opened (now (s .entry))) .layout ⌝ }
 {
-    contents::cut(s, place_of(l, code))
+    let found = opened(s);
+    found.layout
 }
 
 // Where the part of this code lies in an accepted sheet.
-pub fn part_of(s: &[u8], code: u32) -> Extent
-    ensures { λ r. ⌜ r ≡ placeOf (opened (now (s .entry))) code ⌝ }
+pub fn place_of(s: &[u8], code: u32) -> Extent
+    ensures { λ r. ⌜ r ≡ placeOf ((opened (now (s .entry))) .layout) code ⌝ }
 {
-    place_of(opened(s), code)
+    contents::place_of(layout_of(s), code)
 }
 
 // An opened sheet: the caller's bytes, and where the parts lie in them.
@@ -148,9 +102,9 @@ pub struct Sheet<'a> {
 
 // A refused sheet opens with no parts.
 pub fn open<'a>(bytes: &'a [u8]) -> Sheet<'a>
-    ensures { λ r. ⌜ (r .bytes ≡ bytes .entry) × (r .layout ≡ opened (now (bytes .entry))) ⌝ }
+    ensures { λ r. ⌜ (r .bytes ≡ bytes .entry) × (r .layout ≡ (opened (now (bytes .entry))) .layout) ⌝ }
 {
-    let layout = opened(bytes);
+    let layout = layout_of(bytes);
     Sheet { bytes, layout }
 }
 
@@ -165,5 +119,5 @@ pub fn part_count<'a>(sheet: Sheet<'a>) -> usize
 pub fn part<'a>(sheet: Sheet<'a>, code: u32) -> &'a [u8]
     ensures { λ r. ⌜ now r ≡ cutOf (now (sheet .entry .bytes)) (placeOf (sheet .entry .layout) code) ⌝ }
 {
-    part_in(sheet.bytes, sheet.layout, code)
+    contents::part(sheet.bytes, sheet.layout, code)
 }

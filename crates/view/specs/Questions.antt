@@ -9,15 +9,15 @@ use Rattle.zoom.specs.declared.Zoom.{Zoom}
 use Rattle.zoom.specs.declared.Scale.{Scale}
 use Rattle.zoom.specs.declared.Scale.the-variants.{Taken, Refused}
 use Rattle.zoom.specs.Zoom.{scaleOf}
-use Rattle.contents.specs.Contents.{split, has}
+use Rattle.contents.specs.Contents.{Part, split, has}
 use Rattle.contents.specs.Asking.{Question, _asks_}
 use Rattle.sheet.specs.Questions.{checkQuestions, sheetCount}
 use Rattle.view.specs.declared.Rectangle.{Rectangle}
 use Rattle.bitmap.specs.Map.{mapSize}
 
 -- 10. "Are parts 2 and 3 there?"
-unfoldable pub question10 : List (List ℕ) → Bool
-question10 bodies = has bodies 2 && has bodies 3
+unfoldable pub question10 : List Part → Bool
+question10 parts = has parts 2 && has parts 3
 
 -- 11. "Is x0 ≤ x1 and y0 ≤ y1?"
 unfoldable pub question11 : Rectangle → Bool

@@ -2,13 +2,13 @@
 use Prim.Native.Nat.{_-_, _≤_}
 use mathlib.Core.Path.{_≡_}
 use native.Mathlib.Omega.{arith}
-use Rattle.bitmap.specs.Facts.{Cleared}
+use Rattle.bitmap.specs.Facts.{MapCleared}
 use Rattle.bitmap.proofs.Turns.{clear-none, clear-more}
 use Rattle.bitmap.proofs.clear.Statement.{statement}
 use Rattle.bitmap.proofs.clear.Tie as tie
 
 abbrev Inv-loop : tie.InvT-loop
-Inv-loop map₀ size i₀ map i = (i ≤ size) × Cleared i map₀ map
+Inv-loop map₀ size i₀ map i = (i ≤ size) × MapCleared i map₀ map
 
 abbrev μ-loop : tie.MeasureT-loop
 μ-loop map₀ size i₀ map i = size - i

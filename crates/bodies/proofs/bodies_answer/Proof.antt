@@ -1,44 +1,48 @@
--- `bodies::bodies_answer` meets its contract: the groups of questions are asked in their order, and the first that says 'no' is the answer. Assumes nothing.
-use mathlib.Core.Path.{_≡_, sym, _∙_}
-use mathlib.Core.List.{_++_}
+-- `bodies::bodies_answer` meets its contract: part 1 is asked about first, and the first 'no' is the answer. Assumes nothing.
+use mathlib.Core.Path.{_≡_, refl, sym, _∙_}
+use mathlib.Core.List.{map}
+use denote.Ref.{now}
+use Rattle.contents.specs.Contents.{together, marksPart}
+use Rattle.contents.specs.Asking.{answer}
+use Rattle.contents.specs.Laws.{append-yes, append-no}
+use Rattle.bodies.specs.Questions.{part1Questions, bodyQuestions}
+use Rattle.bodies.specs.Lemmas.Numbered.{part1-numbered}
+use Rattle.bodies.specs.Lemmas.Fitting.{part1-iff}
 use native.Mathlib.Omega.{arith}
 use borrow.Author.Needs.{needs}
-use denote.Ref.{now}
-use Rattle.contents.specs.Contents.{given}
-use Rattle.contents.specs.Asking.{answer}
-use Rattle.contents.specs.Lemmas.Asked.{append-yes, append-no}
-use Rattle.bodies.specs.Questions.{markCount, part1Questions, bodyQuestions}
-use Rattle.bodies.specs.Stages.{lastQuestions}
-use Rattle.bodies.specs.Lemmas.Numbered.{part1-numbered}
-use Rattle.bodies.specs.Lemmas.Fitting.{part1-iff, given-stages}
 use Rattle.bodies.proofs.bodies_answer.Statement.{statement}
 use Rattle.bodies.proofs.bodies_answer.Tie as tie
 
--- what is to be answered, in the groups in which it is asked
-asked : (c : tie.Start) → let s = now (c .args .body1) in
-    let k = c .args .count in
-    let p = now (c .args .body2) in
-    let t = now (c .args .body3) in
-    answer (bodyQuestions (given k s p t)) ≡ answer (part1Questions s ++ lastQuestions s p t k (markCount s))
-asked c = given-stages (c .args .count) (now (c .args .body1)) (now (c .args .body2)) (now (c .args .body3)) (c .pre)
+find-requires : tie.Need-find-requires
+find-requires c κs = search needs
 
 part1-answer-requires : tie.Need-part1-answer-requires
 part1-answer-requires c κs = search needs
 
 returns : tie.Need-returns
+unfolding bodyQuestions
 returns c =
-    c .before .part1-answer .ensures
-    ∙ sym (asked (c .before .before .before .before .before)
-    ∙ append-no (part1Questions _) _ (part1-numbered _) (omega (arith, c .before .part1-answer .ensures, c .if1 .taken)))
+    let a = c .before .before .before .before .args in
+    let s = marksPart (together (now (a .codes)) (map now (now (a .bodies)))) in
+    let e : c .before .part1-answer .result ≡ answer (part1Questions s) = rw (c .before .before .find .ensures) at (c .before .part1-answer .ensures) in
+    e ∙ sym (append-no (part1Questions s) _ (part1-numbered s) (omega (arith, e, c .if1 .taken)))
 
 last-answer-requires : tie.Need-last-answer-requires
-last-answer-requires c κs = part1-iff _ .0 (sym (c .before .part1-answer .ensures) ∙ c .if1 .left) .0
+last-answer-requires c κs =
+    let b = c .before .before .before .before in
+    let s = marksPart (together (now (b .args .codes)) (map now (now (b .args .bodies)))) in
+    let e : c .before .part1-answer .result ≡ answer (part1Questions s) = rw (c .before .before .find .ensures) at (c .before .part1-answer .ensures) in
+    let good = part1-iff s .0 (sym e ∙ c .if1 .left) .0 in
+    (((b .pre .0, b .pre .1, rw (c .before .before .find .ensures) (record { counted = refl; marks = good }))), b .pre .2)
 
 returns-2 : tie.Need-returns-2
+unfolding bodyQuestions
 returns-2 c =
-    c .last-answer .ensures
-    ∙ sym (asked (c .before .before .before .before .before .before)
-    ∙ append-yes (part1Questions _) _ (part1-numbered _) (sym (c .before .before .part1-answer .ensures) ∙ c .before .if1 .left))
+    let a = c .before .before .before .before .before .args in
+    let s = marksPart (together (now (a .codes)) (map now (now (a .bodies)))) in
+    let e : c .before .before .part1-answer .result ≡ answer (part1Questions s) = rw (c .before .before .before .find .ensures) at (c .before .before .part1-answer .ensures) in
+    c .last-answer .ensures ∙ sym (append-yes (part1Questions s) _ (part1-numbered s) (sym e ∙ c .before .if1 .left))
 
 pub bodies-answer-spec : {M : Type 1} → statement M
-bodies-answer-spec = tie.close (tie.spec part1-answer-requires returns last-answer-requires returns-2)
+bodies-answer-spec =
+    tie.close (tie.spec find-requires part1-answer-requires returns last-answer-requires returns-2)

@@ -6,7 +6,7 @@ use borrow.Author.Tests.{le-leb, lt-leb}
 use lib.Dec.{eqb}
 use Rattle.marks.specs.declared.House.{House}
 use Rattle.marks.specs.Marks.{isKind, isRadius, houseOf, houseNumber}
-use Rattle.contents.specs.Lemmas.Asked.{none-asked, asked-yes, asked-no}
+use Rattle.contents.specs.Laws.{none-asked, asked-yes, asked-no}
 use Rattle.bodies.proofs.fields_answer.Statement.{statement}
 use Rattle.bodies.proofs.fields_answer.Tie as tie
 

@@ -1,41 +1,59 @@
--- `bodies::has_sizes` meets its contract: a part that is not there is not asked about. Assumes nothing.
-use Prim.Native.Nat.{_*_}
+-- `bodies::has_sizes` meets its contract: the parts are found by their codes. Assumes nothing.
+use mathlib.Core.Path.{_≡_}
+use mathlib.Core.List.{map}
+use lib.ListN.{length, length-map}
+use denote.Ref.{now}
+use Rattle.contents.specs.Laws.{together-codes}
+use Rattle.bodies.specs.Questions.{question7}
 use native.Mathlib.Omega.{arith}
 use borrow.Author.Needs.{needs}
-use borrow.Author.Tests.{le-leb, lt-leb, eq-eqb, ne-eqb}
-use Rattle.bodies.specs.Stages.{sizesRight}
 use Rattle.bodies.proofs.has_sizes.Statement.{statement}
 use Rattle.bodies.proofs.has_sizes.Tie as tie
 
+find-requires : tie.Need-find-requires
+find-requires c κs = search needs
+
+find-requires-2 : tie.Need-find-requires-2
+find-requires-2 c κs = search needs
+
+names-requires : tie.Need-names-requires
+names-requires c κs = search needs
+
+mul-is-sized : tie.Need-mul-is-sized
+mul-is-sized c = omega (arith, c .before .before .before .before .pre .2 .marks .few)
+
+is-sized-requires : tie.Need-is-sized-requires
+is-sized-requires c κs = search needs
+
+names-requires-2 : tie.Need-names-requires-2
+names-requires-2 c κs = search needs
+
+mul-is-sized-2 : tie.Need-mul-is-sized-2
+mul-is-sized-2 c = omega (arith, c .before .before .before .before .before .before .pre .2 .marks .few)
+
+is-sized-requires-2 : tie.Need-is-sized-requires-2
+is-sized-requires-2 c κs = search needs
+
 returns : tie.Need-returns
-unfolding sizesRight
+unfolding question7
 returns c =
-    let k = c .before .args .count in
-    rw (lt-leb 2 k (c .if1 .taken), lt-leb 3 k (omega arith))
-
-mul-if2 : tie.Need-mul-if2
-mul-if2 c = search needs
-
-returns-2 : tie.Need-returns-2
-unfolding sizesRight
-returns-2 c =
-    let a = c .before .before .args in
-    rw (le-leb 2 (a .count) (c .before .if1 .left), ne-eqb (a .schedule) (14 * a .n) (c .if2 .taken))
-
-returns-3 : tie.Need-returns-3
-unfolding sizesRight
-returns-3 c =
-    let a = c .before .before .before .args in
-    rw (le-leb 2 (a .count) (c .before .before .if1 .left), eq-eqb (a .schedule) (14 * a .n) (c .before .if2 .left), lt-leb 3 (a .count) (c .if3 .taken))
-
-mul-result : tie.Need-mul-result
-mul-result c = search needs
-
-returns-4 : tie.Need-returns-4
-unfolding sizesRight
-returns-4 c =
-    let a = c .before .before .before .args in
-    rw (le-leb 2 (a .count) (c .before .before .if1 .left), eq-eqb (a .schedule) (14 * a .n) (c .before .if2 .left), le-leb 3 (a .count) (c .if3 .left))
+    let b = c .before .before .before .before .before .before .before in
+    let codes = now (b .args .codes) in
+    let bodies = map now (now (b .args .bodies)) in
+    let same : length codes ≡ length bodies = rw length-map (b .pre .0) in
+    rw (together-codes codes bodies same, c .before .before .is-sized .ensures, c .is-sized2 .ensures, c .before .before .before .names .ensures, c .before .names2 .ensures)
+    (rw (c .before .before .before .before .before .find .ensures, c .before .before .before .before .find2 .ensures, b .pre .2 .counted))
 
 pub has-sizes-spec : {M : Type 1} → statement M
-has-sizes-spec = tie.close (tie.spec returns mul-if2 returns-2 returns-3 mul-result returns-4)
+has-sizes-spec =
+    tie.close
+    (tie.spec
+    find-requires
+    find-requires-2
+    names-requires
+    mul-is-sized
+    is-sized-requires
+    names-requires-2
+    mul-is-sized-2
+    is-sized-requires-2
+    returns)

@@ -5,7 +5,7 @@ use mathlib.Core.Bool.{true}
 use native.Mathlib.Omega.{arith}
 use Rattle.lists.specs.Tests.{every}
 use Rattle.lists.specs.TestLaws.{said-no, said-yes, every-more, every-not}
-use Rattle.bodies.specs.Questions.{recordRight, question8}
+use Rattle.bodies.specs.Questions.{recordRight, isSchedule}
 use Rattle.bodies.proofs.is_schedule.Statement.{statement}
 use Rattle.bodies.proofs.is_schedule.Tie as tie
 
@@ -25,7 +25,7 @@ record-right-requires c κs =
     (p .0, p .1, omega arith)
 
 returns : tie.Need-returns Inv-loop μ-loop
-unfolding question8
+unfolding isSchedule
 returns c =
     sym (every-not _ _ (c .before .before .before .loop .m) (c .before .before .loop-test .taken) (said-no (c .before .record-right .ensures) (c .if1 .taken)))
 
@@ -40,7 +40,7 @@ loop-again c =
     (omega arith, every-more _ (c .before .before .before .loop .m) (c .before .before .before .loop .inv .1) (said-yes (c .before .record-right .ensures) (c .if1 .left)))
 
 returns-2 : tie.Need-returns-2 Inv-loop μ-loop
-unfolding question8
+unfolding isSchedule
 returns-2 c =
     let q : c .before .loop .m ≡ c .before .before .before .before .args .n = omega arith in
     sym (rw q at (c .before .loop .inv .1))

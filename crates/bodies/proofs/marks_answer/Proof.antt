@@ -4,7 +4,7 @@ use mathlib.Core.Path.{_≡_, sym, _∙_}
 use native.Mathlib.Omega.{arith}
 use denote.Ref.{now}
 use Rattle.contents.specs.Asking.{answer}
-use Rattle.contents.specs.Lemmas.Turns.{turn-none, turn-more, turn-stop}
+use Rattle.contents.specs.Laws.{turn-none, turn-more, turn-stop}
 use Rattle.bodies.specs.Questions.{oneMark, markQuestions}
 use Rattle.bodies.specs.Lemmas.Numbered.{one-numbered}
 use Rattle.bodies.proofs.marks_answer.Statement.{statement}

@@ -2,7 +2,7 @@
 use mathlib.Core.Path.{sym, _∙_}
 use borrow.Author.Needs.{needs}
 use Rattle.lists.specs.TestLaws.{said-no, said-yes}
-use Rattle.contents.specs.Lemmas.Asked.{asked-yes, asked-no}
+use Rattle.contents.specs.Laws.{asked-yes, asked-no}
 use Rattle.bodies.specs.Questions.{part1Questions}
 use Rattle.bodies.proofs.part1_answer.Statement.{statement}
 use Rattle.bodies.proofs.part1_answer.Tie as tie

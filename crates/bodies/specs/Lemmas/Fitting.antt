@@ -1,27 +1,23 @@
 -- Each of questions 4 to 9 decides its statement, so the answer 0 is what Fitting says.
 use Prim.Native.Nat.{ℕ, _*_, _%_, _<_, _≤_}
 use mathlib.Core.Path.{_≡_, refl}
-use mathlib.Core.Bool.{Bool, true, false}
-use mathlib.Core.List.{List, _++_}
+use mathlib.Core.Bool.{Bool, true, false, false≢true}
+use mathlib.Core.List.{List}
 use mathlib.Core.Logic.{_↔_}
 use native.Mathlib.Omega.{arith}
-use lib.Dec.{leb, eqb}
+use lib.Dec.{eqb}
 use lib.ListN.{length}
-use borrow.Author.Tests.{leb-true, leb-false, eqb-true, le-leb, eq-eqb}
+use borrow.Author.Tests.{leb-true, eqb-true, le-leb, eq-eqb}
 use Rattle.lists.specs.TestLaws.{both-iff}
 use Rattle.marks.specs.Marks.{kindAt, radiusAt, isKind, isRadius}
 use Rattle.marks.specs.Good.{GoodMark, GoodMarks}
 use Rattle.marks.specs.Laws.{kind-iff, used-bound}
 use Rattle.index.specs.Index.{isIndex}
-use Rattle.contents.specs.Contents.{marksPart, schedulePart, indexPart, given}
+use Rattle.contents.specs.Contents.{Part, has, marksPart, schedulePart, indexPart}
 use Rattle.contents.specs.Asking.{answer, ifThere}
-use Rattle.contents.specs.Questions.{isCount}
-use Rattle.contents.specs.Lemmas.Asked.{none-asked, asked-iff, append-iff}
-use Rattle.contents.specs.Lemmas.Turns.{turn-at, turn-of}
-use Rattle.contents.specs.Lemmas.Laid.{count-cases}
-use Rattle.bodies.specs.Questions.{question4, markCount, fieldQuestions, oneMark, markQuestions, part1Questions, question7, question8, question9, bodyQuestions}
-use Rattle.bodies.specs.Stages.{sizesRight, lastQuestions, body-stages}
-use Rattle.bodies.specs.Fitting.{Fit, Fitting}
+use Rattle.contents.specs.Laws.{none-asked, asked-iff, append-iff, turn-at, turn-of}
+use Rattle.bodies.specs.Questions.{question4, markCount, fieldQuestions, oneMark, markQuestions, part1Questions, isSchedule, countOf, reelOf, isSized, question7, question8, question9, lastQuestions, bodyQuestions}
+use Rattle.bodies.specs.Fitting.{Fitting}
 use Rattle.bodies.specs.Lemmas.Numbered.{one-numbered, part1-numbered}
 
 -- ---- 4 to 6
@@ -74,78 +70,63 @@ part1-iff s = (
 
 -- ---- 7 to 9
 
--- a question about part c of k
-there-iff : (c k : ℕ) (test : Bool) → (ifThere (leb c k) test ≡ true) ↔ (c ≤ k → test ≡ true)
-there-iff c k test = go (leb c k) refl
-  where
-    go : (b : Bool) → leb c k ≡ b → (ifThere b test ≡ true) ↔ (c ≤ k → test ≡ true)
-    go true e = ((λ h l. h), (λ h. h (leb-true c k e)))
-    go false e = ((λ h l. absurd (omega (arith, leb-false c k e))), (λ h. refl))
+-- a question about a part that may not be there
+there-iff : (there test : Bool) → (ifThere there test ≡ true) ↔ (there ≡ true → test ≡ true)
+there-iff true test = ((λ h e. h), (λ h. h refl))
+there-iff false test = ((λ h e. absurd (false≢true e)), (λ h. refl))
 
-pub absent : {c k : ℕ} (test : Bool) → k < c → ifThere (leb c k) test ≡ true
-absent {c} {k} test l = there-iff c k test .1 (λ h. absurd (omega arith))
-
-pub present : {c k : ℕ} {test b : Bool} → c ≤ k → test ≡ b → ifThere (leb c k) test ≡ b
-present {c} {k} l e = rw (le-leb c k l) e
-
-pub sizes-iff : (k p t n : ℕ) → (sizesRight k p t n ≡ true) ↔ ((2 ≤ k → p ≡ 14 * n) × (3 ≤ k → t ≡ 2 * n))
-unfolding sizesRight
-sizes-iff k p t n = (
-  (λ e.
-      let h = both-iff (ifThere (leb 2 k) (eqb p (14 * n))) _ .0 e in
-      ((λ l. eqb-true _ _ (there-iff 2 k _ .0 (h .0) l)), (λ l. eqb-true _ _ (there-iff 3 k _ .0 (h .1) l)))),
-  (λ h.
-      both-iff (ifThere (leb 2 k) (eqb p (14 * n))) _ .1
-      (there-iff 2 k _ .1 (λ l. eq-eqb _ _ (h .0 l)), there-iff 3 k _ .1 (λ l. eq-eqb _ _ (h .1 l)))),
+sized-iff : (there : Bool) (size wanted : ℕ) → (isSized there size wanted ≡ true) ↔ (there ≡ true → size ≡ wanted)
+unfolding isSized
+sized-iff there size wanted = (
+  (λ e h. eqb-true size wanted (there-iff there (eqb size wanted) .0 e h)),
+  (λ f. there-iff there (eqb size wanted) .1 (λ h. eq-eqb size wanted (f h))),
 )
 
--- 4 to 9, of the parts themselves
-module _ (s p t : List ℕ) (k : ℕ) where
-  abbrev n : ℕ
-  n = markCount s
-
-  fit-there : answer (part1Questions s ++ lastQuestions s p t k n) ≡ 0 → Fit s p t k n
-  fit-there e =
-      let b = append-iff (part1Questions s) _ (part1-numbered s) .0 e in
-      let c = asked-iff 7 (sizesRight k (length p) (length t) n) _ (omega arith) .0 (b .1) in
-      let sizes = sizes-iff k (length p) (length t) n .0 (c .0) in
-      let d = asked-iff 8 (ifThere (leb 2 k) (question8 (record { marks = s; count = n }) p)) _ (omega arith) .0 (c .1) in
-      let f = asked-iff 9 (ifThere (leb 3 k) (isIndex s p t n)) _ (omega arith) .0 (d .1) in
-      record {
-        marks = part1-iff s .0 (b .0) .0;
-        marks-long = part1-iff s .0 (b .0) .1;
-        schedule-long = sizes .0;
-        index-long = sizes .1;
-        schedule-right = there-iff 2 k (question8 (record { marks = s; count = n }) p) .0 (d .0);
-        index-right = there-iff 3 k (isIndex s p t n) .0 (f .0);
-      }
-
-  fit-back : Fit s p t k n → answer (part1Questions s ++ lastQuestions s p t k n) ≡ 0
-  fit-back f =
-      append-iff (part1Questions s) _ (part1-numbered s) .1 (
-        part1-iff s .1 (f .marks, f .marks-long),
-        asked-iff 7 (sizesRight k (length p) (length t) n) _ (omega arith) .1 (
-          sizes-iff k (length p) (length t) n .1 (f .schedule-long, f .index-long),
-          asked-iff 8 (ifThere (leb 2 k) (question8 (record { marks = s; count = n }) p)) _ (omega arith) .1 (
-            there-iff 2 k (question8 (record { marks = s; count = n }) p) .1 (f .schedule-right),
-            asked-iff 9 (ifThere (leb 3 k) (isIndex s p t n)) _ (omega arith) .1
-                (there-iff 3 k (isIndex s p t n) .1 (f .index-right), none-asked),
-          ),
-        ),
-      )
-
--- 4 to 9 of the first k of three bodies: what is past them is not asked about
-pub given-stages : (k : ℕ) (a b c : List ℕ) → isCount k ≡ true
-    → answer (bodyQuestions (given k a b c)) ≡ answer (part1Questions a ++ lastQuestions a b c k (markCount a))
-unfolding bodyQuestions question7 question9 sizesRight
-given-stages k a b c =
-    count-cases (λ k.
-    answer (bodyQuestions (given k a b c)) ≡ answer (part1Questions a ++ lastQuestions a b c k (markCount a)))
-    refl refl refl k
-
-pub fitting-iff : (bodies : List (List ℕ)) → (answer (bodyQuestions bodies) ≡ 0) ↔ Fitting bodies
-fitting-iff bodies =
-    rw (body-stages bodies) (
-      fit-there (marksPart bodies) (schedulePart bodies) (indexPart bodies) (length bodies),
-      fit-back (marksPart bodies) (schedulePart bodies) (indexPart bodies) (length bodies),
+pub sizes-iff : (parts : List Part)
+    → (question7 parts ≡ true) ↔ ((has parts 2 ≡ true → length (schedulePart parts) ≡ 14 * countOf parts) × (has parts 3 ≡ true → length (indexPart parts) ≡ 2 * countOf parts))
+unfolding question7
+sizes-iff parts =
+    let schedule = sized-iff (has parts 2) (length (schedulePart parts)) (14 * countOf parts) in
+    let index = sized-iff (has parts 3) (length (indexPart parts)) (2 * countOf parts) in (
+      (λ e. let h = both-iff (isSized (has parts 2) (length (schedulePart parts)) (14 * countOf parts)) _ .0 e in (schedule .0 (h .0), index .0 (h .1))),
+      (λ h. both-iff (isSized (has parts 2) (length (schedulePart parts)) (14 * countOf parts)) _ .1 (schedule .1 (h .0), index .1 (h .1))),
     )
+
+pub fitting-iff : (parts : List Part) → (answer (bodyQuestions parts) ≡ 0) ↔ Fitting parts
+unfolding bodyQuestions lastQuestions question8 question9
+fitting-iff parts = (there, back)
+  where
+    scheduled : Bool
+    scheduled = isSchedule (reelOf parts) (schedulePart parts)
+
+    indexed : Bool
+    indexed = isIndex (marksPart parts) (schedulePart parts) (indexPart parts) (countOf parts)
+
+    there : answer (bodyQuestions parts) ≡ 0 → Fitting parts
+    there e =
+        let b = append-iff (part1Questions (marksPart parts)) _ (part1-numbered (marksPart parts)) .0 e in
+        let c = asked-iff 7 (question7 parts) _ (omega arith) .0 (b .1) in
+        let sizes = sizes-iff parts .0 (c .0) in
+        let d = asked-iff 8 (question8 parts) _ (omega arith) .0 (c .1) in
+        let f = asked-iff 9 (question9 parts) _ (omega arith) .0 (d .1) in
+        record {
+          marks = part1-iff (marksPart parts) .0 (b .0) .0;
+          marks-long = part1-iff (marksPart parts) .0 (b .0) .1;
+          schedule-long = sizes .0;
+          index-long = sizes .1;
+          schedule-right = there-iff (has parts 2) scheduled .0 (d .0);
+          index-right = there-iff (has parts 3) indexed .0 (f .0);
+        }
+
+    back : Fitting parts → answer (bodyQuestions parts) ≡ 0
+    back f =
+        append-iff (part1Questions (marksPart parts)) _ (part1-numbered (marksPart parts)) .1 (
+          part1-iff (marksPart parts) .1 (f .marks, f .marks-long),
+          asked-iff 7 (question7 parts) _ (omega arith) .1 (
+            sizes-iff parts .1 (f .schedule-long, f .index-long),
+            asked-iff 8 (question8 parts) _ (omega arith) .1 (
+              there-iff (has parts 2) scheduled .1 (f .schedule-right),
+              asked-iff 9 (question9 parts) _ (omega arith) .1 (there-iff (has parts 3) indexed .1 (f .index-right), none-asked),
+            ),
+          ),
+        )

@@ -2,9 +2,9 @@
 use Prim.Native.Nat.{ℕ}
 use mathlib.Core.List.{List}
 use native.Mathlib.Omega.{arith}
-use Rattle.contents.specs.Lemmas.Asked.{Numbered, numbered-append}
-use Rattle.contents.specs.Lemmas.Turns.{turn-numbered}
-use Rattle.bodies.specs.Questions.{oneMark, markCount, markQuestions, part1Questions, bodyQuestions}
+use Rattle.contents.specs.Contents.{Part}
+use Rattle.contents.specs.Laws.{Numbered, numbered-append, turn-numbered}
+use Rattle.bodies.specs.Questions.{oneMark, markCount, markQuestions, part1Questions, lastQuestions, bodyQuestions}
 
 pub one-numbered : (s : List ℕ) (m : ℕ) → Numbered (oneMark s m)
 one-numbered s m = (omega arith, (omega arith, tt))
@@ -13,6 +13,6 @@ pub part1-numbered : (s : List ℕ) → Numbered (part1Questions s)
 unfolding part1Questions markQuestions
 part1-numbered s = (omega arith, turn-numbered (oneMark s) (one-numbered s) (markCount s))
 
-pub bodies-numbered : (bodies : List (List ℕ)) → Numbered (bodyQuestions bodies)
-unfolding bodyQuestions
-bodies-numbered bodies = numbered-append (part1Questions _) _ (part1-numbered _) (omega arith, (omega arith, (omega arith, tt)))
+pub bodies-numbered : (parts : List Part) → Numbered (bodyQuestions parts)
+unfolding bodyQuestions lastQuestions
+bodies-numbered parts = numbered-append (part1Questions _) _ (part1-numbered _) (omega arith, (omega arith, (omega arith, tt)))

@@ -16,7 +16,7 @@ use Rattle.marks.specs.Laws.{touching-small}
 use Rattle.elimination.specs.Records.{fractionOf, isNever, valueOf, markRecord, valueAt, eliminatorAt, numAt, denAt, fractionAt}
 use Rattle.elimination.specs.declared.Record.{Record}
 use Rattle.elimination.specs.Reel.{Reel}
-use Rattle.bodies.specs.Questions.{exactly, namesRight, recordRight, question8}
+use Rattle.bodies.specs.Questions.{exactly, namesRight, recordRight, isSchedule}
 
 -- a record that names a mark rightly
 pub record Named (r : Reel) (d : Record) (m : ℕ) : Type 0 where
@@ -48,8 +48,8 @@ right-of r p m e {b} =
     subst (λ (d : Record). b ≡ (isNever d || (namesRight r d m && later (valueAt p (d .eliminator)) (valueOf d)))) e
 
 -- Both numbers of a record that passed are those of 'never' or of a pair, so they are small.
-pub record-small : (r : Reel) (p : List ℕ) (m : ℕ) → Bytes (r .marks) → GoodMarks (r .marks) (r .count) → question8 r p ≡ true → m < r .count → Small (fractionAt p m)
-unfolding question8 recordRight isNever
+pub record-small : (r : Reel) (p : List ℕ) (m : ℕ) → Bytes (r .marks) → GoodMarks (r .marks) (r .count) → isSchedule r p ≡ true → m < r .count → Small (fractionAt p m)
+unfolding isSchedule recordRight isNever
 record-small r p m b good e l =
     let by = eliminatorAt p m in
     elim (either (isNever (markRecord p m)) _ (every-at (recordRight r p) (r .count) e m l)) [

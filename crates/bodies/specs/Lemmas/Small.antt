@@ -1,23 +1,47 @@
--- Bodies that pass questions 4 to 9 are small: at most 45,056 bytes, and 14 and 2 more for every 11.
-use Prim.Native.Nat.{ℕ, _*_, _≤_}
-use mathlib.Core.List.{List, [], _∷_}
+-- Parts that pass questions 2 and 4 to 9 are small: no body has more than 14 bytes a mark.
+use Prim.Native.Nat.{ℕ, zero, suc, _*_, _<_, _≤_}
+use mathlib.Core.Path.{_≡_}
+use mathlib.Core.Bool.{true}
+use mathlib.Core.List.{List, []}
 use native.Mathlib.Omega.{arith}
-use lib.ListN.{length, length-append}
-use Rattle.contents.specs.Contents.{chain, Writable}
-use Rattle.contents.specs.Lemmas.Entries.{join-length}
+use lib.ListN.{length, getD, length-map}
+use Rattle.lists.specs.TestLaws.{by-cases}
+use Rattle.contents.specs.Contents.{Part, codesOf, bodiesOf, has, find, Writable}
+use Rattle.contents.specs.Questions.{topCode, codesRight}
+use Rattle.contents.specs.Laws.{codes-few, codes-positive, codes-most, find-none, find-own, chain-most, join-length}
+use Rattle.bodies.specs.Questions.{countOf}
 use Rattle.bodies.specs.Fitting.{Fitting}
 
-chain-small : (bodies : List (List ℕ)) → length bodies ≤ 3 → Fitting bodies → length (chain bodies) ≤ 27 * 4096
-unfolding chain
-chain-small [] few f = omega arith
-chain-small (a ∷ []) few f = simp length-append (omega arith)
-chain-small (a ∷ b ∷ []) few f = simp length-append (omega (arith, f .schedule-long (omega arith)))
-chain-small (a ∷ b ∷ c ∷ []) few f = simp length-append (omega (arith, f .schedule-long (omega arith), f .index-long (omega arith)))
-chain-small (a ∷ b ∷ c ∷ d ∷ rest) few f = absurd (omega arith)
+-- the most bytes of a body
+abbrev most : ℕ
+most = 14 * 4096
 
-pub fitting-writable : (bodies : List (List ℕ)) → length bodies ≤ 3 → Fitting bodies → Writable bodies
-fitting-writable bodies few f =
-    record {
-      count-fits = omega arith;
-      size-fits = omega (arith, join-length bodies, chain-small bodies few f);
-    }
+module _ (parts : List Part) (fits : Fitting parts) where
+  -- of a part that may not be there
+  if-there : (code size : ℕ) → size ≤ most → (has parts code ≡ true → length (find parts code) ≡ size) → length (find parts code) ≤ most
+  if-there code size small long = by-cases (has parts code) (λ e. omega (arith, long e)) (λ e. rw (find-none parts code e) (omega arith))
+
+  part-small : (code : ℕ) → 0 < code → code ≤ topCode → length (find parts code) ≤ most
+  part-small zero some few = absurd (omega arith)
+  part-small (suc zero) some few = omega (arith, fits .marks .few, fits .marks-long)
+  part-small (suc (suc zero)) some few = if-there 2 (14 * countOf parts) (omega (arith, fits .marks .few)) (fits .schedule-long)
+  part-small (suc (suc (suc zero))) some few = if-there 3 (2 * countOf parts) (omega (arith, fits .marks .few)) (fits .index-long)
+  part-small (suc (suc (suc (suc code)))) some few = absurd (omega arith)
+
+  pub fitting-writable : codesRight (codesOf parts) ≡ true → Writable parts
+  fitting-writable right =
+      let few : length parts ≤ topCode = rw length-map at (codes-few (codesOf parts) right) in
+      let size = chain-most most (bodiesOf parts) (each right) in
+      let many : length (bodiesOf parts) ≡ length parts = length-map parts _ in
+      record {
+        count-fits = omega arith;
+        codes-fit = λ i. omega (arith, codes-most (codesOf parts) right i);
+        size-fits = omega (arith, join-length parts, size, many);
+      }
+    where
+      each : codesRight (codesOf parts) ≡ true → (i : ℕ) → i < length (bodiesOf parts) → length (getD (bodiesOf parts) i []) ≤ most
+      each right i l =
+          let k : i < length parts = rw length-map at l in
+          let c : i < length (codesOf parts) = rw length-map k in
+          rw (← find-own parts right i k)
+          (part-small (getD (codesOf parts) i 0) (codes-positive (codesOf parts) right i c) (codes-most (codesOf parts) right i))

@@ -2,8 +2,8 @@
 use mathlib.Core.Path.{ap, _∙_}
 use borrow.Author.Needs.{needs}
 use denote.Ref.{now}
-use Rattle.contents.specs.Extent.{cutOf}
-use Rattle.contents.specs.Lemmas.Cut.{cut-body}
+use Rattle.contents.specs.Places.{cutOf}
+use Rattle.contents.specs.Lemmas.Places.{cut-body}
 use Rattle.contents.proofs.body.Statement.{statement}
 use Rattle.contents.proofs.body.Tie as tie
 

@@ -1,6 +1,7 @@
 -- `contents::contents_answer` meets its contract: the first of three tests that fails gives the number. Assumes nothing.
 use borrow.Author.Needs.{needs}
 use mathlib.Core.Path.{sym, _∙_}
+use Rattle.contents.specs.Questions.{contentsQuestions}
 use Rattle.lists.specs.TestLaws.{said-no, said-yes}
 use Rattle.contents.specs.Lemmas.Asked.{none-asked, asked-yes, asked-no}
 use Rattle.contents.specs.Lemmas.Laid.{whole-iff}
@@ -11,12 +12,14 @@ has-contents-requires : tie.Need-has-contents-requires
 has-contents-requires c κs = search needs
 
 returns : tie.Need-returns
+unfolding contentsQuestions
 returns c = sym (asked-no 1 _ (said-no (c .before .has-contents .ensures) (c .if1 .taken)))
 
 has-codes-requires : tie.Need-has-codes-requires
 has-codes-requires c κs = whole-iff _ .0 (said-yes (c .before .has-contents .ensures) (c .if1 .left))
 
 returns-2 : tie.Need-returns-2
+unfolding contentsQuestions
 returns-2 c =
     sym (asked-yes 1 _ (said-yes (c .before .before .before .has-contents .ensures) (c .before .before .if1 .left))
     ∙ asked-no 2 _ (said-no (c .before .has-codes .ensures) (c .if2 .taken)))
@@ -25,6 +28,7 @@ bodies-join-requires : tie.Need-bodies-join-requires
 bodies-join-requires c κs = whole-iff _ .0 (said-yes (c .before .before .before .has-contents .ensures) (c .before .before .if1 .left))
 
 returns-3 : tie.Need-returns-3
+unfolding contentsQuestions
 returns-3 c =
     let h = c .before .before .before in
     sym (asked-yes 1 _ (said-yes (h .before .before .has-contents .ensures) (h .before .if1 .left))
@@ -33,6 +37,7 @@ returns-3 c =
     ∙ none-asked)
 
 returns-4 : tie.Need-returns-4
+unfolding contentsQuestions
 returns-4 c =
     let h = c .before .before .before in
     sym (asked-yes 1 _ (said-yes (h .before .before .has-contents .ensures) (h .before .if1 .left))

@@ -4,7 +4,7 @@ use mathlib.Core.Path.{_≡_}
 use native.Mathlib.Omega.{arith}
 use borrow.Author.Needs.{needs}
 use borrow.Author.Tests.{le-leb, lt-leb}
-use Rattle.contents.specs.Extent.{cutOf}
+use Rattle.contents.specs.Places.{cutOf}
 use Rattle.contents.proofs.cut.Statement.{statement}
 use Rattle.contents.proofs.cut.Tie as tie
 

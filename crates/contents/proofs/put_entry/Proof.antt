@@ -1,8 +1,8 @@
 -- `contents::put_entry` meets its contract: three runs of stores, each where the last ended, are one. Assumes nothing.
-use Prim.Native.Nat.{_+_, _*_}
-use borrow.Author.Needs.{needs}
 use denote.Ref.{now}
+use Rattle.contents.specs.Contents.{contentsSize}
 use Rattle.contents.specs.Lemmas.Writing.{entry-sets}
+use borrow.Author.Needs.{needs}
 use Rattle.contents.proofs.put_entry.Statement.{statement}
 use Rattle.contents.proofs.put_entry.Tie as tie
 
@@ -12,20 +12,17 @@ mul-at c = search needs
 add-at : tie.Need-add-at
 add-at c = search needs
 
-add-write : tie.Need-add-write
-add-write c = search needs
-
 write-requires : tie.Need-write-requires
 write-requires c κs = search needs
 
-add-write-2 : tie.Need-add-write-2
-add-write-2 c = search needs
+add-write : tie.Need-add-write
+add-write c = search needs
 
 write-requires-2 : tie.Need-write-requires-2
 write-requires-2 c κs = search needs
 
-add-write-3 : tie.Need-add-write-3
-add-write-3 c = search needs
+add-write-2 : tie.Need-add-write-2
+add-write-2 c = search needs
 
 write-requires-3 : tie.Need-write-requires-3
 write-requires-3 c κs = search needs
@@ -36,8 +33,9 @@ same-length c = search needs
 returns : tie.Need-returns
 returns c =
     let b = c .before .before .before .before .before .before in
-    let a = b .before .before .before .before .before .before .before .args in
-    entry-sets (now (a .out)) (10 * a .i + 2) (a .i + 1) (a .offset) (a .size) (b .before .before .before .before .write .ensures) (b .write2 .ensures) (c .before .before .write3 .ensures)
+    let w = b .before .before .before .before in
+    let a = w .before .before .before .args in
+    entry-sets (now (a .out)) (contentsSize (a .i)) (a .code) (a .offset) (a .size) (w .write .ensures) (b .write2 .ensures) (c .before .before .write3 .ensures)
 
 pub put-entry-spec : {M : Type 1} → statement M
 put-entry-spec =
@@ -45,11 +43,10 @@ put-entry-spec =
     (tie.spec
     mul-at
     add-at
-    add-write
     write-requires
-    add-write-2
+    add-write
     write-requires-2
-    add-write-3
+    add-write-2
     write-requires-3
     same-length
     returns)

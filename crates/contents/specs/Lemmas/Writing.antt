@@ -1,19 +1,41 @@
--- Writing a sheet front to back.
-use Prim.Native.Nat.{ℕ, zero, suc, _+_, _*_, _<_, _≤_}
-use mathlib.Core.Path.{_≡_}
-use mathlib.Core.List.{List, [], _∷_, _++_}
+-- Writing a sheet front to back: the contents, then the bodies.
+use Prim.Native.Nat.{ℕ, zero, suc, _+_, _-_, _<_, _≤_}
+use mathlib.Core.Path.{_≡_, refl, sym, _∙_}
+use mathlib.Core.List.{List, [], _∷_, _++_, map}
 use native.Mathlib.Nat.{zero-add}
-use native.Mathlib.Decide.{decLt}
+use native.Mathlib.Decide.{decLe}
 use native.Mathlib.Numerals.{add-one}
 use native.Mathlib.Omega.{arith}
-use lib.ListN.{length, getD, take, drop, length-append, length-take, List·getD-eq-default}
-use lib.Seq.{sets, drop-cons, getD-take}
-use Rattle.lists.specs.StoreLaws.{sets-append}
+use lib.ListN.{length, getD, set, take, drop, length-append, length-map, drop-of-length-le}
+use lib.Dec.{leb}
+use lib.Seq.{sets, drop-cons, take-suc, take-suc-set}
+use borrow.Author.Tests.{le-leb, lt-leb}
 use Rattle.numbers.specs.Little.{leBytes}
 use Rattle.numbers.specs.Laws.{le-length}
-use Rattle.contents.specs.Contents.{contentsSize}
-use Rattle.contents.specs.Written.{entry, entriesOf, contentsOf}
+use Rattle.contents.specs.Contents.{sizesOf, contentsSize, entry, entries, contentsOf, chain, join, together}
+use Rattle.lists.specs.StoreLaws.{sets-append}
+use Rattle.contents.specs.Lemmas.Parts.{together-codes, together-bodies}
 use Rattle.contents.specs.Lemmas.Entries.{contents-length}
+
+-- one turn of a loop that fills an array: v is what it is filled with
+pub fill-turn : {A : Type 0} (d : A) (l v : List A) (i : ℕ) (a : A) → i < length l → i < length v → a ≡ getD v i d → take i l ≡ take i v
+    → take (i + 1) (set l i a) ≡ take (i + 1) v
+fill-turn d l v i a h k e f = rw (add-one i, take-suc-set l i a h, take-suc v i d k, e, f)
+
+pub size-at : (bodies : List (List ℕ)) (i : ℕ) → length (getD bodies i []) ≡ getD (sizesOf bodies) i 0
+size-at [] i = refl
+size-at (b ∷ bodies) zero = refl
+size-at (b ∷ bodies) (suc i) = size-at bodies i
+
+-- room for what comes after `first`
+pub leb-less : (first rest room : ℕ) → first ≤ room → leb rest (room - first) ≡ leb (first + rest) room
+leb-less first rest room h =
+    elim (decLe rest (room - first)) [
+      | yes l ↦ le-leb rest (room - first) l ∙ sym (le-leb (first + rest) room (omega arith))
+      | no l ↦ lt-leb rest (room - first) (omega arith) ∙ sym (lt-leb (first + rest) room (omega arith))
+    ]
+
+-- ---- the contents
 
 pub entry-length : (code offset size : ℕ) → length (entry code offset size) ≡ 10
 entry-length code offset size = simp (length-append, le-length)
@@ -27,47 +49,72 @@ entry-sets l₀ at code offset size e f g =
     rw (g, f, e, sets-append l₀ at (leBytes 2 code), le-length 2 code, sets-append _ (at + 2) (leBytes 4 offset), le-length 4 offset, six)
 
 -- One turn of the loop over the entries: the rest of them still makes the whole.
-pub entries-turn : (l : List ℕ) {l′ : List ℕ} (i offset : ℕ) (sizes : List ℕ) → i < length sizes
-    → l′ ≡ sets l (10 * i + 2) (entry (i + 1) offset (getD sizes i 0))
-    → sets l′ (10 * (i + 1) + 2) (entriesOf (suc (i + 1)) (offset + getD sizes i 0) (drop (i + 1) sizes))
-    ≡ sets l (10 * i + 2) (entriesOf (suc i) offset (drop i sizes))
-unfolding entriesOf
-entries-turn l i offset sizes h e =
+pub entries-turn : (l : List ℕ) {l′ : List ℕ} (i offset : ℕ) (codes sizes : List ℕ) → i < length codes → i < length sizes
+    → l′ ≡ sets l (contentsSize i) (entry (getD codes i 0) offset (getD sizes i 0))
+    → sets l′ (contentsSize (i + 1)) (entries (offset + getD sizes i 0) (drop (i + 1) codes) (drop (i + 1) sizes))
+    ≡ sets l (contentsSize i) (entries offset (drop i codes) (drop i sizes))
+unfolding entries
+entries-turn l i offset codes sizes h k e =
+    let code = getD codes i 0 in
     let size = getD sizes i 0 in
-    let ten : 10 * suc i + 2 ≡ 10 * i + 2 + 10 = omega arith in
-    rw (e, add-one i, drop-cons sizes i 0 h, ten)
-    (rw (sets-append l (10 * i + 2) (entry (suc i) offset size), entry-length (suc i) offset size))
+    let ten : contentsSize (suc i) ≡ contentsSize i + 10 = omega arith in
+    rw (e, add-one i, drop-cons codes i 0 h, drop-cons sizes i 0 k, ten)
+    (rw (sets-append l (contentsSize i) (entry code offset size), entry-length code offset size))
 
-pub contents-sets : (l : List ℕ) {l′ : List ℕ} (sizes : List ℕ) → l′ ≡ sets l 0 (leBytes 2 (length sizes))
-    → sets l′ 2 (entriesOf 1 (contentsSize (length sizes)) sizes) ≡ sets l 0 (contentsOf sizes)
+pub contents-sets : (l : List ℕ) {l′ : List ℕ} (codes sizes : List ℕ) → l′ ≡ sets l 0 (leBytes 2 (length codes))
+    → sets l′ 2 (entries (contentsSize (length codes)) codes sizes) ≡ sets l 0 (contentsOf codes sizes)
 unfolding contentsOf
-contents-sets l sizes e = rw (e, sets-append l 0 (leBytes 2 (length sizes)), le-length 2 (length sizes))
+contents-sets l codes sizes e = rw (e, sets-append l 0 (leBytes 2 (length codes)), le-length 2 (length codes))
 
--- ---- the whole sheet
+-- ---- bodies that lie behind the elements of l: the code counts these, and the contracts speak of what lies behind them
 
-pub bodies-sets : (l : List ℕ) {l₁ l₂ l₃ : List ℕ} (a b c : List ℕ) (at : ℕ) {i j : ℕ}
-    → (i ≡ at + length a) × (l₁ ≡ sets l at a) → (j ≡ i + length b) × (l₂ ≡ sets l₁ i b) → l₃ ≡ sets l₂ j c
-    → l₃ ≡ sets l at (a ++ (b ++ c))
-bodies-sets l a b c at p q e = rw (e, q .1, q .0, p .1, p .0, sets-append l at a, sets-append _ (at + length a) b)
+module _ {A : Type 0} (f : A → List ℕ) (l : List A) where
+  -- what is left of the bodies at i is body i and what is left behind it
+  pub chain-turn : (i : ℕ) {b : List ℕ} → i < length l → b ≡ getD (map f l) i []
+      → chain (drop i (map f l)) ≡ b ++ chain (drop (i + 1) (map f l))
+  unfolding chain
+  chain-turn i h e =
+      let h′ : i < length (map f l) = rw length-map h in
+      rw (e, add-one i, drop-cons (map f l) i [] h′)
 
-pub parts-sets : (l : List ℕ) {l₁ l₂ : List ℕ} (sizes bodies : List ℕ) {i : ℕ}
-    → (i ≡ contentsSize (length sizes)) × (l₁ ≡ sets l 0 (contentsOf sizes)) → l₂ ≡ sets l₁ i bodies
-    → l₂ ≡ sets l 0 (contentsOf sizes ++ bodies)
-parts-sets l sizes bodies p e =
-    rw (e, p .1, p .0, sets-append l 0 (contentsOf sizes), zero-add (length (contentsOf sizes)), contents-length sizes)
+  pub chain-less : (i : ℕ) {b : List ℕ} → i < length l → b ≡ getD (map f l) i []
+      → length (chain (drop i (map f l))) ≡ length b + length (chain (drop (i + 1) (map f l)))
+  chain-less i {b} h e = rw (chain-turn i h e, length-append)
 
--- sizes of which each is small are small at every place
-pub three-below : (a b c most : ℕ) → a < most → b < most → c < most → (i : ℕ) → getD (a ∷ b ∷ c ∷ []) i 0 < most
-three-below a b c most p q r zero = p
-three-below a b c most p q r (suc zero) = q
-three-below a b c most p q r (suc (suc zero)) = r
-three-below a b c most p q r (suc (suc (suc i))) = omega arith
+  pub chain-done : (i : ℕ) → length l ≤ i → chain (drop i (map f l)) ≡ []
+  unfolding chain
+  chain-done i h =
+      let h′ : length (map f l) ≤ i = rw length-map h in
+      rw (drop-of-length-le (map f l) h′)
 
-pub take-below : (k : ℕ) (l : List ℕ) (most : ℕ) → ((i : ℕ) → getD l i 0 < most) → (i : ℕ) → getD (take k l) i 0 < most
-take-below k l most h i =
-    elim (decLt i k) [
-      | yes b ↦ rw (getD-take k l i 0 b) (h i)
-      | no b ↦
-          (let short : length (take k l) ≤ i = rw length-take (omega arith) in
-          rw (List·getD-eq-default (take k l) 0 short) (omega (arith, h 0)))
-    ]
+  -- one turn of the loop that writes the bodies: the rest of them still makes the whole
+  pub bodies-turn : (out : List ℕ) {out′ b : List ℕ} (at : ℕ) {at′ : ℕ} (i : ℕ) → i < length l → b ≡ getD (map f l) i []
+      → (at′ ≡ at + length b) × (out′ ≡ sets out at b)
+      → sets out′ at′ (chain (drop (i + 1) (map f l))) ≡ sets out at (chain (drop i (map f l)))
+  bodies-turn out {b = b} at i h e p = rw (p .0, p .1, chain-turn i h e, sets-append out at b)
+
+-- ---- the whole sheet of codes and bodies
+
+module _ (codes : List ℕ) (bodies : List (List ℕ)) (same : length codes ≡ length bodies) where
+  pub join-together : join (together codes bodies) ≡ contentsOf codes (sizesOf bodies) ++ chain bodies
+  unfolding join
+  join-together = rw (together-codes codes bodies same, together-bodies codes bodies same)
+
+  contents-long : length (contentsOf codes (sizesOf bodies)) ≡ contentsSize (length codes)
+  contents-long = contents-length codes (sizesOf bodies) (same ∙ sym (length-map bodies _))
+
+  pub together-size : length (join (together codes bodies)) ≡ contentsSize (length codes) + length (chain bodies)
+  together-size = rw (join-together, length-append (contentsOf codes (sizesOf bodies)) (chain bodies), contents-long)
+
+  -- the contents, and the bodies behind them
+  pub parts-sets : (l : List ℕ) {l₁ l₂ : List ℕ} {i : ℕ} → (i ≡ contentsSize (length codes)) × (l₁ ≡ sets l 0 (contentsOf codes (sizesOf bodies)))
+      → l₂ ≡ sets l₁ i (chain bodies) → l₂ ≡ sets l 0 (join (together codes bodies))
+  parts-sets l p e =
+      rw (e, p .1, p .0, join-together, sets-append l 0 (contentsOf codes (sizesOf bodies)), zero-add (length (contentsOf codes (sizesOf bodies))), contents-long)
+
+-- each size is at most that of all bodies
+pub size-below : (bodies : List (List ℕ)) (most : ℕ) → length (chain bodies) < most → (i : ℕ) → getD (sizesOf bodies) i 0 < most
+unfolding chain
+size-below [] most h i = omega arith
+size-below (b ∷ bodies) most h zero = omega (arith, length-append b (chain bodies))
+size-below (b ∷ bodies) most h (suc i) = size-below bodies most (omega (arith, length-append b (chain bodies))) i

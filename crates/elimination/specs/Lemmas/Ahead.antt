@@ -1,32 +1,18 @@
 -- What the process's test on pairs decides, and what its choice of the next pair gives.
-use Prim.Native.Nat.{ℕ, _*_, _<_, compare, Ordering, Ordering·lt, Ordering·eq, Ordering·gt}
-use mathlib.Core.Path.{_≡_, refl, ap, subst}
-use mathlib.Core.Bool.{Bool, true, false, cond, _&&_, true≢false, false≢true}
+use Prim.Native.Nat.{ℕ, _*_, _<_}
+use mathlib.Core.Path.{_≡_, refl, subst}
+use mathlib.Core.Bool.{Bool, true, false, cond, _&&_, _||_, true≢false, false≢true}
 use mathlib.Core.Option.{Option, none, some}
 use mathlib.Core.Logic.{inl, inr}
 use native.Mathlib.Omega.{arith}
-use lib.Dec.{ltb, isLe, isEq}
-use borrow.Author.Tests.{leb-true, leb-false, eqb-true, eqb-false, ltb-true, lt-ltb}
-use Rattle.fractions.specs.Order.{Less, AtMost}
+use lib.Dec.{ltb, eqb}
+use borrow.Author.Tests.{eqb-true, eqb-false, ltb-true, ltb-false, lt-ltb}
+use Rattle.fractions.specs.Order.{less, same, Less, AtMost}
 use Rattle.fractions.specs.Laws.{order, atMost-trans}
 use Rattle.elimination.specs.Marks.{Marks, Proper}
 use Rattle.elimination.specs.Lemmas.Least.{least-from, least-below}
-use Rattle.elimination.specs.Process.{Removal, stays, gone, lives, Pair, _over_, _then_, isLt, cross, worth, least, before, pair, next}
+use Rattle.elimination.specs.Process.{Removal, stays, gone, lives, Pair, _over_, worth, least, before, pair, next}
 use Rattle.elimination.specs.Settled.{Ahead}
-
-Is : Ordering → ℕ → ℕ → Type 0
-Is Ordering·lt a b = a < b
-Is Ordering·eq a b = a ≡ b
-Is Ordering·gt a b = b < a
-
-compared : (a b : ℕ) → Is (compare a b) a b
-unfolding Is
-compared a b = go (compare a b) refl
-  where
-    go : (o : Ordering) → compare a b ≡ o → Is o a b
-    go Ordering·lt e = omega (arith, leb-true a b (ap isLe e), eqb-false a b (ap isEq e))
-    go Ordering·eq e = eqb-true a b (ap isEq e)
-    go Ordering·gt e = leb-false a b (ap isLe e)
 
 lives-stays : (r : Removal) → lives r ≡ true → r ≡ stays
 lives-stays stays e = refl
@@ -43,22 +29,37 @@ module _ (M : Marks) where
   ahead-less {p} {q} a o =
       elim (order (worth M q) (worth M p)) [ inl b ↦ absurd (let c = a .tie (omega arith) in omega arith) | inr l ↦ l ]
 
-  decided : (p q : Pair) (a b c : Ordering)
-      → Is a ((worth M p) .num * (worth M q) .den) ((worth M q) .num * (worth M p) .den)
-      → Is b (key (p .high)) (key (q .high))
-      → (isLt (a then b then c) ≡ true → Ahead M p q) × (isLt (a then b then c) ≡ false → Ahead M q p)
-  unfolding Is
-  decided p q Ordering·lt b c x y = (λ _. omega arith, λ e. absurd (true≢false e))
-  decided p q Ordering·gt b c x y = (λ e. absurd (false≢true e), λ _. omega arith)
-  decided p q Ordering·eq Ordering·lt c x y = (λ _. omega arith, λ e. absurd (true≢false e))
-  decided p q Ordering·eq Ordering·gt c x y = (λ e. absurd (false≢true e), λ _. omega arith)
-  decided p q Ordering·eq Ordering·eq c x y = (λ _. omega arith, λ _. omega arith)
+  -- the tests in their order: a and b of the values, c and d of the higher marks, e of the lower ones
+  module _ (p q : Pair) where
+    abbrev x : ℕ
+    x = (worth M p) .num * (worth M q) .den
 
-  verdict : (p q : Pair) → (before M p q ≡ true → Ahead M p q) × (before M p q ≡ false → Ahead M q p)
-  unfolding before
-  verdict p q =
-      decided p q (cross (worth M p) (worth M q)) (compare (key (p .high)) (key (q .high)))
-      (compare (key (p .low)) (key (q .low))) (compared _ _) (compared _ _)
+    abbrev y : ℕ
+    y = (worth M q) .num * (worth M p) .den
+
+    abbrev k : ℕ
+    k = key (p .high)
+
+    abbrev l : ℕ
+    l = key (q .high)
+
+    decided : (a b c d e : Bool) → ltb x y ≡ a → eqb x y ≡ b → ltb k l ≡ c → eqb k l ≡ d
+        → (a || (b && (c || (d && e))) ≡ true → Ahead M p q) × (a || (b && (c || (d && e))) ≡ false → Ahead M q p)
+    decided true b c d e ea eb ec ed = ((λ _. let h = ltb-true x y ea in omega arith), (λ z. absurd (true≢false z)))
+    decided false false c d e ea eb ec ed =
+        ((λ z. absurd (false≢true z)), (λ _. let h = ltb-false x y ea in let g = eqb-false x y eb in omega arith))
+    decided false true true d e ea eb ec ed =
+        ((λ _. let h = eqb-true x y eb in let g = ltb-true k l ec in omega arith), (λ z. absurd (true≢false z)))
+    decided false true false true e ea eb ec ed =
+        let h = eqb-true x y eb in
+        let g = eqb-true k l ed in
+        ((λ _. omega arith), (λ _. omega arith))
+    decided false true false false e ea eb ec ed =
+        ((λ z. absurd (false≢true z)), (λ _. let h = eqb-true x y eb in let g = ltb-false k l ec in let f = eqb-false k l ed in omega arith))
+
+    verdict : (before M p q ≡ true → Ahead M p q) × (before M p q ≡ false → Ahead M q p)
+    unfolding before less same
+    verdict = decided (ltb x y) (eqb x y) (ltb k l) (eqb k l) (ltb (key (p .low)) (key (q .low))) refl refl refl refl
 
   -- two living marks, the first of higher rank
   pub record Living (s : ℕ → Removal) (h l : ℕ) : Type 0 where

@@ -12,9 +12,8 @@ use Rattle.numbers.specs.Laws.{le-length}
 use Rattle.marks.specs.Marks.{radiusAt, kindAt, usedAt, oldRadius, isRadius, usedRadius}
 use Rattle.marks.specs.Good.{GoodMark, GoodMarks}
 use Rattle.marks.specs.Laws.{used-bound, old-positive, old-bound}
-use Rattle.contents.specs.Laws.{bodies-sets}
 use Rattle.rows.specs.Rows.{rows}
-use Rattle.rows.specs.Laws.{rows-length, rows-at, rows-whole, field-le, le-found, cut-length, Split, split, pieces}
+use Rattle.rows.specs.Laws.{rows-length, rows-at, rows-whole, field-le, le-found, cut-length, Pieces, split, pieces, pieces-sets}
 use Rattle.bodies.specs.Questions.{markCount}
 use Rattle.filling.specs.Filling.{filledRadius, filledMark}
 
@@ -65,7 +64,7 @@ module _ (s : List ℕ) (n : ℕ) (good : GoodMarks s n) where
     abbrev radius : ℕ
     radius = filledRadius (radiusAt s i) (kindAt s i)
 
-    found : Split full (take 4 (drop (11 * i) s)) (leBytes 2 radius) (take 5 (drop (11 * i + 6) s)) 4 2 5 (11 * i)
+    found : Pieces full (take 4 (drop (11 * i) s)) (leBytes 2 radius) (take 5 (drop (11 * i + 6) s)) 4 2 5 (11 * i)
     found =
         split full (take 4 (drop (11 * i) s)) (leBytes 2 radius) (take 5 (drop (11 * i + 6) s)) 4 2 5 (11 * i)
         (cut-length s 4 (11 * i) (omega (arith, good .there))) (le-length 2 radius) (omega (arith, full-long))
@@ -121,7 +120,7 @@ pub mark-put : (s l : List ℕ) {l₁ l₂ l₃ : List ℕ} (m : ℕ) {v : ℕ} 
 mark-put s l {l₁} m h p e f g =
     let four : 11 * m + 4 - 11 * m ≡ 4 = omega arith in
     let five : 11 * m + 11 - (11 * m + 6) ≡ 5 = omega arith in
-    bodies-sets l (take 4 (drop (11 * m) s)) (leBytes 2 (filledRadius (radiusAt s m) (kindAt s m))) (take 5 (drop (11 * m + 6) s)) (11 * m)
+    pieces-sets l (take 4 (drop (11 * m) s)) (leBytes 2 (filledRadius (radiusAt s m) (kindAt s m))) (take 5 (drop (11 * m + 6) s)) (11 * m)
     (rw (cut-length s 4 (11 * m) (omega arith)), rw four at e)
     (rw (le-length 2 (filledRadius (radiusAt s m) (kindAt s m))) (omega arith), f ∙ ap (λ (u : ℕ). sets l₁ (11 * m + 4) (leBytes 2 u)) p)
     (rw five at g)

@@ -1,7 +1,7 @@
 -- `logs::log_answer`: 4, and then record by record. Assumes nothing.
 use mathlib.Core.Path.{sym, _∙_}
 use Rattle.lists.specs.TestLaws.{said-no, said-yes}
-use Rattle.contents.specs.Lemmas.Asked.{asked-yes, asked-no}
+use Rattle.contents.specs.Laws.{asked-yes, asked-no}
 use Rattle.logs.specs.Questions.{logChecks}
 use borrow.Author.Needs.{needs}
 use Rattle.logs.proofs.log_answer.Statement.{statement}

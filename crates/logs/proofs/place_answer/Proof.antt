@@ -1,7 +1,7 @@
 -- `logs::place_answer`: 15 is asked first, and then 16 of the number that the bytes hold. Assumes nothing.
 use mathlib.Core.Path.{sym, _∙_}
 use Rattle.lists.specs.TestLaws.{said-no, said-yes}
-use Rattle.contents.specs.Lemmas.Asked.{none-asked, asked-yes, asked-no}
+use Rattle.contents.specs.Laws.{none-asked, asked-yes, asked-no}
 use borrow.Author.Needs.{needs}
 use Rattle.logs.proofs.place_answer.Statement.{statement}
 use Rattle.logs.proofs.place_answer.Tie as tie

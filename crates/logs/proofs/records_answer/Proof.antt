@@ -3,7 +3,7 @@ use Prim.Native.Nat.{_-_, _≤_}
 use mathlib.Core.Path.{_≡_, sym, _∙_}
 use denote.Ref.{now}
 use Rattle.contents.specs.Asking.{answer, inTurn}
-use Rattle.contents.specs.Lemmas.Turns.{turn-none, turn-more, turn-stop}
+use Rattle.contents.specs.Laws.{turn-none, turn-more, turn-stop}
 use Rattle.logs.specs.Questions.{recordQuestions}
 use Rattle.logs.specs.Lemmas.Right.{record-numbered}
 use native.Mathlib.Omega.{arith}

@@ -9,8 +9,7 @@ use lib.Seq.{sets}
 use Rattle.numbers.specs.Little.{leAt, leBytes, signed}
 use Rattle.numbers.specs.Laws.{le-length}
 use Rattle.marks.specs.Marks.{xAt, yAt}
-use Rattle.contents.specs.Laws.{bodies-sets}
-use Rattle.rows.specs.Laws.{cut-length}
+use Rattle.rows.specs.Laws.{cut-length, pieces-sets}
 use Rattle.logs.specs.Packed.{signOf, packedOf, packed}
 use Rattle.logs.specs.Log.{coordinateAt, placeBits, markOfRecord, recordOfMark}
 
@@ -34,7 +33,7 @@ module _ (s l : List ℕ) {l₁ l₂ l₃ : List ℕ} where
       let seven : 13 * r + 13 - (13 * r + 6) ≡ 7 = omega arith in
       let x = placeBits (coordinateAt s (13 * r)) in
       let y = placeBits (coordinateAt s (13 * r + 3)) in
-      bodies-sets l (leBytes 2 x) (leBytes 2 y) (take 7 (drop (13 * r + 6) s)) (11 * r)
+      pieces-sets l (leBytes 2 x) (leBytes 2 y) (take 7 (drop (13 * r + 6) s)) (11 * r)
       (rw (le-length 2 x), e ∙ ap (λ (v : ℕ). sets l (11 * r) (leBytes 2 v)) p)
       (rw (le-length 2 y) (omega arith), f ∙ ap (λ (v : ℕ). sets l₁ (11 * r + 2) (leBytes 2 v)) q)
       (rw seven at g)
@@ -44,7 +43,7 @@ module _ (s l : List ℕ) {l₁ l₂ l₃ : List ℕ} where
       → l₃ ≡ sets l₂ (13 * m + 6) (take (11 * m + 11 - (11 * m + 4)) (drop (11 * m + 4) s)) → l₃ ≡ sets l (13 * m) (recordOfMark s m)
   record-put m p q e f g =
       let seven : 11 * m + 11 - (11 * m + 4) ≡ 7 = omega arith in
-      bodies-sets l (packed (xAt s m)) (packed (yAt s m)) (take 7 (drop (11 * m + 4) s)) (13 * m)
+      pieces-sets l (packed (xAt s m)) (packed (yAt s m)) (take 7 (drop (11 * m + 4) s)) (13 * m)
       (rw (packed-length (natAbs (xAt s m)) (signOf (xAt s m))), e ∙ ap (λ (v : ℕ). sets l (13 * m) (packed (signed 2 v))) p)
       (rw (packed-length (natAbs (yAt s m)) (signOf (yAt s m))) (omega arith), f ∙ ap (λ (v : ℕ). sets l₁ (13 * m + 3) (packed (signed 2 v))) q)
       (rw seven at g)

@@ -6,7 +6,9 @@ use native.Mathlib.Omega.{arith}
 use denote.Ref.{now}
 use borrow.Author.Needs.{needs}
 use Rattle.numbers.specs.Little.{Bytes}
+use Rattle.contents.specs.Contents.{split, marksPart}
 use Rattle.contents.specs.Asking.{answer}
+use Rattle.contents.specs.Laws.{layout-part}
 use Rattle.bodies.specs.Questions.{markCount}
 use Rattle.report.specs.Text.{mostMarks, printQuestions}
 use Rattle.report.specs.Lemmas.Printed.{prints-refusal, taken-laid, part1-few, part1-good, taken-printable, prints-listing}
@@ -20,8 +22,13 @@ input-bytes c i = c .before .before .before .before .before .shared-slice-known 
 yes : (c : tie.Else1) → answer (printQuestions (now (c .before .before .before .before .before .before .args .input))) ≡ 0
 yes c = sym (c .before .print-answer .ensures) ∙ c .if1 .left
 
-marks-few : (c : tie.After-body) → markCount (now (c .body .result)) ≤ mostMarks
-marks-few c = part1-few _ (input-bytes (c .before)) (yes (c .before)) (c .body .ensures)
+part1 : (c : tie.After-part) → now (c .part .result) ≡ marksPart (split (now (c .before .before .before .before .before .before .before .before .args .input)))
+part1 c =
+    let k = c .before in
+    c .part .ensures ∙ rw (k .layout-of .ensures) (layout-part _ (taken-laid _ (yes (k .before))) 1)
+
+marks-few : (c : tie.After-part) → markCount (now (c .part .result)) ≤ mostMarks
+marks-few c = part1-few _ (input-bytes (c .before .before)) (yes (c .before .before)) (part1 c)
 
 print-answer-requires : tie.Need-print-answer-requires
 print-answer-requires c κs = search needs
@@ -44,15 +51,18 @@ returns c =
     let p = k .before .before .before .before .before .before .pre in
     prints-refusal _ (k .before .print-answer .ensures) (omega (arith, k .if1 .taken)) _ _ (omega (arith, p .out-room)) (c .before .before .put-first-line .ensures)
 
-body-requires : tie.Need-body-requires
-body-requires c κs = taken-laid _ (yes c)
+layout-of-requires : tie.Need-layout-of-requires
+layout-of-requires c κs = taken-laid _ (yes c) .whole
+
+part-requires : tie.Need-part-requires
+part-requires c κs = search needs
 
 schedule-requires : tie.Need-schedule-requires
 schedule-requires c κs =
     let k = c .before .before in
-    let p = k .before .before .before .before .before .before .before .pre in
+    let p = k .before .before .before .before .before .before .before .before .pre in
     record {
-      good = part1-good _ (input-bytes (k .before)) (yes (k .before)) (k .body .ensures);
+      good = part1-good _ (input-bytes (k .before .before)) (yes (k .before .before)) (part1 k);
       work-room = omega (arith, p .work-room, marks-few k);
       out-room = omega (arith, p .schedule-room, marks-few k);
     }
@@ -61,8 +71,8 @@ put-listing-requires : tie.Need-put-listing-requires
 put-listing-requires c κs =
     let s = c .before .before .before .before .before .before in
     let k = s .before .before .before in
-    let p = k .before .before .before .before .before .before .before .pre in (
-      taken-printable _ (input-bytes (k .before)) (yes (k .before)) (k .body .ensures) _ (s .schedule .ensures),
+    let p = k .before .before .before .before .before .before .before .before .pre in (
+      taken-printable _ (input-bytes (k .before .before)) (yes (k .before .before)) (part1 k) _ (s .schedule .ensures),
       omega (arith, p .out-room, marks-few k),
     )
 
@@ -79,8 +89,8 @@ returns-2 : tie.Need-returns-2
 returns-2 c =
     let s = c .before .before .before .before .before .before .before .before .before in
     let k = s .before .before .before in
-    let p = k .before .before .before .before .before .before .before .pre in
-    prints-listing _ (input-bytes (k .before)) (yes (k .before)) (k .body .ensures) _ (s .schedule .ensures) _ _ (search needs) (p .out-room) (c .before .before .put-listing .ensures)
+    let p = k .before .before .before .before .before .before .before .before .pre in
+    prints-listing _ (input-bytes (k .before .before)) (yes (k .before .before)) (part1 k) _ (s .schedule .ensures) _ _ (search needs) (p .out-room) (c .before .before .put-listing .ensures)
 
 pub print-spec : {M : Type 1} → statement M
 print-spec =
@@ -92,7 +102,8 @@ print-spec =
     put-first-line-requires
     same-length
     returns
-    body-requires
+    layout-of-requires
+    part-requires
     schedule-requires
     put-listing-requires
     same-length-2

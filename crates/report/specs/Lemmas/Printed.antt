@@ -18,12 +18,12 @@ use Rattle.elimination.specs.Schedule.{schedule-length}
 use Rattle.contents.specs.Contents.{split, marksPart}
 use Rattle.contents.specs.Asking.{Question, _asks_, answer}
 use Rattle.contents.specs.Laid.{Laid}
-use Rattle.contents.specs.Lemmas.Asked.{none-asked, asked-yes, asked-no, asked-iff}
+use Rattle.contents.specs.Laws.{none-asked, asked-yes, asked-no, asked-iff}
 use Rattle.contents.specs.Laws.{append-yes, append-no, append-iff}
-use Rattle.bodies.specs.Questions.{markCount, reelOf}
+use Rattle.bodies.specs.Questions.{markCount, reelFrom}
 use Rattle.sheet.specs.Questions.{sheetCount, checkQuestions, check}
 use Rattle.sheet.specs.Laws.{check-numbered, accepted-iff}
-use Rattle.rollmap.specs.Lemmas.Scheduled.{good, marks-bytes}
+use Rattle.rollmap.specs.Theorems.{good, marks-bytes}
 use Rattle.report.specs.Text.{text, line, listing, refusalLine, mostMarks, longestInput, printQuestions, printed}
 use Rattle.report.specs.Printing.{removalAt, Printable, firstRoom, textRoom, workedOut, Prints}
 use Rattle.report.specs.Lemmas.Lines.{refusal-room, listing-room, listing-same}
@@ -113,23 +113,23 @@ module _ (s : List ℕ) where
     part1-bytes : Bytes part
     part1-bytes = rw is (marks-bytes s bytes (asked yes .0))
 
-    module _ {p : List ℕ} (before : List ℕ) (schedule : p ≡ scheduleOf (reelOf part) ++ drop (14 * markCount part) before) where
+    module _ {p : List ℕ} (before : List ℕ) (schedule : p ≡ scheduleOf (reelFrom part) ++ drop (14 * markCount part) before) where
       rest : List ℕ
       rest = drop (14 * markCount part) before
 
       pub taken-printable : Printable p (markCount part)
       unfolding rest
-      taken-printable = rw schedule (schedule-printable (reelOf part) rest part1-good part1-bytes)
+      taken-printable = rw schedule (schedule-printable (reelFrom part) rest part1-good part1-bytes)
 
       same : listing (removalAt p) (markCount part) ≡ printed s
       unfolding printed rest
       same =
-          let e = listing-same (removalAt p) (process (marksOf (reelOf part))) (markCount part) (rw schedule (removal-process (reelOf part) rest part1-good part1-bytes)) in
+          let e = listing-same (removalAt p) (process (marksOf (reelFrom part))) (markCount part) (rw schedule (removal-process (reelFrom part) rest part1-good part1-bytes)) in
           rw (yes, ← is) e
 
       worked-out : p ≡ over (workedOut s) before
       unfolding workedOut over
-      worked-out = rw (yes, ← is, schedule-length (reelOf part)) schedule
+      worked-out = rw (yes, ← is, schedule-length (reelFrom part)) schedule
 
       pub prints-listing : (work work-after : List ℕ) {out out-after : List ℕ} {r : ℕ} → length work-after ≡ length work → textRoom mostMarks ≤ length out
           → Wrote out out-after 0 (listing (removalAt p) (markCount part)) r → Prints s work before out r work-after p out-after

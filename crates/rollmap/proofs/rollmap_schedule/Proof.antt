@@ -10,7 +10,8 @@ use Rattle.lists.specs.TestLaws.{said-no, said-yes}
 use Rattle.numbers.specs.Little.{Bytes}
 use Rattle.marks.specs.Good.{GoodMarks}
 use Rattle.sheet.specs.Questions.{check}
-use Rattle.sheet.specs.Laws.{accepted-iff}
+use Rattle.sheet.specs.Laws.{accepted-iff, found-number, found-part}
+use Rattle.contents.specs.Contents.{split, marksPart}
 use Rattle.rollmap.specs.declared.Answer.{Answer}
 use Rattle.rollmap.specs.Jobs.{scheduleJob}
 use Rattle.rollmap.specs.Answers.{Gives, Lent}
@@ -22,35 +23,38 @@ use Rattle.rollmap.proofs.rollmap_schedule.Tie as tie
 
 -- the sheet was accepted
 accepted : (c : tie.Else1) → check (now (c .before .before .before .before .before .args .sheet)) ≡ 0
-accepted c = sym (c .before .check .ensures) ∙ c .if1 .left
+accepted c = sym (found-number _ (c .before .opened .ensures)) ∙ c .if1 .left
 
 -- and part 1 holds these marks
-good : (c : tie.After-body) → GoodMarks (now (c .body .result)) (length (now (c .body .result)) / 11)
-good c = rw (c .body .ensures) (accepted-iff _ .0 (accepted (c .before)) .fitting .marks)
+part1 : (c : tie.After-part) → now (c .part .result) ≡ marksPart (split (now (c .before .before .before .before .before .before .before .args .sheet)))
+part1 c = c .part .ensures ∙ found-part _ (c .before .before .before .opened .ensures) (accepted (c .before .before)) 1
 
-long : (c : tie.After-body) → length (now (c .body .result)) ≡ 11 * (length (now (c .body .result)) / 11)
-long c = rw (c .body .ensures) (accepted-iff _ .0 (accepted (c .before)) .fitting .marks-long)
+good : (c : tie.After-part) → GoodMarks (now (c .part .result)) (length (now (c .part .result)) / 11)
+good c = rw (part1 c) (accepted-iff _ .0 (accepted (c .before .before)) .fitting .marks)
+
+long : (c : tie.After-part) → length (now (c .part .result)) ≡ 11 * (length (now (c .part .result)) / 11)
+long c = rw (part1 c) (accepted-iff _ .0 (accepted (c .before .before)) .fitting .marks-long)
 
 -- what a way out gives, with demand 3 of it
 whole : {g : List ℕ} (work : ℕ) {before out w w′ : List ℕ} {r : Answer} → Bytes g → Gives (scheduleJob g work (length before)) before r out
     → Lent r w w′ → Gives (scheduleJob g work (length before)) before r out × (Lent r w w′ × Meets g r out)
 whole {g} work {before} bytes gives lent = (gives, (lent, schedule-meets g work before bytes gives))
 
-check-requires : tie.Need-check-requires
-check-requires c κs = search needs
+opened-requires : tie.Need-opened-requires
+opened-requires c κs = search needs
 
 refused-requires : tie.Need-refused-requires
 refused-requires c κs = search needs
 
 returns : tie.Need-returns
 returns c =
-    let found = c .before .before .check .ensures in
+    let found = found-number _ (c .before .before .opened .ensures) in
     whole _ (λ i. c .before .before .before .before .before .shared-slice-known .given i .fits)
     (schedule-refused _ _ _ (omega (arith, found, c .before .if1 .taken)) (rw found at (c .refused .ensures)))
     (record { long = refl; refused = λ h. refl })
 
-body-requires : tie.Need-body-requires
-body-requires c κs = accepted-iff _ .0 (accepted c) .laid
+part-requires : tie.Need-part-requires
+part-requires c κs = search needs
 
 has-room-requires : tie.Need-has-room-requires
 has-room-requires c κs = good c .few
@@ -61,9 +65,9 @@ refused-requires-2 c κs = search needs
 returns-2 : tie.Need-returns-2
 returns-2 c =
     let b = c .before .before .before in
-    let short = rw (b .body .ensures) at (said-no (c .before .before .has-room .ensures) (c .before .if2 .taken)) in
-    whole _ (λ i. c .before .before .before .before .before .before .before .before .shared-slice-known .given i .fits)
-    (schedule-no-room _ _ _ (accepted (b .before)) short (c .refused2 .ensures))
+    let short = rw (part1 b) at (said-no (c .before .before .has-room .ensures) (c .before .if2 .taken)) in
+    whole _ (λ i. b .before .before .before .before .before .before .shared-slice-known .given i .fits)
+    (schedule-no-room _ _ _ (accepted (b .before .before)) short (c .refused2 .ensures))
     (record { long = refl; refused = λ h. refl })
 
 put-scheduled-requires : tie.Need-put-scheduled-requires
@@ -71,14 +75,14 @@ put-scheduled-requires c κs =
     let room = room-there _ _ _ (said-yes (c .before .before .before .has-room .ensures) (c .before .before .if2 .left)) in
     ((good (c .before .before .before .before), long (c .before .before .before .before)), room)
 
-mul-t8 : tie.Need-mul-t8
-mul-t8 c = omega (arith, good (c .before .before .before .before .before .before .before .before .before) .few)
+mul-t10 : tie.Need-mul-t10
+mul-t10 c = omega (arith, good (c .before .before .before .before .before .before .before .before .before) .few)
 
-add-t9 : tie.Need-add-t9
-add-t9 c = omega (arith, good (c .before .before .before .before .before .before .before .before .before) .few)
+add-t11 : tie.Need-add-t11
+add-t11 c = omega (arith, good (c .before .before .before .before .before .before .before .before .before) .few)
 
-cast-t16 : tie.Need-cast-t16
-cast-t16 c = omega (arith, good (c .before .before .before .before .before .before .before .before .before) .few)
+cast-t18 : tie.Need-cast-t18
+cast-t18 c = omega (arith, good (c .before .before .before .before .before .before .before .before .before) .few)
 
 same-length : tie.Need-same-length
 same-length c = search needs
@@ -91,26 +95,26 @@ returns-3 c =
     let p = c .before .before .before .before in
     let h = p .before .before .before .before in
     let b = h .before in
-    let room = rw (b .body .ensures) at (said-yes (h .has-room .ensures) (p .before .before .before .if2 .left)) in
-    whole _ (λ i. b .before .before .before .before .before .shared-slice-known .given i .fits)
-    (schedule-written _ _ _ (accepted (b .before)) room (rw (b .body .ensures)) (rw (b .body .ensures) at (p .put-scheduled .ensures)))
+    let room = rw (part1 b) at (said-yes (h .has-room .ensures) (p .before .before .before .if2 .left)) in
+    whole _ (λ i. b .before .before .before .before .before .before .shared-slice-known .given i .fits)
+    (schedule-written _ _ _ (accepted (b .before .before)) room (rw (part1 b)) (rw (part1 b) at (p .put-scheduled .ensures)))
     (record { long = search needs; refused = λ z. absurd (omega (arith, z)) })
 
 pub rollmap-schedule-spec : {M : Type 1} → statement M
 rollmap-schedule-spec =
     tie.close
     (tie.spec
-    check-requires
+    opened-requires
     refused-requires
     returns
-    body-requires
+    part-requires
     has-room-requires
     refused-requires-2
     returns-2
     put-scheduled-requires
-    mul-t8
-    add-t9
-    cast-t16
+    mul-t10
+    add-t11
+    cast-t18
     same-length
     same-length-2
     returns-3)

@@ -10,11 +10,13 @@ use lib.ListN.{length, take, drop}
 use lib.Seq.{take-append-seam}
 use Rattle.lists.specs.Stores.{over}
 use Rattle.sheet.specs.declared.Assembled.{Assembled}
-use Rattle.contents.specs.Contents.{join, given}
+use Rattle.contents.specs.Contents.{join}
+use Rattle.contents.specs.Questions.{isCount}
+use Rattle.contents.specs.Laws.{asked-yes, asked-no}
 use Rattle.contents.specs.Asking.{Question, answer}
-use Rattle.sheet.specs.Questions.{checkQuestions, check, assembleQuestions}
+use Rattle.sheet.specs.Questions.{checkQuestions, check}
 use Rattle.sheet.specs.Assembled.{numberOf, lengthOf, Assembling}
-use Rattle.rollmap.specs.Jobs.{Outcome, outcome, after, checkJob, assembleJob}
+use Rattle.rollmap.specs.Jobs.{Outcome, outcome, after, checkJob, given, assembleQuestions, assembleJob}
 use Rattle.rollmap.specs.declared.Answer.{Answer}
 use Rattle.rollmap.specs.Answers.{refusal, answerOf, Gives}
 
@@ -88,12 +90,12 @@ check-gives s = cases (eqb (answer (checkQuestions s)) 0) refl
     cases true e = rw (eqb-true (answer (checkQuestions s)) 0 e)
     cases false e = refl
 
--- what `sheet::assemble` answers and leaves is what the job gives
-pub assemble-gives : (k : ℕ) (body1 body2 body3 before after-call : List ℕ) (r : Assembled)
-    → Assembling k (given k body1 body2 body3) before r after-call
+-- what `sheet::assemble` answers and leaves, where the number of parts is taken, is what the job gives
+pub assemble-gives : (k : ℕ) (body1 body2 body3 before after-call : List ℕ) (r : Assembled) → isCount k ≡ true
+    → Assembling (given k body1 body2 body3) before r after-call
     → Gives (assembleJob k body1 body2 body3 (length before)) before (record { number = numberOf r; value = lengthOf r }) after-call
-unfolding assembleJob outcome after over
-assemble-gives k body1 body2 body3 before after-call r a = cases (eqb number 0) refl
+unfolding assembleJob assembleQuestions outcome after over
+assemble-gives k body1 body2 body3 before after-call r taken a = cases (eqb number 0) refl
   where
     number : ℕ
     number = answer (assembleQuestions k (given k body1 body2 body3) (length before))
@@ -101,16 +103,27 @@ assemble-gives k body1 body2 body3 before after-call r a = cases (eqb number 0) 
     sheet : List ℕ
     sheet = join (given k body1 body2 body3)
 
+    same : numberOf r ≡ number
+    same = a .number ∙ sym (asked-yes 1 _ taken)
+
     cases : (b : Bool) → eqb number 0 ≡ b
         → Gives (cond b (record { number = 0; value = length sheet; written = sheet }) (record { number = number; value = 0; written = [] })) before
         (record { number = numberOf r; value = lengthOf r }) after-call
     cases true e =
-        let z : numberOf r ≡ 0 = a .number ∙ eqb-true number 0 e in
+        let z : numberOf r ≡ 0 = same ∙ eqb-true number 0 e in
         let v : lengthOf r ≡ length sheet = rw z at (a .size) in
         let w : after-call ≡ over sheet before = rw z at (a .bytes) in
         record { answered = rw (z, v); bytes = w }
     cases false e =
-        let z : eqb (numberOf r) 0 ≡ false = ap (λ (n : ℕ). eqb n 0) (a .number) ∙ e in
+        let z : eqb (numberOf r) 0 ≡ false = ap (λ (n : ℕ). eqb n 0) same ∙ e in
         let v : lengthOf r ≡ 0 = rw z at (a .size) in
         let w : after-call ≡ before = rw z at (a .bytes) in
-        record { answered = rw (a .number, v); bytes = w }
+        record { answered = rw (same, v); bytes = w }
+
+-- any other number of parts gets 1
+pub assemble-refused : (k : ℕ) (body1 body2 body3 before : List ℕ) {r : Answer} → isCount k ≡ false → r ≡ refusal 1
+    → Gives (assembleJob k body1 body2 body3 (length before)) before r before
+unfolding assembleJob assembleQuestions
+assemble-refused k body1 body2 body3 before wrong is =
+    let parts = given k body1 body2 body3 in
+    refused-gives (assembleQuestions k parts (length before)) (length (join parts)) (join parts) before 1 (asked-no 1 _ wrong) (omega arith) is

@@ -10,7 +10,7 @@ use borrow.Author.Tests.{le-leb, lt-leb}
 use Rattle.lists.specs.StoreLaws.{over-sets}
 use Rattle.contents.specs.Asking.{Question, _asks_, answer}
 use Rattle.contents.specs.Laws.{append-yes, append-no, append-iff}
-use Rattle.contents.specs.Lemmas.Asked.{Numbered, none-asked, asked-yes, asked-no}
+use Rattle.contents.specs.Laws.{Numbered, none-asked, asked-yes, asked-no}
 use Rattle.rollmap.specs.declared.Answer.{Answer}
 use Rattle.rollmap.specs.Jobs.{outcome}
 use Rattle.rollmap.specs.Answers.{refusal, Gives}

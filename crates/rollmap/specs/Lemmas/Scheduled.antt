@@ -1,15 +1,14 @@
 -- What scheduling writes passes the questions: its records are right, and its index is the tree of its own schedule. Assumes nothing.
 use Prim.Native.Nat.{ℕ, zero, suc, _*_, _<_, _≤_}
-use mathlib.Core.Path.{_≡_, refl, sym, ap, _∙_, subst}
+use mathlib.Core.Path.{_≡_, refl, sym, ap, _∙_}
 use mathlib.Core.Bool.{Bool, true, false, true≢false}
 use mathlib.Core.List.{List}
 use mathlib.Core.Logic.{_↔_}
 use native.Mathlib.Omega.{arith}
 use borrow.Author.Tests.{lt-ltb, eq-eqb}
-use lib.ListN.{length, drop}
+use lib.ListN.{length}
 use Rattle.lists.specs.TestLaws.{or-right, every-of}
 use Rattle.numbers.specs.Little.{Bytes}
-use Rattle.numbers.specs.Laws.{bytes-take, bytes-drop}
 use Rattle.fractions.specs.declared.Fraction.{Fraction}
 use Rattle.fractions.specs.declared.Value.{Value}
 use Rattle.fractions.specs.declared.Value.the-variants.{At}
@@ -25,14 +24,14 @@ use Rattle.elimination.specs.Sheet.{sheet-proper}
 use Rattle.elimination.specs.Theorems.{process-eliminator}
 use Rattle.elimination.specs.Schedule.{schedule-length, schedule-reads, schedule-value}
 use Rattle.index.specs.Laws.{index-long, index-iff}
-use Rattle.contents.specs.Contents.{offsetAt, lengthAt, split, marksPart}
-use Rattle.contents.specs.Lemmas.Parts.{split-at}
-use Rattle.bodies.specs.Questions.{markCount, namesRight, recordRight, question8, reelOf}
+use Rattle.contents.specs.Contents.{split, marksPart}
+use Rattle.contents.specs.Laws.{find-bytes}
+use Rattle.bodies.specs.Questions.{markCount, namesRight, recordRight, isSchedule, reelFrom}
 use Rattle.bodies.specs.Fitting.{Fitting}
 use Rattle.sheet.specs.Questions.{sheetCount, check}
 use Rattle.sheet.specs.Laws.{accepted-iff}
 use Rattle.bitmap.specs.Map.{countShown}
-use Rattle.rollmap.specs.Jobs.{newSchedule, newIndex, newBodies}
+use Rattle.rollmap.specs.Jobs.{newSchedule, newIndex, newParts}
 
 -- ---- tests and counts
 
@@ -55,12 +54,12 @@ count-same p q (suc n) h = rw (count-same p q n (λ m k. h m (omega arith)), h n
 
 module _ (s : List ℕ) (good : GoodMarks s (markCount s)) (long : length s ≡ 11 * markCount s) (bytes : Bytes s) where
   -- each record that scheduling writes is right: question 8
-  new-right : (m : ℕ) → m < markCount s → recordRight (reelOf s) (newSchedule s) m ≡ true
+  new-right : (m : ℕ) → m < markCount s → recordRight (reelFrom s) (newSchedule s) m ≡ true
   unfolding recordRight isNever namesRight
   new-right m h = cases (process (marksOf r) m) refl
     where
       r : Reel
-      r = reelOf s
+      r = reelFrom s
 
       p : List ℕ
       p = newSchedule s
@@ -82,17 +81,17 @@ module _ (s : List ℕ) (good : GoodMarks s (markCount s)) (long : length s ≡ 
           or-right (isNever (markRecord p m))
           (rw (w .eliminator, w .numerator, w .denominator, lt-ltb g (markCount s) (x .inside), o, eq-eqb _ _ num, eq-eqb _ _ den, l))
 
-  new-every : question8 (reelOf s) (newSchedule s) ≡ true
-  unfolding question8
-  new-every = every-of (recordRight (reelOf s) (newSchedule s)) (markCount s) new-right
+  new-every : isSchedule (reelFrom s) (newSchedule s) ≡ true
+  unfolding isSchedule
+  new-every = every-of (recordRight (reelFrom s) (newSchedule s)) (markCount s) new-right
 
   -- the parts that scheduling writes fit one another: questions 4 to 9 say yes
-  pub new-fitting : Fitting (newBodies s)
+  pub new-fitting : Fitting (newParts s)
   new-fitting =
       record {
         marks = good;
         marks-long = long;
-        schedule-long = λ h. schedule-length (reelOf s);
+        schedule-long = λ h. schedule-length (reelFrom s);
         index-long = λ h. index-long s (newSchedule s) (markCount s) few;
         schedule-right = λ h. new-every;
         index-right = λ h. index-iff s (newSchedule s) (markCount s) few (newIndex s) .1 refl;
@@ -111,6 +110,4 @@ module _ (g : List ℕ) (bytes : Bytes g) (ok : check g ≡ 0) where
   marks-long = (accepted-iff g .0 ok) .fitting .marks-long
 
   pub marks-bytes : Bytes (marksPart (split g))
-  marks-bytes =
-      let some = (accepted-iff g .0 ok) .laid .whole .some in
-      subst Bytes (sym (split-at g 0 some)) (bytes-take (lengthAt g 0) (drop (offsetAt g 0) g) (bytes-drop (offsetAt g 0) g bytes))
+  marks-bytes = find-bytes g bytes 1

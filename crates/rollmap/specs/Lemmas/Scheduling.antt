@@ -1,6 +1,6 @@
 -- Scheduling: the written pieces are the sheet that is defined, and each way out answers as the job says. Assumes nothing.
 use Prim.Native.Nat.{ℕ, zero, suc, _+_, _-_, _*_, _<_, _≤_}
-use mathlib.Core.Path.{_≡_, sym, ap, _∙_}
+use mathlib.Core.Path.{_≡_, refl, sym, ap, _∙_}
 use mathlib.Core.Bool.{true, false, cond}
 use mathlib.Core.List.{List, [], _∷_, _++_, append-nil, append-assoc}
 use native.Mathlib.Omega.{arith}
@@ -17,15 +17,14 @@ use Rattle.elimination.specs.Schedule.{schedule-length}
 use Rattle.index.specs.Index.{indexOf, indexBytes}
 use Rattle.index.specs.Laws as Index
 use Rattle.indexing.specs.Buffer.{withIndex}
-use Rattle.contents.specs.Contents.{split, chain, join, marksPart}
+use Rattle.contents.specs.Contents.{split, contentsOf, chain, join, marksPart}
 use Rattle.contents.specs.Asking.{answer}
-use Rattle.contents.specs.Written.{contentsOf}
-use Rattle.contents.specs.Laws.{append-yes, append-no, join-contents, contents-length}
+use Rattle.contents.specs.Laws.{append-yes, append-no, contents-length}
 use Rattle.bodies.specs.Questions.{markCount}
 use Rattle.sheet.specs.Questions.{sheetCount, checkQuestions, check}
 use Rattle.sheet.specs.Laws.{check-numbered, accepted-iff}
 use Rattle.rollmap.specs.declared.Answer.{Answer}
-use Rattle.rollmap.specs.Jobs.{newBodies, scheduled, hasRoom, scheduleQuestions, scheduleJob}
+use Rattle.rollmap.specs.Jobs.{newParts, scheduled, hasRoom, scheduleQuestions, scheduleJob}
 use Rattle.rollmap.specs.Answers.{refusal, Gives}
 use Rattle.rollmap.specs.Steps.{resultsOver}
 use Rattle.rollmap.specs.Lemmas.Outcomes.{refused-gives, written-gives}
@@ -36,20 +35,7 @@ use Rattle.rollmap.specs.Lemmas.Outcomes.{refused-gives, written-gives}
 pub rest-long : (l : List ℕ) (a : ℕ) → length (take (length l - a) (drop a l)) ≡ length l - a
 rest-long l a = ap length (take-all (length l - a) (drop a l) (omega (arith, length-drop a l))) ∙ length-drop a l
 
--- part 2, written by a call that was lent the rest of the buffer behind the marks
-pub scheduled-behind : (r : Reel) (a₀ : List ℕ) (rest k : ℕ) {t : List ℕ} → rest ≡ 11 * r .count → k ≡ length a₀ - rest
-    → take (11 * r .count) a₀ ≡ r .marks → t ≡ scheduleOf r ++ drop (14 * r .count) (midOf rest k a₀)
-    → putMid rest k a₀ t ≡ r .marks ++ (scheduleOf r ++ drop (25 * r .count) a₀)
-scheduled-behind r a₀ rest k {t} r-is k-is front t-is =
-    let n = r .count in
-    let less : length (drop rest a₀) ≤ k = omega (arith, k-is, length-drop rest a₀) in
-    let lent : take k (drop rest a₀) ≡ drop rest a₀ = take-all k (drop rest a₀) less in
-    let none : drop k (drop rest a₀) ≡ [] = drop-of-length-le (drop rest a₀) less in
-    let sum : rest + 14 * n ≡ 25 * n = omega (arith, r-is) in
-    let first : take rest a₀ ≡ r .marks = rw r-is front in
-    rw (t-is, none, append-nil _, lent, drop-drop (14 * n) rest a₀, sum, first)
-
--- and then part 3
+-- part 2 and then part 3, behind the marks
 pub results-are : (r : Reel) (a₀ : List ℕ) {a₁ a₂ : List ℕ} → length (r .marks) ≡ 11 * r .count
     → a₁ ≡ r .marks ++ (scheduleOf r ++ drop (25 * r .count) a₀) → a₂ ≡ withIndex a₁ (r .count) → a₂ ≡ resultsOver r a₀
 unfolding resultsOver
@@ -81,6 +67,9 @@ module _ (s : List ℕ) (n : ℕ) (few : n ≤ 4096) (long : length s ≡ 11 * n
   count-is : markCount s ≡ n
   count-is = omega (arith, long)
 
+  abbrev codes : List ℕ
+  codes = 1 ∷ 2 ∷ 3 ∷ []
+
   abbrev sizes : List ℕ
   sizes = length s ∷ 14 * n ∷ 2 * n ∷ []
 
@@ -94,48 +83,47 @@ module _ (s : List ℕ) (n : ℕ) (few : n ≤ 4096) (long : length s ≡ 11 * n
   results = scheduleOf (record { marks = s; count = n }) ++ indexBytes (indexOf s (scheduleOf (record { marks = s; count = n })) n)
 
   abbrev start : List ℕ
-  start = contentsOf sizes ++ s
+  start = contentsOf codes sizes ++ s
 
-  sheet-is : join (newBodies s) ≡ start ++ results
-  unfolding chain
+  sheet-is : join (newParts s) ≡ start ++ results
+  unfolding join chain
   sheet-is =
       rw (
-        join-contents (newBodies s),
         count-is,
         schedule-length (record { marks = s; count = n }),
         index-long s n few,
         append-nil (indexBytes (indexOf s (scheduleOf (record { marks = s; count = n })) n)),
-        append-assoc (contentsOf sizes) s results,
+        append-assoc (contentsOf codes sizes) s results,
       )
 
   start-long : length start ≡ 11 * n + 32
-  start-long = omega (arith, long, length-append (contentsOf sizes) s, contents-length sizes)
+  start-long = omega (arith, long, length-append (contentsOf codes sizes) s, contents-length codes sizes refl)
 
   results-long : length results ≡ 16 * n
   results-long = omega (arith, length-append (scheduleOf (record { marks = s; count = n })) (indexBytes (indexOf s (scheduleOf (record { marks = s; count = n })) n)), schedule-length (record { marks = s; count = n }), index-long s n few)
 
-  pub sheet-long : length (join (newBodies s)) ≡ 27 * n + 32
+  pub sheet-long : length (join (newParts s)) ≡ 27 * n + 32
   sheet-long = rw sheet-is (omega (arith, length-append start results, start-long, results-long))
 
   module _ (o₀ : List ℕ) (room : 27 * n + 32 ≤ length o₀) where
     -- the contents and part 1
-    pub begun : {o₁ o₂ : List ℕ} → o₁ ≡ sets o₀ 0 (contentsOf sizes) → o₂ ≡ sets o₁ 32 s → o₂ ≡ start ++ drop (11 * n + 32) o₀
+    pub begun : {o₁ o₂ : List ℕ} → o₁ ≡ sets o₀ 0 (contentsOf codes sizes) → o₂ ≡ sets o₁ 32 s → o₂ ≡ start ++ drop (11 * n + 32) o₀
     unfolding over
     begun e f =
-        let a : sets o₀ 0 start ≡ sets (sets o₀ 0 (contentsOf sizes)) 32 s = rw (contents-length sizes) at (sets-append o₀ 0 (contentsOf sizes) s) in
+        let a : sets o₀ 0 start ≡ sets (sets o₀ 0 (contentsOf codes sizes)) 32 s = rw (contents-length codes sizes refl) at (sets-append o₀ 0 (contentsOf codes sizes) s) in
         rw (f, e, ← a, over-sets start o₀ (omega (arith, start-long, room)), start-long)
 
     -- what a call is lent that is lent all but the contents
     module _ (from k : ℕ) {o₂ : List ℕ} (from-is : from ≡ 32) (k-is : k ≡ length o₂ - from) (o-is : o₂ ≡ start ++ drop (11 * n + 32) o₀) where
-      contents-first : take from o₂ ≡ contentsOf sizes
+      contents-first : take from o₂ ≡ contentsOf codes sizes
       contents-first =
-          rw (from-is, o-is, append-assoc (contentsOf sizes) s (drop (11 * n + 32) o₀))
-          (take-at (contentsOf sizes) (s ++ drop (11 * n + 32) o₀) 32 (contents-length sizes))
+          rw (from-is, o-is, append-assoc (contentsOf codes sizes) s (drop (11 * n + 32) o₀))
+          (take-at (contentsOf codes sizes) (s ++ drop (11 * n + 32) o₀) 32 (contents-length codes sizes refl))
 
       behind : drop from o₂ ≡ s ++ drop (11 * n + 32) o₀
       behind =
-          rw (from-is, o-is, append-assoc (contentsOf sizes) s (drop (11 * n + 32) o₀))
-          (drop-at (contentsOf sizes) (s ++ drop (11 * n + 32) o₀) 32 (contents-length sizes))
+          rw (from-is, o-is, append-assoc (contentsOf codes sizes) s (drop (11 * n + 32) o₀))
+          (drop-at (contentsOf codes sizes) (s ++ drop (11 * n + 32) o₀) 32 (contents-length codes sizes refl))
 
       less : length (drop from o₂) ≤ k
       less = omega (arith, length-drop from o₂)
@@ -147,7 +135,7 @@ module _ (s : List ℕ) (n : ℕ) (few : n ≤ 4096) (long : length s ≡ 11 * n
       marks-first = rw lent (take-at s (drop (11 * n + 32) o₀) (11 * n) long)
 
       -- and then parts 2 and 3
-      pub finished : {t : List ℕ} → t ≡ resultsOver (record { marks = s; count = n }) (midOf from k o₂) → putMid from k o₂ t ≡ over (join (newBodies s)) o₀
+      pub finished : {t : List ℕ} → t ≡ resultsOver (record { marks = s; count = n }) (midOf from k o₂) → putMid from k o₂ t ≡ over (join (newParts s)) o₀
       unfolding over resultsOver
       finished {t} t-is =
           let none : drop k (drop from o₂) ≡ [] = drop-of-length-le (drop from o₂) less in
@@ -165,7 +153,7 @@ module _ (s : List ℕ) (n : ℕ) (few : n ≤ 4096) (long : length s ≡ 11 * n
             t-is,
             rest,
             append-assoc start results (drop (27 * n + 32) o₀),
-            append-assoc (contentsOf sizes) s (results ++ drop (27 * n + 32) o₀),
+            append-assoc (contentsOf codes sizes) s (results ++ drop (27 * n + 32) o₀),
             append-assoc (scheduleOf (record { marks = s; count = n })) (indexBytes (indexOf s (scheduleOf (record { marks = s; count = n })) n)) (drop (27 * n + 32) o₀),
           )
 
@@ -195,7 +183,7 @@ module _ (s : List ℕ) (work : ℕ) (buffer : List ℕ) where
 
     pub schedule-written : {r : Answer} → hasRoom (sheetCount s) work (length buffer) ≡ true
         → r ≡ record { number = 0; value = 27 * sheetCount s + 32 }
-        → {left : List ℕ} → left ≡ over (join (newBodies (marksPart (split s)))) buffer
+        → {left : List ℕ} → left ≡ over (join (newParts (marksPart (split s)))) buffer
         → Gives (scheduleJob s work (length buffer)) buffer r left
     unfolding scheduleJob scheduled
     schedule-written room is bytes =

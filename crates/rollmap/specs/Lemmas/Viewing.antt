@@ -1,18 +1,21 @@
 -- Viewing: each way out answers as the job says. Assumes nothing.
 use Prim.Native.Nat.{ℕ, _<_, _≤_}
 use mathlib.Core.Path.{_≡_, _∙_}
-use mathlib.Core.Bool.{Bool, true, false, and-false}
+use mathlib.Core.Bool.{Bool, true, false}
 use mathlib.Core.List.{List, [], _∷_}
 use native.Mathlib.Omega.{arith}
 use borrow.Author.Tests.{le-leb, lt-leb}
 use lib.Dec.{leb}
 use lib.ListN.{length}
 use Rattle.lists.specs.Stores.{over}
-use Rattle.contents.specs.Contents.{countAt, split, marksPart, schedulePart, indexPart}
+use Rattle.lists.specs.TestLaws.{both-iff}
+use Rattle.contents.specs.Contents.{has, split, marksPart, schedulePart, indexPart}
 use Rattle.contents.specs.Asking.{Question, _asks_, answer}
-use Rattle.contents.specs.Laws.{append-yes, append-no, split-length}
+use Rattle.contents.specs.Laws.{append-yes, append-no}
 use Rattle.sheet.specs.Questions.{sheetCount, checkQuestions, check}
-use Rattle.sheet.specs.Laws.{check-numbered, accepted-iff}
+use Rattle.sheet.specs.declared.Opening.{Opening}
+use Rattle.sheet.specs.Opened.{opened}
+use Rattle.sheet.specs.Laws.{check-numbered, accepted-iff, found-there}
 use Rattle.bitmap.specs.Map.{mapSize, mapBytes, countShown}
 use Rattle.bitmap.specs.Laws.{map-length}
 use Rattle.zoom.specs.declared.Zoom.{Zoom}
@@ -25,7 +28,7 @@ use Rattle.view.specs.Questions.{question10, question11, isTaken, viewQuestions
 use Rattle.rollmap.specs.declared.Answer.{Answer}
 use Rattle.rollmap.specs.Jobs.{outcome, shownIn, viewJob}
 use Rattle.rollmap.specs.Answers.{refusal, Gives}
-use Rattle.rollmap.specs.Steps.{viewAt}
+use Rattle.rollmap.specs.Steps.{isIndexed, viewAt}
 use Rattle.rollmap.specs.Lemmas.Outcomes.{refused-gives, written-gives}
 
 -- ---- question 13, the map and the count
@@ -68,20 +71,11 @@ module _ (s : List ℕ) (e : Rectangle) (zoom : Zoom) (buffer : List ℕ) where
     unfolding viewQuestions check
     asked = append-yes (checkQuestions s) later (check-numbered s) ok
 
-    few : countAt s ≤ 3
-    few = accepted-iff s .0 ok .laid .whole .few
+    pub view-no-parts : {r : Answer} → question10 (split s) ≡ false → r ≡ refusal 10 → Gives (viewJob s e zoom (length buffer)) buffer r buffer
+    unfolding answer
+    view-no-parts missing is = refused-at 10 (asked ∙ rw missing) (omega arith) is
 
-    pub view-no-parts : {r : Answer} → countAt s < 3 → r ≡ refusal 10 → Gives (viewJob s e zoom (length buffer)) buffer r buffer
-    unfolding question10 answer
-    view-no-parts short is =
-        let missing : question10 (split s) ≡ false = rw (split-length s, lt-leb 3 (countAt s) short) (and-false (leb 2 (countAt s))) in
-        refused-at 10 (asked ∙ rw missing) (omega arith) is
-
-    module _ (three : 3 ≤ countAt s) where
-      there : question10 (split s) ≡ true
-      unfolding question10
-      there = rw (split-length s, le-leb 2 (countAt s) (omega (arith, three)), le-leb 3 (countAt s) three)
-
+    module _ (there : question10 (split s) ≡ true) where
       pub view-no-rectangle : {r : Answer} → question11 e ≡ false → r ≡ refusal 11 → Gives (viewJob s e zoom (length buffer)) buffer r buffer
       unfolding answer
       view-no-rectangle wrong is = refused-at 11 (asked ∙ rw (there, wrong)) (omega arith) is
@@ -98,19 +92,25 @@ module _ (s : List ℕ) (e : Rectangle) (zoom : Zoom) (buffer : List ℕ) where
 
 -- ---- what the search asks for
 
-pub viewable : (s map : List ℕ) → check s ≡ 0 → countAt s ≡ 3 → mapSize (sheetCount s) ≤ length map
+pub viewable : (s map : List ℕ) → check s ≡ 0 → question10 (split s) ≡ true → mapSize (sheetCount s) ≤ length map
     → Viewable (marksPart (split s)) (schedulePart (split s)) (indexPart (split s)) map (sheetCount s)
-viewable s map ok three room =
+unfolding question10
+viewable s map ok there room =
     let f = accepted-iff s .0 ok .fitting in
-    let k : length (split s) ≡ 3 = split-length s ∙ three in
+    let parts = both-iff (has (split s) 2) (has (split s) 3) .0 there in
     record {
       whole =
           record {
             few = f .marks .few;
             marks-long = omega (arith, f .marks .there);
-            schedule-long = omega (arith, f .schedule-long (omega (arith, k)));
-            index-long = f .index-long (omega (arith, k));
+            schedule-long = omega (arith, f .schedule-long (parts .0));
+            index-long = f .index-long (parts .1);
           };
-      index-right = f .index-right (omega (arith, k));
+      index-right = f .index-right (parts .1);
       room = room;
     }
+
+-- question 10, as the layout tells it
+pub indexed-is : {found : Opening} (s : List ℕ) → found ≡ opened s → check s ≡ 0 → isIndexed (found .layout) ≡ question10 (split s)
+unfolding question10
+indexed-is s is ok = rw (found-there s is ok 2, found-there s is ok 3)

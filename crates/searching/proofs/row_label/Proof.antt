@@ -1,5 +1,5 @@
 -- `searching::row_label` meets its contract: the place and the radius that were read. Assumes nothing.
-use Rattle.marks.proofs.Signed.{passed}
+use Rattle.marks.specs.Laws.{place-passed}
 use borrow.Author.Needs.{needs}
 use Rattle.searching.proofs.row_label.Statement.{statement}
 use Rattle.searching.proofs.row_label.Tie as tie
@@ -29,7 +29,7 @@ returns : tie.Need-returns
 returns c =
     let y = c .before in
     let x = y .before in
-    rw (passed (x .read-i16 .ok) (x .read-i16 .ensures), passed (y .read-i162 .ok) (y .read-i162 .ensures), c .read-u16 .ensures)
+    rw (place-passed (x .read-i16 .ok) (x .read-i16 .ensures), place-passed (y .read-i162 .ok) (y .read-i162 .ensures), c .read-u16 .ensures)
 
 pub row-label-spec : {M : Type 1} → statement M
 row-label-spec =

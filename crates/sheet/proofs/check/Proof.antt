@@ -1,57 +1,81 @@
--- `sheet::check` meets its contract: questions 1 to 3 end it, or else the three parts of the sheet are its bodies. Assumes nothing.
-use Prim.Native.Nat.{ℕ}
-use mathlib.Core.Path.{sym, ap, _∙_}
-use mathlib.Core.List.{List, []}
-use native.Mathlib.Omega.{arith}
-use borrow.Author.Needs.{needs}
+-- `sheet::check` meets its contract: questions 1 to 3 end it, or else what is read off the sheet are its parts. Assumes nothing.
+use Prim.Native.Nat.{_≤_}
+use mathlib.Core.Path.{_≡_, sym, ap, _∙_}
+use mathlib.Core.List.{List, [], _∷_}
+use lib.ListN.{take}
+use lib.Seq.{length-take-le}
 use denote.Ref.{now}
-use Rattle.contents.specs.Contents.{split}
+use Rattle.contents.specs.Contents.{Part, codesOf, split}
+use Rattle.contents.specs.Questions.{topCode, codesRight}
 use Rattle.contents.specs.Asking.{answer}
 use Rattle.contents.specs.Laid.{Laid}
-use Rattle.contents.specs.Lemmas.Parts.{split-length, given-parts}
-use Rattle.contents.specs.Lemmas.Laid.{count-iff, laid-iff}
+use Rattle.contents.specs.Laws.{laid-iff}
 use Rattle.bodies.specs.Questions.{bodyQuestions}
 use Rattle.sheet.specs.Lemmas.Accepting.{check-refused, check-laid}
+use Rattle.sheet.specs.Lemmas.Whole.{parts-read}
+use native.Mathlib.Omega.{arith}
+use borrow.Author.Needs.{needs}
 use Rattle.sheet.proofs.check.Statement.{statement}
 use Rattle.sheet.proofs.check.Tie as tie
 
 -- questions 1 to 3 were passed
 laid : (c : tie.Else1) → Laid (now (c .before .before .before .args .s))
-laid c = laid-iff _ [] .0 (sym (c .before .contents-answer .ensures) ∙ c .if1 .left) .0
+laid c = laid-iff _ .0 (sym (c .before .contents-answer .ensures) ∙ c .if1 .left)
+
+-- so there are at most as many parts as codes
+few : (c : tie.After-count-at) → c .count-at .result ≤ topCode
+few c = omega (arith, c .count-at .ensures, laid (c .before) .whole .few)
 
 contents-answer-requires : tie.Need-contents-answer-requires
 contents-answer-requires c κs = search needs
 
 returns : tie.Need-returns
-returns c =
-    c .before .contents-answer .ensures ∙ sym (check-refused _ (omega (arith, c .before .contents-answer .ensures, c .if1 .taken)))
+returns c = c .before .contents-answer .ensures ∙ sym (check-refused _ (omega (arith, c .before .contents-answer .ensures, c .if1 .taken)))
 
 count-at-requires : tie.Need-count-at-requires
 count-at-requires c κs = omega (arith, laid c .whole .inside)
 
+codes-of-requires : tie.Need-codes-of-requires
+codes-of-requires c κs = laid (c .before) .whole
+
 body-requires : tie.Need-body-requires
-body-requires c κs = laid (c .before)
+body-requires c κs = laid (c .before .before)
 
 body-requires-2 : tie.Need-body-requires-2
-body-requires-2 c κs = laid (c .before .before)
+body-requires-2 c κs = laid (c .before .before .before)
 
 body-requires-3 : tie.Need-body-requires-3
-body-requires-3 c κs = laid (c .before .before .before)
+body-requires-3 c κs = laid (c .before .before .before .before)
+
+array-share-prefix-codes : tie.Need-array-share-prefix-codes
+array-share-prefix-codes c = omega (arith, c .before .before .before .codes-of .ensures .0, few (c .before .before .before .before))
+
+slice-aggregate-bodies-answer : tie.Need-slice-aggregate-bodies-answer
+slice-aggregate-bodies-answer c = sym (length-take-le (c .before .before .before .before .before .count-at .result) (c .before .before .before .before .codes-of .result) (omega (arith, c .before .before .before .before .codes-of .ensures .0, few (c .before .before .before .before .before))))
+
+array-share-prefix-lent : tie.Need-array-share-prefix-lent
+array-share-prefix-lent c = few (c .before .before .before .before .before)
+
+slice-aggregate-bodies-answer-2 : tie.Need-slice-aggregate-bodies-answer-2
+slice-aggregate-bodies-answer-2 c = sym (length-take-le (c .before .before .before .before .before .before .count-at .result) _ (few (c .before .before .before .before .before .before)))
 
 bodies-answer-requires : tie.Need-bodies-answer-requires
 bodies-answer-requires c κs =
-    let w = laid (c .before .before .before .before) .whole in
-    rw (c .before .before .before .count-at .ensures) (count-iff _ .1 (w .some, w .few))
+    let k = c .before .before .before .before .before .before in
+    let l = laid (k .before) in
+    let many = length-take-le (k .count-at .result) (c .before .before .before .before .before .codes-of .result) (omega (arith, c .before .before .before .before .before .codes-of .ensures .0, few k)) in
+    let lent = length-take-le (k .count-at .result) (c .before .before .before .before .body .result ∷ c .before .before .before .body2 .result ∷ c .before .before .body3 .result ∷ []) (few k) in
+    let codes : take (k .count-at .result) (c .before .before .before .before .before .codes-of .result) ≡ codesOf (split (now (k .before .before .before .before .args .s))) = rw (k .count-at .ensures) (c .before .before .before .before .before .codes-of .ensures .1) in
+    (many ∙ sym lent, omega (arith, lent, k .count-at .ensures, l .whole .some), ap codesRight codes ∙ l .codes)
 
 returns-2 : tie.Need-returns-2
 returns-2 c =
-    let b = c .before .before .before in
-    let s = now (b .before .before .before .before .before .args .s) in
-    let l = laid (b .before .before) in
-    let all = given-parts (split s) (rw (split-length s) (l .whole .few)) in
+    let k = c .before .before .before .before .before .before .before in
+    let s = now (c .before .before .before .before .before .before .before .before .before .before .before .args .s) in
+    let l = laid (k .before) in
     c .bodies-answer .ensures
-    ∙ rw (b .before .count-at .ensures, b .body .ensures, c .before .before .body2 .ensures, c .before .body3 .ensures)
-    (ap (λ (bodies : List (List ℕ)). answer (bodyQuestions bodies)) (rw (split-length s) at all) ∙ sym (check-laid s l))
+    ∙ ap (λ (parts : List Part). answer (bodyQuestions parts)) (parts-read now s l (k .count-at .result) (c .before .before .before .before .before .before .codes-of .result) (c .before .before .before .before .before .body .result) (c .before .before .before .before .body2 .result) (c .before .before .before .body3 .result) (k .count-at .ensures) (c .before .before .before .before .before .before .codes-of .ensures .1) (c .before .before .before .before .before .body .ensures) (c .before .before .before .before .body2 .ensures) (c .before .before .before .body3 .ensures))
+    ∙ sym (check-laid s l)
 
 pub check-spec : {M : Type 1} → statement M
 check-spec =
@@ -60,8 +84,13 @@ check-spec =
     contents-answer-requires
     returns
     count-at-requires
+    codes-of-requires
     body-requires
     body-requires-2
     body-requires-3
+    array-share-prefix-codes
+    slice-aggregate-bodies-answer
+    array-share-prefix-lent
+    slice-aggregate-bodies-answer-2
     bodies-answer-requires
     returns-2)

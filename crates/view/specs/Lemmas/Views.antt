@@ -18,7 +18,7 @@ use Rattle.index.specs.Index.{indexOf}
 use Rattle.index.specs.Blocks.{entryAt}
 use Rattle.index.specs.Laws.{index-below, index-once, index-block, block-tree, index-entries}
 use Rattle.bitmap.specs.Map.{mapSize, bitAt}
-use Rattle.bitmap.specs.Facts.{Shows, Cleared, countBits}
+use Rattle.bitmap.specs.Facts.{Shows, MapCleared, countBits}
 use Rattle.bitmap.specs.Laws.{map-is, cleared-bit, count-shown, count-bits-le}
 use Rattle.view.specs.View.{Viewable, Viewed}
 use Rattle.view.specs.declared.Bounds.{Bounds}
@@ -49,7 +49,7 @@ module _ {s p t map : List ℕ} {n : ℕ} (v : Viewable s p t map n) where
 
   -- ---- the map
 
-  module _ {shown : ℕ → Bool} {cleared after : List ℕ} (c : Cleared (mapSize n) map cleared)
+  module _ {shown : ℕ → Bool} {cleared after : List ℕ} (c : MapCleared (mapSize n) map cleared)
       (found : BitsSet shown (block (entryAt t) 0 n) cleared after) where
     set : BitsSet shown (indexOf s p n) cleared after
     set = rw (index-block s p n few t (v .index-right)) at found

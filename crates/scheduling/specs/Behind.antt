@@ -1,0 +1,19 @@
+-- Part 2 behind the marks that it is of, in one buffer `a`.
+use Prim.Native.Nat.{ℕ, _+_, _*_}
+use mathlib.Core.List.{List, _++_}
+use lib.ListN.{take, drop}
+use Rattle.marks.specs.Marks.{markSize}
+use Rattle.elimination.specs.Records.{recordSize}
+use Rattle.elimination.specs.Reel.{Reel, scheduleOf}
+
+-- the n marks that a buffer begins with
+abbrev pub reelIn : List ℕ → ℕ → Reel
+reelIn a n = record { marks = take (markSize * n) a; count = n }
+
+-- where their schedule ends
+abbrev pub scheduleEnd : ℕ → ℕ
+scheduleEnd n = (markSize + recordSize) * n
+
+-- the buffer with their schedule behind them; what follows stays
+abbrev pub withSchedule : List ℕ → ℕ → List ℕ
+withSchedule a n = take (markSize * n) a ++ (scheduleOf (reelIn a n) ++ drop (scheduleEnd n) a)
