@@ -11,7 +11,7 @@ use Rattle.marks.specs.Marks.{markSize, kindAt, radiusAt, isKind, isRadius, out
 use Rattle.elimination.specs.declared.Record.{Record}
 use Rattle.elimination.specs.Records.{recordSize, fractionOf, isNever, markRecord, valueAt}
 use Rattle.elimination.specs.Reel.{Reel}
-use Rattle.index.specs.Index.{entrySize, isIndex}
+use Rattle.index.specs.Index.{indexEntrySize, isIndex}
 use Rattle.contents.specs.Contents.{Part, has, marksPart, schedulePart, indexPart}
 use Rattle.contents.specs.Asking.{Question, _asks_, inTurn, ifThere}
 
@@ -83,7 +83,7 @@ isSized there size wanted = ifThere there (eqb size wanted)
 -- 7. "Are parts 2 and 3, if present, 14n and 2n bytes?"
 unfoldable pub question7 : List Part → Bool
 question7 parts =
-    isSized (has parts 2) (length (schedulePart parts)) (recordSize * countOf parts) && isSized (has parts 3) (length (indexPart parts)) (entrySize * countOf parts)
+    isSized (has parts 2) (length (schedulePart parts)) (recordSize * countOf parts) && isSized (has parts 3) (length (indexPart parts)) (indexEntrySize * countOf parts)
 
 -- 8. "Is each schedule record the 'never' record, or else ..?"
 unfoldable pub question8 : List Part → Bool

@@ -2,7 +2,7 @@
 use elimination::RECORD_SIZE;
 use elimination::Record;
 use fractions::Fraction;
-use index::ENTRY_SIZE;
+use index::INDEX_ENTRY_SIZE;
 use marks::House;
 use marks::MARK_SIZE;
 ghost use mathlib.Core.Path.{_≡_};
@@ -155,7 +155,7 @@ fn has_sizes(codes: &[u16], bodies: &[&[u8]], n: usize) -> bool
     let schedule = contents::find(codes, bodies, 2).len();
     let index = contents::find(codes, bodies, 3).len();
     is_sized(contents::names(codes, 2), schedule, RECORD_SIZE * n)
-        & is_sized(contents::names(codes, 3), index, ENTRY_SIZE * n)
+        & is_sized(contents::names(codes, 3), index, INDEX_ENTRY_SIZE * n)
 }
 
 // 8. Is each record of part 2 right?

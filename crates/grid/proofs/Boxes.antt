@@ -13,25 +13,25 @@ use Rattle.lists.specs.StoreLaws.{kept-wide, kept-then}
 use Rattle.marks.specs.declared.Label.{Label}
 use Rattle.marks.specs.Marks.{shifted, apart, distance, touchingOf}
 use Rattle.marks.specs.Laws.{distance-grows, distance-bound}
-use Rattle.grid.specs.Table.{cellCount, westFrom, eastFrom, southFrom, northFrom, radiiFrom, linksFrom, entry, radiusAt, Boxed}
-use Rattle.grid.specs.Steps.{Put, Grown, Widened, gap, AwayFrom, OffBox, Bound}
-use Rattle.grid.proofs.Entries.{entry-other}
+use Rattle.grid.specs.Table.{cellCount, westFrom, eastFrom, southFrom, northFrom, radiiFrom, linksFrom, tableAt, widestAt, Boxed}
+use Rattle.grid.specs.Steps.{Put, Grown, Widened, absDiff, AwayFrom, OffBox, Bound}
+use Rattle.grid.proofs.Entries.{table-other}
 
 -- ---- growing
 
 abbrev Raised : List ℕ → List ℕ → ℕ → ℕ → ℕ → Type 0
-Raised w v at i x = Put w v at i (max (entry w at i) x)
+Raised w v at i x = Put w v at i (max (tableAt w at i) x)
 
 -- one side of a box, or for i from 480 on a radius
 grown-one : {w v : List ℕ} {at i x : ℕ} → westFrom ≤ i → i < linksFrom → (radiiFrom ≤ i → x ≤ 16383) → Raised w v at i x → Grown w v at
 grown-one {w} {v} {at} {i} {x} h l low k =
     record {
       kept = kept-wide (k .kept) (omega arith) (omega arith);
-      more = λ j. elim (ℕ-discrete j i) [ yes e ↦ rw (e, k .here) (omega arith) | no e ↦ rw (entry-other k j e) (omega arith) ];
+      more = λ j. elim (ℕ-discrete j i) [ yes e ↦ rw (e, k .here) (omega arith) | no e ↦ rw (table-other k j e) (omega arith) ];
       low = λ c b s.
           elim (ℕ-discrete (radiiFrom + c) i) [
             | yes e ↦ (let z = low (omega arith) in rw (e, k .here) (let z2 = rw e at s in omega arith))
-            | no e ↦ rw (entry-other k (radiiFrom + c) e) s
+            | no e ↦ rw (table-other k (radiiFrom + c) e) s
           ];
     }
 
@@ -83,31 +83,31 @@ boxed-grown {c = c} g b =
 
 -- ---- the distance
 
-sub-gap : (a b : ℕ) → natAbs (subℕ a b) ≡ gap a b
-sub-gap a b = go (ltb a b) refl
+sub-difference : (a b : ℕ) → natAbs (subℕ a b) ≡ absDiff a b
+sub-difference a b = go (ltb a b) refl
   where
     go : (t : Bool) → ltb a b ≡ t → natAbs (cond t (negsuc (b - suc a)) (pos (a - b))) ≡ a - b + (b - a)
     go true e = let l = ltb-true a b e in omega arith
     go false e = let l = ltb-false a b e in omega arith
 
 -- shifting moves no two places further apart
-gap-shifted : (a b : ℤ) → gap (shifted a) (shifted b) ≤ apart a b
-gap-shifted (pos a) (pos zero) = omega arith
-gap-shifted (pos a) (pos (suc b)) = omega (arith, sub-gap a (suc b))
-gap-shifted (pos a) (negsuc b) = omega arith
-gap-shifted (negsuc a) (pos zero) = omega (arith, sub-gap 0 (suc a))
-gap-shifted (negsuc a) (pos (suc b)) = omega arith
-gap-shifted (negsuc a) (negsuc b) = omega (arith, sub-gap (suc b) (suc a))
+difference-shifted : (a b : ℤ) → absDiff (shifted a) (shifted b) ≤ apart a b
+difference-shifted (pos a) (pos zero) = omega arith
+difference-shifted (pos a) (pos (suc b)) = omega (arith, sub-difference a (suc b))
+difference-shifted (pos a) (negsuc b) = omega arith
+difference-shifted (negsuc a) (pos zero) = omega (arith, sub-difference 0 (suc a))
+difference-shifted (negsuc a) (pos (suc b)) = omega arith
+difference-shifted (negsuc a) (negsuc b) = omega (arith, sub-difference (suc b) (suc a))
 
-pub off-box : {w : List ℕ} {at c a b g h : ℕ} → AwayFrom a (entry w at (westFrom + c)) (entry w at (eastFrom + c)) g
-    → AwayFrom b (entry w at (southFrom + c)) (entry w at (northFrom + c)) h → OffBox w at c a b (distance g h)
+pub off-box : {w : List ℕ} {at c a b g h : ℕ} → AwayFrom a (tableAt w at (westFrom + c)) (tableAt w at (eastFrom + c)) g
+    → AwayFrom b (tableAt w at (southFrom + c)) (tableAt w at (northFrom + c)) h → OffBox w at c a b (distance g h)
 off-box p q =
     record {
       small = distance-bound (p .small) (q .small);
       least = λ u v s k. distance-grows (p .least u (k .west) (k .east)) (q .least v (k .south) (k .north));
     }
 
-pub bound-is : {w : List ℕ} {at c : ℕ} (a : Label) {d radius : ℕ} → radius ≡ radiusAt w at c → radius ≤ 16383 → a .radius ≤ 16383
+pub bound-is : {w : List ℕ} {at c : ℕ} (a : Label) {d radius : ℕ} → radius ≡ widestAt w at c → radius ≤ 16383 → a .radius ≤ 16383
     → OffBox w at c (shifted (a .x)) (shifted (a .y)) d
     → Bound w at c a (record { num = d; den = (radius + a .radius) * (radius + a .radius) })
 unfolding touchingOf
@@ -117,7 +117,7 @@ bound-is {w} {at} {c} a {d} {radius} e hs hr o =
       least = λ b k.
           let l : b .radius + a .radius ≤ radius + a .radius = omega (arith, k .radius) in
           let far = o .least (shifted (b .x)) (shifted (b .y)) (b .radius) k in
-          let grows = distance-grows (gap-shifted (b .x) (a .x)) (gap-shifted (b .y) (a .y)) in
+          let grows = distance-grows (difference-shifted (b .x) (a .x)) (difference-shifted (b .y) (a .y)) in
           let n : d ≤ distance (apart (b .x) (a .x)) (apart (b .y) (a .y)) = omega (arith, far, grows) in
           record { cross = mul-le-mul n (mul-le-mul l l) };
     }

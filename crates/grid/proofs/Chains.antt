@@ -13,35 +13,35 @@ use Rattle.lists.specs.StoreLaws.{kept-wide, kept-then}
 use Rattle.numbers.specs.Laws.{number-kept}
 use Rattle.marks.specs.declared.Label.{Label}
 use Rattle.marks.specs.Marks.{shifted}
-use Rattle.grid.specs.Table.{cellCount, countsFrom, westFrom, eastFrom, southFrom, northFrom, radiiFrom, linksFrom, tableSize, entry, headAt, countAt, linkAt, EntriesLow, Chained, assign, Boxed}
+use Rattle.grid.specs.Table.{cellCount, countsFrom, westFrom, eastFrom, southFrom, northFrom, radiiFrom, linksFrom, tableSize, tableAt, headAt, rowCountAt, linkAt, EntriesLow, Chained, assign, Boxed}
 use Rattle.grid.specs.Steps.{Put, Grown, Widened, Linked, Added}
-use Rattle.grid.proofs.Entries.{entry-other}
+use Rattle.grid.proofs.Entries.{table-other}
 use Rattle.grid.proofs.Boxes.{boxed-grown}
 
 -- ---- the link
 
 module _ {w t u v : List ℕ} {at p c h k : ℕ} (hc : c < cellCount) (room : at + tableSize + 2 * p + 2 ≤ length w) (rd : EntriesLow w at p)
-    (eh : h ≡ headAt w at c) (ek : k ≡ countAt w at c) (k1 : Put w t at (linksFrom + p) h) (k2 : Put t u at c (p + 1))
+    (eh : h ≡ headAt w at c) (ek : k ≡ rowCountAt w at c) (k1 : Put w t at (linksFrom + p) h) (k2 : Put t u at c (p + 1))
     (k3 : Put u v at (countsFrom + c) (k + 1)) where
-  other : (i : ℕ) → i ≢ linksFrom + p → i ≢ c → i ≢ countsFrom + c → entry v at i ≡ entry w at i
-  other i d e f = entry-other k3 i f ∙ entry-other k2 i e ∙ entry-other k1 i d
+  other : (i : ℕ) → i ≢ linksFrom + p → i ≢ c → i ≢ countsFrom + c → tableAt v at i ≡ tableAt w at i
+  other i d e f = table-other k3 i f ∙ table-other k2 i e ∙ table-other k1 i d
 
   link-same : (j : ℕ) → j < p → linkAt v at j ≡ linkAt w at j
   link-same j h = other (linksFrom + j) (λ e. omega arith) (λ e. omega arith) (λ e. omega arith)
 
   link-here : linkAt v at p ≡ headAt w at c
-  link-here = entry-other k3 (linksFrom + p) (λ e. omega arith) ∙ entry-other k2 (linksFrom + p) (λ e. omega arith) ∙ k1 .here ∙ eh
+  link-here = table-other k3 (linksFrom + p) (λ e. omega arith) ∙ table-other k2 (linksFrom + p) (λ e. omega arith) ∙ k1 .here ∙ eh
 
   head-same : (d : ℕ) → d < cellCount → d ≢ c → headAt v at d ≡ headAt w at d
   head-same d h n = other d (λ e. omega arith) n (λ e. omega arith)
 
   head-here : headAt v at c ≡ p + 1
-  head-here = entry-other k3 c (λ e. omega arith) ∙ k2 .here
+  head-here = table-other k3 c (λ e. omega arith) ∙ k2 .here
 
-  count-same : (d : ℕ) → d < cellCount → d ≢ c → countAt v at d ≡ countAt w at d
+  count-same : (d : ℕ) → d < cellCount → d ≢ c → rowCountAt v at d ≡ rowCountAt w at d
   count-same d h n = other (countsFrom + d) (λ e. omega arith) (λ e. omega arith) (λ e. n (omega arith))
 
-  boxes : (i : ℕ) → westFrom ≤ i → i < linksFrom → entry v at i ≡ entry w at i
+  boxes : (i : ℕ) → westFrom ≤ i → i < linksFrom → tableAt v at i ≡ tableAt w at i
   boxes i h l = other i (λ e. omega arith) (λ e. omega arith) (λ e. omega arith)
 
   kept : Kept w v at (at + tableSize + 2 * p + 2)
@@ -121,7 +121,7 @@ module _ {w t u v : List ℕ} {at p c h k : ℕ} (hc : c < cellCount) (room : at
 -- ---- the row
 
 module _ {w v : List ℕ} {at : ℕ} (g : Grown w v at) (p : ℕ) where
-  low-same : (i : ℕ) → i < westFrom → entry v at i ≡ entry w at i
+  low-same : (i : ℕ) → i < westFrom → tableAt v at i ≡ tableAt w at i
   low-same i h = number-kept (g .kept) 2 (at + 2 * i) (omega arith)
 
   link-still : (j : ℕ) → linkAt v at j ≡ linkAt w at j

@@ -12,7 +12,7 @@ use Rattle.lists.specs.Stores.{Clear}
 use Rattle.lists.specs.StoreLaws.{kept-none, kept-wide, kept-then}
 use Rattle.numbers.specs.Little.{leBytes}
 use Rattle.numbers.specs.Laws.{read-back-sets, kept-write, number-kept}
-use Rattle.grid.specs.Table.{linksFrom, tableSize, entry}
+use Rattle.grid.specs.Table.{linksFrom, tableSize, tableAt}
 use Rattle.grid.specs.Steps.{Put, Cleared}
 
 pub put-is : {w v : List ℕ} (at i x : ℕ) → at + 2 * i + 2 ≤ length w → x < 65536 → v ≡ sets w (at + 2 * i) (leBytes 2 x) → Put w v at i x
@@ -22,8 +22,8 @@ put-is {w} at i x room h e =
 entries-apart : (at i j : ℕ) → j ≢ i → Clear (at + 2 * j) 2 (at + 2 * i) (at + 2 * i + 2)
 entries-apart at i j d = elim (decLt j i) [ yes h ↦ omega arith | no h ↦ omega arith ]
 
-pub entry-other : {w v : List ℕ} {at i x : ℕ} → Put w v at i x → (j : ℕ) → j ≢ i → entry v at j ≡ entry w at j
-entry-other {w} {v} {at} {i} k j d = number-kept (k .kept) 2 (at + 2 * j) (entries-apart at i j d)
+pub table-other : {w v : List ℕ} {at i x : ℕ} → Put w v at i x → (j : ℕ) → j ≢ i → tableAt v at j ≡ tableAt w at j
+table-other {w} {v} {at} {i} k j d = number-kept (k .kept) 2 (at + 2 * j) (entries-apart at i j d)
 
 -- ---- the entries of the cells, one after the other
 
@@ -34,5 +34,5 @@ pub cleared-more : {w v u : List ℕ} {at i : ℕ} → i < linksFrom → Cleared
 cleared-more {w} {v} {u} {at} {i} h c k =
     record {
       kept = kept-then (c .kept) (kept-wide (k .kept) (omega arith) (omega arith));
-      zeros = below-more _ i (λ j l. entry-other k j (λ e. omega arith) ∙ c .zeros j l) (k .here);
+      zeros = below-more _ i (λ j l. table-other k j (λ e. omega arith) ∙ c .zeros j l) (k .here);
     }

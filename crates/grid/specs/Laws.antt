@@ -6,7 +6,7 @@ use native.Mathlib.Omega.{arith}
 use lib.ListN.{length}
 use Rattle.lists.specs.Stores.{Kept}
 use Rattle.numbers.specs.Laws.{number-kept}
-use Rattle.grid.specs.Table.{countsFrom, westFrom, eastFrom, southFrom, northFrom, radiiFrom, linksFrom, tableSize, entry, EntriesLow, Chained, Boxed}
+use Rattle.grid.specs.Table.{countsFrom, westFrom, eastFrom, southFrom, northFrom, radiiFrom, linksFrom, tableSize, tableAt, EntriesLow, Chained, Boxed}
 use Rattle.grid.specs.Steps.{Cleared}
 
 -- ---- the empty table
@@ -35,35 +35,35 @@ module _ {w v : List ℕ} {at : ℕ} (k : Cleared w v at linksFrom) where
 -- ---- a write before the table
 
 module _ {w v : List ℕ} {a b : ℕ} (k : Kept w v a b) (at : ℕ) (o : b ≤ at) where
-  pub entry-kept : (i : ℕ) → entry v at i ≡ entry w at i
-  entry-kept i = number-kept k 2 (at + 2 * i) (omega arith)
+  pub table-kept : (i : ℕ) → tableAt v at i ≡ tableAt w at i
+  table-kept i = number-kept k 2 (at + 2 * i) (omega arith)
 
   pub ready-kept : {p : ℕ} → EntriesLow w at p → EntriesLow v at p
   ready-kept {p} r =
       record {
         room = omega (arith, k .long, r .room);
-        head-low = λ c h. rw (entry-kept c) (r .head-low c h);
-        link-low = λ j h. rw (entry-kept (linksFrom + j)) (r .link-low j h);
-        count-low = λ c h. rw (entry-kept (countsFrom + c)) (r .count-low c h);
-        radius-low = λ c h. rw (entry-kept (radiiFrom + c)) (r .radius-low c h);
+        head-low = λ c h. rw (table-kept c) (r .head-low c h);
+        link-low = λ j h. rw (table-kept (linksFrom + j)) (r .link-low j h);
+        count-low = λ c h. rw (table-kept (countsFrom + c)) (r .count-low c h);
+        radius-low = λ c h. rw (table-kept (radiiFrom + c)) (r .radius-low c h);
       }
 
   pub chained-kept : {p : ℕ} {cell : ℕ → ℕ} → Chained w at p cell → Chained v at p cell
   chained-kept {p} {cell} r =
       record {
         cell-low = r .cell-low;
-        head-in = λ c h i e. r .head-in c h i (sym (entry-kept c) ∙ e);
-        head-all = λ q h. rw (entry-kept (cell q)) (r .head-all q h);
-        link-in = λ j h i e. r .link-in j h i (sym (entry-kept (linksFrom + j)) ∙ e);
-        link-all = λ j h q l e. rw (entry-kept (linksFrom + j)) (r .link-all j h q l e);
+        head-in = λ c h i e. r .head-in c h i (sym (table-kept c) ∙ e);
+        head-all = λ q h. rw (table-kept (cell q)) (r .head-all q h);
+        link-in = λ j h i e. r .link-in j h i (sym (table-kept (linksFrom + j)) ∙ e);
+        link-all = λ j h q l e. rw (table-kept (linksFrom + j)) (r .link-all j h q l e);
       }
 
   pub boxed-kept : {c x y r : ℕ} → Boxed w at c x y r → Boxed v at c x y r
   boxed-kept {c} b =
       record {
-        west = rw (entry-kept (westFrom + c)) (b .west);
-        east = rw (entry-kept (eastFrom + c)) (b .east);
-        south = rw (entry-kept (southFrom + c)) (b .south);
-        north = rw (entry-kept (northFrom + c)) (b .north);
-        radius = rw (entry-kept (radiiFrom + c)) (b .radius);
+        west = rw (table-kept (westFrom + c)) (b .west);
+        east = rw (table-kept (eastFrom + c)) (b .east);
+        south = rw (table-kept (southFrom + c)) (b .south);
+        north = rw (table-kept (northFrom + c)) (b .north);
+        radius = rw (table-kept (radiiFrom + c)) (b .radius);
       }

@@ -42,20 +42,20 @@ linksFrom = 560
 abbrev pub tableSize : ℕ
 tableSize = 1120
 
-abbrev pub entry : List ℕ → ℕ → ℕ → ℕ
-entry w at i = leAt 2 w (at + 2 * i)
+abbrev pub tableAt : List ℕ → ℕ → ℕ → ℕ
+tableAt w at i = leAt 2 w (at + 2 * i)
 
 abbrev pub headAt : List ℕ → ℕ → ℕ → ℕ
-headAt w at c = entry w at c
+headAt w at c = tableAt w at c
 
-abbrev pub countAt : List ℕ → ℕ → ℕ → ℕ
-countAt w at c = entry w at (countsFrom + c)
+abbrev pub rowCountAt : List ℕ → ℕ → ℕ → ℕ
+rowCountAt w at c = tableAt w at (countsFrom + c)
 
-abbrev pub radiusAt : List ℕ → ℕ → ℕ → ℕ
-radiusAt w at c = entry w at (radiiFrom + c)
+abbrev pub widestAt : List ℕ → ℕ → ℕ → ℕ
+widestAt w at c = tableAt w at (radiiFrom + c)
 
 abbrev pub linkAt : List ℕ → ℕ → ℕ → ℕ
-linkAt w at q = entry w at (linksFrom + q)
+linkAt w at q = tableAt w at (linksFrom + q)
 
 -- ---- the chains
 
@@ -64,8 +64,8 @@ pub record EntriesLow (w : List ℕ) (at p : ℕ) : Type 0 where
   pub room : at + tableSize + 2 * p ≤ length w
   pub head-low : (c : ℕ) → c < cellCount → headAt w at c ≤ p
   pub link-low : (j : ℕ) → j < p → linkAt w at j ≤ j
-  pub count-low : (c : ℕ) → c < cellCount → countAt w at c ≤ p
-  pub radius-low : (c : ℕ) → c < cellCount → radiusAt w at c ≤ 16383
+  pub count-low : (c : ℕ) → c < cellCount → rowCountAt w at c ≤ p
+  pub radius-low : (c : ℕ) → c < cellCount → widestAt w at c ≤ 16383
 
 -- row q is in cell `cell q`: a cell's head is its last row, and a row's link is the row before it in its cell
 pub record Chained (w : List ℕ) (at p : ℕ) (cell : ℕ → ℕ) : Type 0 where
@@ -84,11 +84,11 @@ assign cell p c q = cond (eqb q p) c (cell q)
 -- The shifted place (u, v) lies in the box of cell c, and r is at most its largest radius. The lower sides are kept as their distance from
 -- 65,535, so that every side of an empty box is 0, and each grows.
 pub record Boxed (w : List ℕ) (at c u v r : ℕ) : Type 0 where
-  pub west : 65535 ≤ entry w at (westFrom + c) + u
-  pub east : u ≤ entry w at (eastFrom + c)
-  pub south : 65535 ≤ entry w at (southFrom + c) + v
-  pub north : v ≤ entry w at (northFrom + c)
-  pub radius : r ≤ radiusAt w at c
+  pub west : 65535 ≤ tableAt w at (westFrom + c) + u
+  pub east : u ≤ tableAt w at (eastFrom + c)
+  pub south : 65535 ≤ tableAt w at (southFrom + c) + v
+  pub north : v ≤ tableAt w at (northFrom + c)
+  pub radius : r ≤ widestAt w at c
 
 -- the same of a label
 abbrev pub Inside : List ℕ → ℕ → ℕ → Label → Type 0

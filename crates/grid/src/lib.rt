@@ -7,7 +7,7 @@ ghost use mathlib.Core.Path.{_≡_};
 ghost use Prim.Native.Nat.{_+_, _*_, _<_, _≤_, max};
 ghost use lib.IntN.{natAbs};
 ghost use lib.ListN.{length};
-ghost use Rattle.grid.specs.Table.{cellCount, linksFrom, tableSize, entry, headAt, countAt, radiusAt, linkAt, EntriesLow};
+ghost use Rattle.grid.specs.Table.{cellCount, linksFrom, tableSize, tableAt, headAt, rowCountAt, widestAt, linkAt, EntriesLow};
 ghost use Rattle.grid.specs.Plan.{Divides};
 ghost use Rattle.grid.specs.Steps.{Put, Cleared, Widened, Linked, Added, AwayFrom, OffBox, Bound};
 
@@ -33,7 +33,7 @@ const LINKS: usize = 560;
 
 fn get(w: &[u8], at: usize, i: usize) -> u16
     requires { ⌜ at + 2 * i + 2 ≤ length (now w) ⌝ }
-    ensures { λ r. ⌜ r ≡ entry (now (w .entry)) at i ⌝ }
+    ensures { λ r. ⌜ r ≡ tableAt (now (w .entry)) at i ⌝ }
 {
     numbers::read_u16(w, at + 2 * i)
 }
@@ -78,7 +78,7 @@ pub fn previous_row(w: &[u8], at: usize, q: usize) -> usize
 // How many rows cell c has.
 pub fn row_count(w: &[u8], at: usize, c: usize) -> usize
     requires { ⌜ (c < cellCount) × (at + tableSize ≤ length (now w)) ⌝ }
-    ensures { λ r. ⌜ r ≡ countAt (now (w .entry)) at c ⌝ }
+    ensures { λ r. ⌜ r ≡ rowCountAt (now (w .entry)) at c ⌝ }
 {
     get(w, at, COUNTS + c) as usize
 }
@@ -109,7 +109,7 @@ fn larger(a: u16, b: u16) -> u16
 // The entry i becomes at least v.
 fn raise(w: &mut [u8], at: usize, i: usize, v: u16)
     requires { ⌜ at + 2 * i + 2 ≤ length (now w) ⌝ }
-    ensures { λ _. ⌜ Put (now (w .entry)) (now (w .exit)) at i (max (entry (now (w .entry)) at i) v) ⌝ }
+    ensures { λ _. ⌜ Put (now (w .entry)) (now (w .exit)) at i (max (tableAt (now (w .entry)) at i) v) ⌝ }
 {
     let old = get(w, at, i);
     put(w, at, i, larger(old, v));
@@ -170,7 +170,7 @@ fn off_box(w: &[u8], at: usize, c: usize, x: u16, y: u16) -> u64
 
 // The touching value of a label and one at the nearest place of the box of cell c, with its largest radius.
 pub fn bound(w: &[u8], at: usize, c: usize, label: Label) -> Fraction
-    requires { ⌜ (c < cellCount) × (at + tableSize ≤ length (now w)) × (label .radius ≤ 16383) × (radiusAt (now w) at c ≤ 16383) ⌝ }
+    requires { ⌜ (c < cellCount) × (at + tableSize ≤ length (now w)) × (label .radius ≤ 16383) × (widestAt (now w) at c ≤ 16383) ⌝ }
     ensures { λ f. ⌜ Bound (now (w .entry)) at c label f ⌝ }
 {
     let num = off_box(w, at, c, marks::shifted(label.x), marks::shifted(label.y));

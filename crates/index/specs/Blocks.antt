@@ -7,12 +7,12 @@ use mathlib.Core.List.{List, _∷_, _++_}
 use Rattle.lists.specs.Counting.{count, non}
 use Rattle.lists.specs.Blocks.{block}
 use Rattle.numbers.specs.Little.{leAt}
-use Rattle.index.specs.Index.{entrySize}
+use Rattle.index.specs.Index.{indexEntrySize}
 use Rattle.index.specs.Valid.{isTree, Split}
 
 -- number i of the index `t`
 abbrev pub entryAt : List ℕ → ℕ → ℕ
-entryAt t i = leAt entrySize t (entrySize * i)
+entryAt t i = leAt indexEntrySize t (indexEntrySize * i)
 
 -- all but the root
 abbrev pub othersOf : (ℕ → ℕ) → ℕ → ℕ → List ℕ
@@ -25,7 +25,7 @@ leftOf e lo size = block e (lo + 1) (size / 2)
 abbrev pub rightOf : (ℕ → ℕ) → ℕ → ℕ → List ℕ
 rightOf e lo size = block e (lo + 1 + size / 2) (size - 1 - size / 2)
 
--- A block that is a tree: its root beats all others, and its halves are apart on the axis and trees on the other axis.
+-- A block that is a tree: its root beats all others, and its halves are separated on the axis and trees on the other axis.
 pub record Halves (beats : ℕ → ℕ → Bool) (key : Bool → ℕ → ℕ) (axis : Bool) (e : ℕ → ℕ) (lo size : ℕ) : Type 0 where
   pub whole : block e lo size ≡ e lo ∷ (leftOf e lo size ++ rightOf e lo size)
   pub beaten : count (non (beats (e lo))) (leftOf e lo size ++ rightOf e lo size) ≡ 0

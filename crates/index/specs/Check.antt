@@ -7,7 +7,7 @@ use lib.ListN.{length}
 use lib.Dec.{leb}
 use Rattle.marks.specs.Marks.{markSize}
 use Rattle.elimination.specs.Records.{recordSize}
-use Rattle.index.specs.Index.{beats, axisKey, entrySize}
+use Rattle.index.specs.Index.{beats, axisKey, indexEntrySize}
 use Rattle.index.specs.Valid.{top, low, isTree}
 use Rattle.index.specs.Blocks.{entryAt}
 use Rattle.index.specs.declared.Span.{Span}
@@ -53,21 +53,21 @@ joinFindings axis heads kx ky a b =
 
 -- each number of the index is that of a mark in part 1; of one in part 2
 abbrev pub AllMarked : List ℕ → List ℕ → Type 0
-AllMarked s t = (i : ℕ) → entrySize * i + entrySize ≤ length t → markSize * entryAt t i + markSize ≤ length s
+AllMarked s t = (i : ℕ) → indexEntrySize * i + indexEntrySize ≤ length t → markSize * entryAt t i + markSize ≤ length s
 
 abbrev pub AllScheduled : List ℕ → List ℕ → Type 0
-AllScheduled p t = (i : ℕ) → entrySize * i + entrySize ≤ length t → recordSize * entryAt t i + recordSize ≤ length p
+AllScheduled p t = (i : ℕ) → indexEntrySize * i + indexEntrySize ≤ length t → recordSize * entryAt t i + recordSize ≤ length p
 
 -- the block is in the index, whose numbers are those of marks
 pub record BlockCheckable (s p t : List ℕ) (lo size : ℕ) : Type 0 where
-  pub fits : entrySize * (lo + size) ≤ length t
+  pub fits : indexEntrySize * (lo + size) ≤ length t
   pub marked : AllMarked s t
   pub scheduled : AllScheduled p t
 
 -- the same where a root is compared with the head of a block
 pub record HeadCheckable (p t : List ℕ) (root lo size : ℕ) : Type 0 where
   pub root-scheduled : recordSize * root + recordSize ≤ length p
-  pub fits : entrySize * (lo + size) ≤ length t
+  pub fits : indexEntrySize * (lo + size) ≤ length t
   pub scheduled : AllScheduled p t
 
 -- the parts of a sheet of n marks
@@ -75,7 +75,7 @@ pub record Checkable (s p t : List ℕ) (n : ℕ) : Type 0 where
   pub few : n ≤ 4096
   pub marks-long : markSize * n ≤ length s
   pub schedule-long : recordSize * n ≤ length p
-  pub index-long : length t ≡ entrySize * n
+  pub index-long : length t ≡ indexEntrySize * n
 
 -- every number of the index is below n
 abbrev pub AllBelow : List ℕ → ℕ → Type 0

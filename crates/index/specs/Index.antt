@@ -27,12 +27,12 @@ unfoldable pub indexOf : List ℕ → List ℕ → ℕ → List ℕ
 indexOf s p n = treeOf (beats p) (axisKey s) n true (upTo n)
 
 -- "2 bytes a mark"
-abbrev pub entrySize : ℕ
-entrySize = 2
+abbrev pub indexEntrySize : ℕ
+indexEntrySize = 2
 
 unfoldable pub indexBytes : List ℕ → List ℕ
 indexBytes [] = []
-indexBytes (m ∷ l) = leBytes entrySize m ++ indexBytes l
+indexBytes (m ∷ l) = leBytes indexEntrySize m ++ indexBytes l
 
 -- the same list
 unfoldable pub sameBytes : List ℕ → List ℕ → Bool

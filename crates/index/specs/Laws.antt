@@ -23,7 +23,7 @@ use Rattle.index.specs.Blocks.{entryAt, othersOf, leftOf, rightOf, Halve
 use Rattle.index.specs.Check.{AllBelow}
 use Rattle.index.specs.Lemmas.Beats as Beats
 use Rattle.index.specs.Lemmas.Blocks as Blocks
-use Rattle.index.specs.Lemmas.Apart as Apart
+use Rattle.index.specs.Lemmas.Separated as Separated
 use Rattle.index.specs.Lemmas.TreeOf as TreeOf
 use Rattle.index.specs.Lemmas.Entries as Entries
 use Rattle.index.specs.Lemmas.Question9 as Question9
@@ -120,9 +120,9 @@ module _ (e : ℕ → ℕ) (lo size : ℕ) (some : size ≢ 0) where
   pub block-others : othersOf e lo size ≡ leftOf e lo size ++ rightOf e lo size
   block-others = Blocks.block-others e lo size some
 
--- The keys of the two sides of any cut of a rising list are apart, where no two of them are equal.
+-- The keys of the two sides of any cut of a rising list are separated, where no two of them are equal.
 pub rising-split : (k : ℕ → ℕ) (h : ℕ) (l : List ℕ) → Rising k l → ((v : ℕ) → count (keyed k v) l ≤ 1) → Split k (take h l) (drop h l)
-rising-split = Apart.rising-split
+rising-split = Separated.rising-split
 
 -- Trees over the halves of a list whose members r beats are, joined under r, a tree.
 module _ (beats : ℕ → ℕ → Bool) (key : Bool → ℕ → ℕ) (ord : Order beats) where

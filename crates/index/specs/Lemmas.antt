@@ -1,5 +1,5 @@
 -- The lemmas behind Laws, in the order in which they build on one another.
-pub mod Apart
+pub mod Separated
 pub mod Trees
 pub mod Unique
 pub mod TreeOf

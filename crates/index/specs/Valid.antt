@@ -28,9 +28,9 @@ low k c [] = c
 low k c (x ∷ l) = min (k x) (low k c l)
 
 -- every key of l is below every key of m
-abbrev pub apart : (ℕ → ℕ) → List ℕ → List ℕ → Bool
-apart k l [] = true
-apart k l (y ∷ m) = leb (top k l) (low k (k y) m)
+abbrev pub separated : (ℕ → ℕ) → List ℕ → List ℕ → Bool
+separated k l [] = true
+separated k l (y ∷ m) = leb (top k l) (low k (k y) m)
 
 -- r beats the first of l, where there is one
 abbrev pub heads : (ℕ → ℕ → Bool) → ℕ → List ℕ → Bool
@@ -44,14 +44,14 @@ module _ (beats : ℕ → ℕ → Bool) (key : Bool → ℕ → ℕ) where
   valid zero axis (r ∷ e) = false
   valid (suc f) axis [] = true
   valid (suc f) axis (r ∷ e) =
-      (heads beats r (first e) && heads beats r (second e)) && apart (key axis) (first e) (second e)
+      (heads beats r (first e) && heads beats r (second e)) && separated (key axis) (first e) (second e)
       && (valid f (not axis) (first e) && valid f (not axis) (second e))
 
   -- the same with a bound that is enough
   unfoldable pub isTree : Bool → List ℕ → Bool
   isTree axis l = valid (length l) axis l
 
--- what `apart` says: there is a number between the keys of l and those of m
+-- what `separated` says: there is a number between the keys of l and those of m
 pub record Split (k : ℕ → ℕ) (l m : List ℕ) : Type 0 where
   pub between : ℕ
   pub left : count (non (under k between)) l ≡ 0

@@ -7,7 +7,7 @@ ghost use lib.ListN.{length};
 ghost use Rattle.lists.specs.Blocks.{block};
 ghost use Rattle.marks.specs.Marks.{markSize};
 ghost use Rattle.elimination.specs.Records.{recordSize};
-ghost use Rattle.index.specs.Index.{beats, coordinate, axisKey, entrySize, isIndex};
+ghost use Rattle.index.specs.Index.{beats, coordinate, axisKey, indexEntrySize, isIndex};
 ghost use Rattle.index.specs.Valid.{heads};
 ghost use Rattle.index.specs.Blocks.{entryAt};
 ghost use Rattle.index.specs.Check.{keyBound, findingOf, joinSpans, side, joinFindings, HeadCheckable, BlockCheckable, Checkable, AllBelow};
@@ -54,14 +54,14 @@ pub fn axis_key(marks: &[u8], axis: bool, m: usize) -> u64
 // ---- the check of a block
 
 // Bytes of a number of the index.
-pub const ENTRY_SIZE: usize = 2;
+pub const INDEX_ENTRY_SIZE: usize = 2;
 
 // Number i of the index.
 pub fn entry(index: &[u8], i: usize) -> usize
-    requires { ⌜ entrySize * i + entrySize ≤ length (now index) ⌝ }
+    requires { ⌜ indexEntrySize * i + indexEntrySize ≤ length (now index) ⌝ }
     ensures { λ r. ⌜ (r ≡ entryAt (now (index .entry)) i) × (r < 65536) ⌝ }
 {
-    numbers::read_u16(index, ENTRY_SIZE * i) as usize
+    numbers::read_u16(index, INDEX_ENTRY_SIZE * i) as usize
 }
 
 // No key reaches this: a coordinate and a number have 16 bits each.
@@ -178,7 +178,7 @@ fn check_block(
 
 // Is every number of the index below n?
 fn all_below(index: &[u8], n: usize) -> bool
-    requires { ⌜ entrySize * n ≤ length (now index) ⌝ }
+    requires { ⌜ indexEntrySize * n ≤ length (now index) ⌝ }
     ensures { λ r. ⌜ (r ≡ true) ↔ AllBelow (now (index .entry)) n ⌝ }
 {
     let mut i = 0;

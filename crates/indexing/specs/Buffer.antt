@@ -6,7 +6,7 @@ use lib.ListN.{length, take, drop}
 use Rattle.numbers.specs.Little.{leAt}
 use Rattle.marks.specs.Marks.{markSize}
 use Rattle.elimination.specs.Records.{recordSize}
-use Rattle.index.specs.Index.{entrySize, indexOf, indexBytes}
+use Rattle.index.specs.Index.{indexEntrySize, indexOf, indexBytes}
 
 -- "11 bytes a mark", 14 bytes a record and 2 a number: where parts 2 and 3 begin, and where part 3 ends
 abbrev pub scheduleFrom : ℕ → ℕ
@@ -28,7 +28,7 @@ scheduleIn n a = take (recordSize * n) (drop (scheduleFrom n) a)
 
 -- number i of part 3
 abbrev pub memberAt : ℕ → List ℕ → ℕ → ℕ
-memberAt n a i = leAt entrySize a (indexFrom n + entrySize * i)
+memberAt n a i = leAt indexEntrySize a (indexFrom n + indexEntrySize * i)
 
 -- a with part 3 as parts 1 and 2 give it; what stands before part 3 and what follows it stay
 abbrev pub withIndex : List ℕ → ℕ → List ℕ

@@ -236,9 +236,9 @@ table =
     ∷ []
 
 -- No row is lost.
-pub rows : length table ≡ 40
+pub table-length : length table ≡ 40
 unfolding table
-rows = refl
+table-length = refl
 
 -- Every answer is the expected one.
 pub examples : map (λ (r : Row). answers (r .asked)) table ≡ map (λ (r : Row). r .expected) table

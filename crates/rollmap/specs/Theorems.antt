@@ -25,7 +25,7 @@ use Rattle.contents.specs.Questions.{isCount}
 use Rattle.bodies.specs.Questions.{reelOf}
 use Rattle.bodies.specs.Laws.{fitting-writable}
 use Rattle.sheet.specs.Questions.{sheetCount, checkQuestions, check}
-use Rattle.sheet.specs.Laws.{check-numbered, accepted-iff, parts-iff, join-accepted, join-split, parts-again}
+use Rattle.sheet.specs.Laws.{check-numbered, accepted-iff, parts-iff, join-accepted, sheet-again, parts-again}
 use Rattle.bitmap.specs.Map.{mapSize, mapBytes, countShown, shownFrom, isSet}
 use Rattle.bitmap.specs.Facts.{Shows}
 use Rattle.bitmap.specs.Laws.{map-shows, map-length, shown-set, shown-same}
@@ -159,7 +159,7 @@ module _ (k : ℕ) (body1 body2 body3 : List ℕ) (room : ℕ) where
       let w = accepted-iff s .0 ok .laid .whole in
       let taken : isCount k ≡ true = rw count at (count-iff (countAt s) .1 (w .some, w .few)) in
       let yes : answer (assembleQuestions k handed room) ≡ 0 = asked-iff 1 (isCount k) _ (omega arith) .1 (taken, rw are at (parts-again s room bytes ok fits)) in
-      let same : join handed ≡ s = rw are at (join-split s bytes ok) in
+      let same : join handed ≡ s = rw are at (sheet-again s bytes ok) in
       outcome-yes (assembleQuestions k handed room) (length (join handed)) (join handed) yes ∙ rw same
 
 pub assemble-joins : (k : ℕ) (body1 body2 body3 before : List ℕ) {r : Answer} {out : List ℕ}

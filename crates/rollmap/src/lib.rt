@@ -2,7 +2,7 @@
 use contents::Extent;
 use contents::Layout;
 use elimination::RECORD_SIZE;
-use index::ENTRY_SIZE;
+use index::INDEX_ENTRY_SIZE;
 use logs::LOG_RECORD_SIZE;
 use marks::MARK_SIZE;
 use sheet::Assembled;
@@ -124,7 +124,7 @@ fn put_scheduled(marks: &[u8], work: &mut [u8], out: &mut [u8], n: usize)
     ensures { λ _. ⌜ now (out .exit) ≡ over (join (newParts (now (marks .entry)))) (now (out .entry)) ⌝ }
 {
     let codes: [u16; 3] = [1, 2, 3];
-    let sizes = [marks.len(), RECORD_SIZE * n, ENTRY_SIZE * n];
+    let sizes = [marks.len(), RECORD_SIZE * n, INDEX_ENTRY_SIZE * n];
     let start = contents::put_contents(out, &codes, &sizes);
     contents::put(out, start, marks);
     put_results(&mut out[start..], work, n);

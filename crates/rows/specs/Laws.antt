@@ -94,9 +94,9 @@ pub record Pieces (s a b c : List ℕ) (p q r at : ℕ) : Type 0 where
   pub second : take q (drop (at + p) s) ≡ b
   pub third : take r (drop (at + (p + q)) s) ≡ c
 
-pub split : (s a b c : List ℕ) (p q r at : ℕ) → length a ≡ p → length b ≡ q → at + (p + (q + r)) ≤ length s
+pub pieces-of : (s a b c : List ℕ) (p q r at : ℕ) → length a ≡ p → length b ≡ q → at + (p + (q + r)) ≤ length s
     → take (p + (q + r)) (drop at s) ≡ a ++ (b ++ c) → Pieces s a b c p q r at
-split s a b c p q r at la lb h e =
+pieces-of s a b c p q r at la lb h e =
     let t = tail-of s a (b ++ c) p (q + r) at la e h in
     let far : at + (p + q) ≡ at + p + q = omega arith in
     record {

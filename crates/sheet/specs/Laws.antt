@@ -72,8 +72,8 @@ located = Opened.located
 -- ---- joining and splitting; that joining and then splitting gives the parts back is a law of the contents
 
 -- Split then join gives an accepted sheet back, byte for byte.
-pub join-split : (s : List ℕ) → Bytes s → check s ≡ 0 → join (split s) ≡ s
-join-split s b e = Contents.join-split s b (accepted-iff s .0 e .laid)
+pub sheet-again : (s : List ℕ) → Bytes s → check s ≡ 0 → join (split s) ≡ s
+sheet-again s b e = Contents.join-split s b (accepted-iff s .0 e .laid)
 
 module _ (parts : List Part) (right : codesRight (codesOf parts) ≡ true) where
   -- The contents of a joined sheet pass questions 1 to 3, so checking it asks what is asked of the bodies.
@@ -86,6 +86,6 @@ module _ (parts : List Part) (right : codesRight (codesOf parts) ≡ true) where
   pub join-accepted : Fitting parts → check (join parts) ≡ 0
   join-accepted fits = check-join (fitting-writable parts fits right) ∙ fitting-iff parts .1 fits
 
--- An accepted sheet's parts are put together again where there is room for the sheet; by `join-split` that gives the same sheet.
+-- An accepted sheet's parts are put together again where there is room for the sheet; by `sheet-again` that gives the same sheet.
 pub parts-again : (s : List ℕ) (room : ℕ) → Bytes s → check s ≡ 0 → length s ≤ room → answer (partsQuestions (split s) room) ≡ 0
-parts-again s room b e h = parts-iff (split s) room .1 (accepted-iff s .0 e .fitting, rw (join-split s b e) h)
+parts-again s room b e h = parts-iff (split s) room .1 (accepted-iff s .0 e .fitting, rw (sheet-again s b e) h)

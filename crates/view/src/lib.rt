@@ -9,7 +9,7 @@ ghost use Rattle.lists.specs.Blocks.{block};
 ghost use Rattle.zoom.specs.Zoom.{largestScale};
 ghost use Rattle.marks.specs.Marks.{markSize};
 ghost use Rattle.elimination.specs.Records.{recordSize};
-ghost use Rattle.index.specs.Index.{entrySize};
+ghost use Rattle.index.specs.Index.{indexEntrySize};
 ghost use Rattle.index.specs.Blocks.{entryAt};
 ghost use Rattle.index.specs.Check.{AllMarked};
 ghost use Rattle.view.specs.Shown.{above, gap, reaches, shown};
@@ -178,7 +178,7 @@ fn size_to_search(
     other: usize,
     size: usize,
 ) -> usize
-    requires { ⌜ AllMarked (now marks) (now index) × (entrySize * (head + other) ≤ length (now index)) ⌝ }
+    requires { ⌜ AllMarked (now marks) (now index) × (indexEntrySize * (head + other) ≤ length (now index)) ⌝ }
     ensures { λ r. ⌜ r ≡ sizeToSearch (now (marks .entry)) (now (index .entry)) bounds axis left head other size ⌝ }
 {
     if other == 0 {

@@ -13,7 +13,7 @@ use Rattle.marks.specs.Marks.{radiusAt, kindAt, usedAt, oldRadius, isRadius, us
 use Rattle.marks.specs.Good.{GoodMark, GoodMarks}
 use Rattle.marks.specs.Laws.{used-bound, old-positive, old-bound}
 use Rattle.rows.specs.Rows.{rows}
-use Rattle.rows.specs.Laws.{rows-length, rows-at, rows-whole, field-le, le-found, cut-length, Pieces, split, pieces, pieces-sets}
+use Rattle.rows.specs.Laws.{rows-length, rows-at, rows-whole, field-le, le-found, cut-length, Pieces, pieces-of, pieces, pieces-sets}
 use Rattle.bodies.specs.Questions.{markCount}
 use Rattle.filling.specs.Filling.{filledRadius, filledMark}
 
@@ -66,7 +66,7 @@ module _ (s : List ℕ) (n : ℕ) (good : GoodMarks s n) where
 
     found : Pieces full (take 4 (drop (11 * i) s)) (leBytes 2 radius) (take 5 (drop (11 * i + 6) s)) 4 2 5 (11 * i)
     found =
-        split full (take 4 (drop (11 * i) s)) (leBytes 2 radius) (take 5 (drop (11 * i + 6) s)) 4 2 5 (11 * i)
+        pieces-of full (take 4 (drop (11 * i) s)) (leBytes 2 radius) (take 5 (drop (11 * i + 6) s)) 4 2 5 (11 * i)
         (cut-length s 4 (11 * i) (omega (arith, good .there))) (le-length 2 radius) (omega (arith, full-long))
         (rows-at (filledMark s) 11 n i row-long l)
 

@@ -17,7 +17,7 @@ use Rattle.numbers.specs.Little.{Bytes}
 use Rattle.numbers.specs.Laws.{le-bound}
 use Rattle.index.specs.Tree.{half, first, second}
 use Rattle.index.specs.Index.{beats, axisKey}
-use Rattle.index.specs.Valid.{top, low, apart, heads, isTree}
+use Rattle.index.specs.Valid.{top, low, separated, heads, isTree}
 use Rattle.index.specs.Blocks.{entryAt, othersOf, leftOf, rightOf}
 use Rattle.index.specs.Check.{keyBound, spanOf, findingOf, joinSpans, side, joinFindings, BlockCheckable}
 use Rattle.index.specs.declared.Span.{Span}
@@ -25,7 +25,7 @@ use Rattle.index.specs.declared.Finding.{Finding}
 use Rattle.index.specs.Lemmas.Trees.{count-halves, tree-step}
 use Rattle.index.specs.Lemmas.Blocks.{block-root, block-left, block-right}
 use Rattle.index.specs.Lemmas.Keys.{key-small}
-use Rattle.index.specs.Lemmas.Apart.{under-top}
+use Rattle.index.specs.Lemmas.Separated.{under-top}
 
 -- ---- by a key
 
@@ -66,11 +66,11 @@ module _ (k : ℕ → ℕ) where
   low-first c y [] h = omega arith
   low-first c y (x ∷ m) h = omega (arith, low-first c y m h)
 
-  apart-is : (l m : List ℕ) → count (non (under k keyBound)) l ≡ 0 → count (non (under k keyBound)) m ≡ 0
-      → leb (spanOf k l .high) (spanOf k m .low) ≡ apart k l m
+  separated-is : (l m : List ℕ) → count (non (under k keyBound)) l ≡ 0 → count (non (under k keyBound)) m ≡ 0
+      → leb (spanOf k l .high) (spanOf k m .low) ≡ separated k l m
   unfolding spanOf
-  apart-is l [] a b = le-leb (top k l) keyBound (under-top k l keyBound a)
-  apart-is l (y ∷ m) a b = ap (leb (top k l)) (sym (low-first keyBound y m small))
+  separated-is l [] a b = le-leb (top k l) keyBound (under-top k l keyBound a)
+  separated-is l (y ∷ m) a b = ap (leb (top k l)) (sym (low-first keyBound y m small))
     where
       small : k y ≤ keyBound
       small = omega (arith, ltb-true (k y) keyBound (bit-not-zero (ltb (k y) keyBound) (omega arith)))
@@ -100,11 +100,11 @@ module _ (s p : List ℕ) where
     abbrev right : Finding
     right = findingOf s p (not axis) (second e)
 
-    apart-too : leb (side axis left .high) (side axis right .low) ≡ apart (axisKey s axis) (first e) (second e)
-    apart-too =
+    separated-too : leb (side axis left .high) (side axis right .low) ≡ separated (axisKey s axis) (first e) (second e)
+    separated-too =
         let halves = count-halves (non (below 65536)) e in
         rw (side-is axis (not axis) (first e), side-is axis (not axis) (second e))
-        (apart-is (axisKey s axis) (first e) (second e) (keys-small axis (first e) (omega arith))
+        (separated-is (axisKey s axis) (first e) (second e) (keys-small axis (first e) (omega arith))
         (keys-small axis (second e) (omega arith)))
 
     abbrev heads-beaten : Bool
@@ -117,7 +117,7 @@ module _ (s p : List ℕ) where
         ok-is : isTree (beats p) (axisKey s) axis (r ∷ e)
             ≡ (heads-beaten && leb (side axis left .high) (side axis right .low) && (left .ok && right .ok))
         ok-is =
-            tree-step (beats p) (axisKey s) axis r e ∙ ap (λ (b : Bool). heads-beaten && b && (left .ok && right .ok)) (sym apart-too)
+            tree-step (beats p) (axisKey s) axis r e ∙ ap (λ (b : Bool). heads-beaten && b && (left .ok && right .ok)) (sym separated-too)
 
 -- ---- the same of a block of an index
 

@@ -20,7 +20,7 @@ use Rattle.index.specs.Tree.{half, first, second, best, treeOf}
 use Rattle.index.specs.Valid.{Order, heads, valid, isTree, Split}
 use Rattle.index.specs.Lemmas.Trees.{half-le, first-length, second-length, count-halves, tests-pass}
 use Rattle.index.specs.Lemmas.Unique.{tree-distinct, tree-unique}
-use Rattle.index.specs.Lemmas.Apart.{rising-split}
+use Rattle.index.specs.Lemmas.Separated.{rising-split}
 
 -- y is another than b, and b does not beat it
 abbrev pub rival : (ℕ → ℕ → Bool) → ℕ → ℕ → Bool

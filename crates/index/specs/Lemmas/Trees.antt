@@ -9,8 +9,8 @@ use Rattle.lists.specs.TestLaws.{and-both}
 use Rattle.lists.specs.Counting.{count}
 use Rattle.lists.specs.CountLaws.{count-cut}
 use Rattle.index.specs.Tree.{half, first, second}
-use Rattle.index.specs.Valid.{apart, heads, valid, isTree, Split}
-use Rattle.index.specs.Lemmas.Apart.{apart-split, split-apart}
+use Rattle.index.specs.Valid.{separated, heads, valid, isTree, Split}
+use Rattle.index.specs.Lemmas.Separated.{separated-split, split-separated}
 
 -- ---- the halves of a list
 
@@ -62,7 +62,7 @@ module _ (beats : ℕ → ℕ → Bool) (key : Bool → ℕ → ℕ) where
   valid-same (suc f) (suc g) axis [] a b = refl
   valid-same (suc f) (suc g) axis (r ∷ e) a b =
       ap₂
-      (λ (u v : Bool). (heads beats r (first e) && heads beats r (second e)) && apart (key axis) (first e) (second e) && (u && v))
+      (λ (u v : Bool). (heads beats r (first e) && heads beats r (second e)) && separated (key axis) (first e) (second e) && (u && v))
       (valid-same f g (not axis) (first e) (omega (arith, short)) (omega (arith, short)))
       (valid-same f g (not axis) (second e) (omega (arith, second-length e)) (omega (arith, second-length e)))
     where
@@ -71,12 +71,12 @@ module _ (beats : ℕ → ℕ → Bool) (key : Bool → ℕ → ℕ) where
 
   -- the test at a root is the tests of its halves, and three more
   pub tree-step : (axis : Bool) (r : ℕ) (e : List ℕ) → isTree beats key axis (r ∷ e)
-      ≡ ((heads beats r (first e) && heads beats r (second e)) && apart (key axis) (first e) (second e)
+      ≡ ((heads beats r (first e) && heads beats r (second e)) && separated (key axis) (first e) (second e)
       && (isTree beats key (not axis) (first e) && isTree beats key (not axis) (second e)))
   unfolding valid isTree
   tree-step axis r e =
       ap₂
-      (λ (u v : Bool). (heads beats r (first e) && heads beats r (second e)) && apart (key axis) (first e) (second e) && (u && v))
+      (λ (u v : Bool). (heads beats r (first e) && heads beats r (second e)) && separated (key axis) (first e) (second e) && (u && v))
       (valid-same (length e) (length (first e)) (not axis) (first e) (omega (arith, first-length e, half-le (length e))) (omega arith))
       (valid-same (length e) (length (second e)) (not axis) (second e) (omega (arith, second-length e)) (omega arith))
 
@@ -89,12 +89,12 @@ module _ (beats : ℕ → ℕ → Bool) (key : Bool → ℕ → ℕ) where
 
   pub tested : (axis : Bool) (r : ℕ) (e : List ℕ) → isTree beats key axis (r ∷ e) ≡ true → Tests axis r e
   tested axis r e h =
-      let t = all-true (heads beats r (first e)) (heads beats r (second e)) (apart (key axis) (first e) (second e))
+      let t = all-true (heads beats r (first e)) (heads beats r (second e)) (separated (key axis) (first e) (second e))
       (isTree beats key (not axis) (first e)) (isTree beats key (not axis) (second e)) (sym (tree-step axis r e) ∙ h) in
       record {
         left-head = t .0;
         right-head = t .1;
-        split = apart-split (key axis) (first e) (second e) (t .2);
+        split = separated-split (key axis) (first e) (second e) (t .2);
         left = t .3;
         right = t .4;
       }
@@ -102,5 +102,5 @@ module _ (beats : ℕ → ℕ → Bool) (key : Bool → ℕ → ℕ) where
   pub tests-pass : (axis : Bool) (r : ℕ) (e : List ℕ) → Tests axis r e → isTree beats key axis (r ∷ e) ≡ true
   tests-pass axis r e n =
       tree-step axis r e
-      ∙ and-both (and-both (and-both (n .left-head) (n .right-head)) (split-apart (key axis) (first e) (second e) (n .split)))
+      ∙ and-both (and-both (and-both (n .left-head) (n .right-head)) (split-separated (key axis) (first e) (second e) (n .split)))
       (and-both (n .left) (n .right))

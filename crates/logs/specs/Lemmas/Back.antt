@@ -14,7 +14,7 @@ use Rattle.marks.specs.Marks.{xAt, yAt, isRadius}
 use Rattle.marks.specs.Good.{GoodMark, GoodMarks}
 use Rattle.marks.specs.Laws.{used-bound}
 use Rattle.rows.specs.Rows.{rows}
-use Rattle.rows.specs.Laws.{rows-length, rows-at, rows-whole, field-le, field-get, le-found, Pieces, split, pieces}
+use Rattle.rows.specs.Laws.{rows-length, rows-at, rows-whole, field-le, field-get, le-found, Pieces, pieces-of, pieces}
 use Rattle.bodies.specs.Questions.{markCount}
 use Rattle.logs.specs.Packed.{isPlace, packed}
 use Rattle.logs.specs.Log.{recordCount, coordinateAt, placeBits, markOfRecord, recordOfMark}
@@ -72,7 +72,7 @@ module _ (s : List ℕ) (n : ℕ) (right : LogRight s n) where
 
     found : Pieces marks (leBytes 2 (placeBits x)) (leBytes 2 (placeBits y)) (take 7 (drop (13 * i + 6) s)) 2 2 7 (11 * i)
     found =
-        split marks (leBytes 2 (placeBits x)) (leBytes 2 (placeBits y)) (take 7 (drop (13 * i + 6) s)) 2 2 7 (11 * i) (le-length 2 (placeBits x)) (le-length 2 (placeBits y))
+        pieces-of marks (leBytes 2 (placeBits x)) (leBytes 2 (placeBits y)) (take 7 (drop (13 * i + 6) s)) 2 2 7 (11 * i) (le-length 2 (placeBits x)) (le-length 2 (placeBits y))
         (omega (arith, marks-long)) (rows-at (markOfRecord s) 11 n i row-long l)
 
     -- the fields behind the places are the record's own
@@ -132,7 +132,7 @@ module _ (s : List ℕ) (n : ℕ) (bytes : Bytes s) (good : GoodMarks s n) where
   module _ (i : ℕ) (l : i < n) where
     line : Pieces log (packed (xAt s i)) (packed (yAt s i)) (take 7 (drop (11 * i + 4) s)) 3 3 7 (13 * i)
     line =
-        split log (packed (xAt s i)) (packed (yAt s i)) (take 7 (drop (11 * i + 4) s)) 3 3 7 (13 * i) (packed-length _ _) (packed-length _ _)
+        pieces-of log (packed (xAt s i)) (packed (yAt s i)) (take 7 (drop (11 * i + 4) s)) 3 3 7 (13 * i) (packed-length _ _) (packed-length _ _)
         (omega (arith, log-long s n good)) (rows-at (recordOfMark s) 13 n i (line-long s n good) l)
 
     x-place : isPlace (xAt s i) ≡ true

@@ -1,4 +1,4 @@
--- Any cut of a list that rises, no two of its keys equal, has a number between the keys of the two sides; and `apart` tells whether two
+-- Any cut of a list that rises, no two of its keys equal, has a number between the keys of the two sides; and `separated` tells whether two
 -- lists have one.
 use Prim.Native.Nat.{ℕ, zero, suc, _≤_, _<_}
 use native.Mathlib.Omega.{arith}
@@ -12,7 +12,7 @@ use Rattle.lists.specs.TestLaws.{by-cases, bit-false, bit-not-true, bit-zero, b
 use Rattle.lists.specs.Counting.{count, non, under, keyed}
 use Rattle.lists.specs.CountLaws.{count-cut, times-self, over-le, under-zero, under-more}
 use Rattle.lists.specs.Sorting.{Rising}
-use Rattle.index.specs.Valid.{top, low, apart, Split}
+use Rattle.index.specs.Valid.{top, low, separated, Split}
 
 module _ (k : ℕ → ℕ) where
   -- ---- a number between
@@ -65,9 +65,9 @@ module _ (k : ℕ → ℕ) where
   over-low c [] t h g = g
   over-low c (x ∷ l) t h g = omega (arith, over-low c l t (omega arith) g, ltb-false (k x) t (bit-zero (ltb (k x) t) (omega arith)))
 
-  pub apart-split : (l m : List ℕ) → apart k l m ≡ true → Split k l m
-  apart-split l [] h = record { between = top k l; left = top-under l (top k l) (omega arith); right = refl }
-  apart-split l (y ∷ m) h =
+  pub separated-split : (l m : List ℕ) → separated k l m ≡ true → Split k l m
+  separated-split l [] h = record { between = top k l; left = top-under l (top k l) (omega arith); right = refl }
+  separated-split l (y ∷ m) h =
       let r = low-over (k y) m (top k l) (leb-true (top k l) (low k (k y) m) h) in
       record {
         between = top k l;
@@ -75,9 +75,9 @@ module _ (k : ℕ → ℕ) where
         right = omega (arith, r .0, bit-false (le-ltb (k y) (top k l) (r .1)));
       }
 
-  pub split-apart : (l m : List ℕ) → Split k l m → apart k l m ≡ true
-  split-apart l [] s = refl
-  split-apart l (y ∷ m) s =
+  pub split-separated : (l m : List ℕ) → Split k l m → separated k l m ≡ true
+  split-separated l [] s = refl
+  split-separated l (y ∷ m) s =
       let t = s .between in
       let b : t ≤ k y = ltb-false (k y) t (bit-zero (ltb (k y) t) (omega arith)) in
       le-leb (top k l) (low k (k y) m) (omega (arith, under-top l t (s .left), over-low (k y) m t (omega arith) b))
