@@ -72,5 +72,5 @@ later-iff (At g) f = less-iff f g
 
 -- ---- products of small fractions fit 64 bits
 
-pub small-cross : {f g : Fraction} → Small f → Small g → f .num * g .den < 18446744073709551616
+pub small-cross : {f g : Fraction} → Small f → Small g → f .num * g .den < 9223372036854775808
 small-cross {f} {g} p q = let h : f .num * g .den ≤ 8589672450 * 1073610756 = mul-le-mul (p .num-small) (q .den-small) in omega arith

@@ -86,18 +86,16 @@ fn leader_value(c: Leader) -> Fraction
     }
 }
 
-// Does the value f of row j go before the value g of row k: is it less, or equal and of the higher-ranked row?
+// Does the value f of row j go before the value g of row k: is it less, or equal and of the higher-ranked row? In the inner loop this is one
+// comparison of cross products, without a branch: a tie that goes to row j makes the bound one more.
 fn precedes(f: Fraction, j: usize, g: Fraction, k: usize) -> bool
     requires { ⌜ Small f × Small g ⌝ }
     ensures { λ r. ⌜ r ≡ precedes f j g k ⌝ }
 {
-    if fractions::less_small(f, g) {
-        return true;
-    }
-    if fractions::less_small(g, f) {
-        return false;
-    }
-    j < k
+    let left = f.num * (g.den as u64);
+    let right = g.num * (f.den as u64);
+    let bound = right + (j < k) as u64;
+    left < bound
 }
 
 // Row q against the best found so far for row p, whose label is given: it takes its place if it goes before it and is removed later.
