@@ -23,6 +23,7 @@ use Rattle.contents.specs.Lemmas.Entries as Entries
 use Rattle.contents.specs.Lemmas.Joined as Joined
 use Rattle.contents.specs.Lemmas.Places as Places
 use Rattle.contents.specs.Lemmas.Writing as Writing
+use Rattle.contents.specs.Lemmas.Written as Written
 -- ---- answers: one question, one list after another, and questions put to one thing after another
 
 pub use Rattle.contents.specs.Lemmas.Asked.{Numbered, numbered-append, none-asked, asked-yes, asked-no, asked-iff}
@@ -94,6 +95,10 @@ join-laid = Joined.join-laid
 
 pub join-length : (parts : List Part) → length (join parts) ≡ contentsSize (length parts) + length (chain (bodiesOf parts))
 join-length = Entries.join-length
+
+-- Of bodies that are lists of bytes it is one too.
+pub join-bytes : (parts : List Part) → ((i : ℕ) → Bytes (getD (bodiesOf parts) i [])) → Bytes (join parts)
+join-bytes = Written.join-bytes
 
 -- bodies of at most `most` bytes each
 pub chain-most : (most : ℕ) (bodies : List (List ℕ)) → ((i : ℕ) → i < length bodies → length (getD bodies i []) ≤ most)

@@ -8,3 +8,4 @@ pub mod Entries
 pub mod Joined
 pub mod Places
 pub mod Writing
+pub mod Written

@@ -1,11 +1,11 @@
 -- 02, request 3: "The winder writes 13-byte records: x and y as packed decimal, 3 bytes each, then radius, priority, kind and tag as in a sheet. .. We want
 -- logs turned into marks and marks into logs."
-use Prim.Native.Nat.{ℕ, _+_, _-_, _*_, _/_}
+use Prim.Native.Nat.{ℕ, _+_, _*_, _/_}
 use mathlib.Core.List.{List, _++_}
-use lib.IntN.{ℤ, pos, negsuc}
+use lib.IntN.{ℤ}
 use lib.ListN.{length, getD, take, drop}
 use Rattle.numbers.specs.Little.{leAt, leBytes}
-use Rattle.marks.specs.Marks.{markSize, radiusOffset, xAt, yAt}
+use Rattle.marks.specs.Marks.{markSize, radiusOffset, xAt, yAt, placeBits}
 use Rattle.rows.specs.Rows.{rows}
 use Rattle.bodies.specs.Questions.{markCount}
 use Rattle.logs.specs.Packed.{packedValue, packed}
@@ -41,11 +41,6 @@ abbrev pub kindOf : List ℕ → ℕ → ℕ
 kindOf s r = leAt 1 s (logRecordSize * r + logKindOffset)
 
 -- ---- logs into marks
-
--- a place as a mark has it, "signed, 2 bytes": -1 is 65,535
-unfoldable pub placeBits : ℤ → ℕ
-placeBits (pos n) = n
-placeBits (negsuc n) = 65535 - n
 
 -- the 11 bytes of the mark: the last 7 are the record's own
 abbrev pub markOfRecord : List ℕ → ℕ → List ℕ

@@ -8,12 +8,12 @@ ghost use Prim.Native.Nat.{_+_, _*_, _/_, _%_, _<_, _≤_};
 ghost use lib.ListN.{length};
 ghost use lib.Seq.{sets};
 ghost use Rattle.numbers.specs.Little.{signed};
-ghost use Rattle.marks.specs.Marks.{markSize};
+ghost use Rattle.marks.specs.Marks.{markSize, placeBits};
 ghost use Rattle.contents.specs.Asking.{answer, inTurn};
 ghost use Rattle.rows.specs.Rows.{rows};
 ghost use Rattle.bodies.specs.Questions.{fieldQuestions};
 ghost use Rattle.logs.specs.Packed.{magnitude, isMinus, withSign, areDigits, isLast, isPacked, isPlace, packed, packedOf};
-ghost use Rattle.logs.specs.Log.{logRecordSize, coordinateAt, radiusOf, kindOf, placeBits, markOfRecord, recordOfMark};
+ghost use Rattle.logs.specs.Log.{logRecordSize, coordinateAt, radiusOf, kindOf, markOfRecord, recordOfMark};
 ghost use Rattle.logs.specs.Questions.{logSize, placeQuestions, recordQuestions, logChecks};
 ghost use Rattle.logs.specs.Right.{LogRight};
 

@@ -1,11 +1,12 @@
 -- 01, "A mark" and "Touching, rank, removal" up to the process, with the house radii of 02, request 2. `s` is part 1 of a sheet, the marks' bytes, and `m` a mark's number.
 use Prim.Native.Nat.{ℕ, suc, _+_, _-_, _*_}
 use mathlib.Core.Bool.{Bool, cond, _&&_, _||_}
-use mathlib.Core.List.{List}
+use mathlib.Core.List.{List, _++_}
 use lib.Dec.{ltb, leb, eqb}
 use lib.IntN.{ℤ, pos, negsuc, _-ℤ_, natAbs}
-use Rattle.numbers.specs.Little.{leAt, signed}
+use Rattle.numbers.specs.Little.{leAt, leBytes, signed}
 use Rattle.fractions.specs.declared.Fraction.{Fraction}
+use Rattle.marks.specs.declared.Mark.{Mark}
 use Rattle.marks.specs.declared.House.{House}
 use Rattle.marks.specs.declared.Label.{Label}
 use Rattle.marks.specs.declared.House.the-variants.{Radius, Refused}
@@ -29,6 +30,9 @@ priorityOffset = 6
 abbrev pub kindOffset : ℕ
 kindOffset = 8
 
+abbrev pub tagOffset : ℕ
+tagOffset = 9
+
 abbrev pub xAt : List ℕ → ℕ → ℤ
 xAt s m = signed 2 (leAt 2 s (markSize * m))
 
@@ -48,6 +52,19 @@ priorityAt s m = leAt 2 s (markSize * m + priorityOffset)
 
 abbrev pub kindAt : List ℕ → ℕ → ℕ
 kindAt s m = leAt 1 s (markSize * m + kindOffset)
+
+abbrev pub tagAt : List ℕ → ℕ → ℕ
+tagAt s m = leAt 2 s (markSize * m + tagOffset)
+
+-- a place as its two bytes hold it: -1 is 65,535
+unfoldable pub placeBits : ℤ → ℕ
+placeBits (pos a) = a
+placeBits (negsuc a) = 65535 - a
+
+-- the bytes of a mark of these six fields; `mark-reads` of Laws: they are read back
+abbrev pub markBytes : Mark → List ℕ
+markBytes a =
+    leBytes 2 (placeBits (a .x)) ++ (leBytes 2 (placeBits (a .y)) ++ (leBytes 2 (a .radius) ++ (leBytes 2 (a .priority) ++ (leBytes 1 (a .kind) ++ leBytes 2 (a .tag)))))
 
 -- ---- the kind and the radius
 

@@ -1,11 +1,12 @@
 // The fields of a mark, its used radius, touching and rank. `s` is part 1 of a sheet and `m` a mark's number.
 use fractions::Fraction;
 ghost use mathlib.Core.Path.{_≡_};
-ghost use Prim.Native.Nat.{_+_, _*_, _<_, _≤_};
+ghost use Prim.Native.Nat.{_+_, _*_, _/_, _%_, _<_, _≤_};
 ghost use lib.ListN.{length};
 ghost use lib.IntN.{_-ℤ_, natAbs};
 ghost use Rattle.fractions.specs.Order.{Small};
-ghost use Rattle.marks.specs.Marks.{markSize, xAt, yAt, shifted, radiusAt, priorityAt, kindAt, houseOf, oldRadius, usedRadius, usedAt};
+ghost use Rattle.marks.specs.Marks.{markSize, xAt, yAt, shifted, radiusAt, priorityAt, kindAt, placeBits, markBytes};
+ghost use Rattle.marks.specs.Marks.{houseOf, oldRadius, usedRadius, usedAt};
 ghost use Rattle.marks.specs.Marks.{labelAt, distance, touchingOf, touching, outranks, rankKey};
 
 // The bytes of a mark, and where the fields behind x begin.
@@ -62,6 +63,61 @@ pub fn kind_at(s: &[u8], m: usize) -> u8
     ensures { λ r. ⌜ r ≡ kindAt (now (s .entry)) m ⌝ }
 {
     numbers::read(s, MARK_SIZE * m + KIND_OFFSET, 1) as u8
+}
+
+// ---- a mark by its fields
+
+pub struct Mark {
+    pub x: i16,
+    pub y: i16,
+    pub radius: u16,
+    pub priority: u16,
+    pub kind: u8,
+    pub tag: u16,
+}
+
+// The 16 bits of a place. A cast must not lose the sign, so the shifted place is shifted back, and one below 0 stands in the upper half.
+fn place_bits(v: i16) -> u16
+    ensures { λ r. ⌜ r ≡ placeBits v ⌝ }
+{
+    let s = shifted(v);
+    if s < 32768 {
+        return s + 32768;
+    }
+    s - 32768
+}
+
+fn low_byte(v: u16) -> u8
+    ensures { λ r. ⌜ r ≡ v % 256 ⌝ }
+{
+    (v % 256) as u8
+}
+
+fn high_byte(v: u16) -> u8
+    ensures { λ r. ⌜ r ≡ v / 256 % 256 ⌝ }
+{
+    (v / 256) as u8
+}
+
+// The bytes of a mark, as a sheet has them.
+pub fn mark_bytes(a: Mark) -> [u8; 11]
+    ensures { λ r. ⌜ r ≡ markBytes a ⌝ }
+{
+    let x = place_bits(a.x);
+    let y = place_bits(a.y);
+    [
+        low_byte(x),
+        high_byte(x),
+        low_byte(y),
+        high_byte(y),
+        low_byte(a.radius),
+        high_byte(a.radius),
+        low_byte(a.priority),
+        high_byte(a.priority),
+        a.kind,
+        low_byte(a.tag),
+        high_byte(a.tag),
+    ]
 }
 
 // ---- the kind and the radius

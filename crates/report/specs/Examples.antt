@@ -1,15 +1,16 @@
 -- 01, "Proved examples": P1 to P12, what 01 computes in its text, and the examples of 02's requests: one table of inputs and answers, shown by
 -- one computation. P4 is as request 1 of 02 has it.
-use Prim.Native.Nat.{ℕ, suc, _+_, _-_, _*_}
+use Prim.Native.Nat.{ℕ, _+_, _*_}
 use mathlib.Core.Path.{_≡_, refl}
 use mathlib.Core.List.{List, [], _∷_, _++_, map}
-use lib.ListN.{length}
+use lib.ListN.{length, take}
 use lib.IntN.{ℤ, pos, negsuc}
 use lib.Ieee.{binary32, ofBits}
 use Rattle.lists.specs.Tests.{every, bit}
 use Rattle.numbers.specs.Little.{leAt, leBytes}
 use Rattle.fractions.specs.Order.{less, same, later, level}
-use Rattle.marks.specs.Marks.{kindGroup, houseRadius, oldRadius, houseOf, isKind, isRadius, usedRadius, distance, touchingOf, touching, outranks, rankKey}
+use Rattle.marks.specs.declared.Mark.{Mark}
+use Rattle.marks.specs.Marks.{placeBits, markBytes, kindGroup, houseRadius, oldRadius, houseOf, isKind, isRadius, usedRadius, distance, touchingOf, touching, outranks, rankKey}
 use Rattle.elimination.specs.Process.{least, put, before, pair, next, run, process}
 use Rattle.elimination.specs.Records.{eliminatorAt, numAt, denAt, isNever, valueAt, records}
 use Rattle.elimination.specs.Reel.{scheduleOf}
@@ -19,12 +20,13 @@ use Rattle.contents.specs.Contents.{_holds_, startAt, split, entries, contentsO
 use Rattle.contents.specs.Asking.{answer, inTurn}
 use Rattle.contents.specs.Questions.{question1, codesRight, question3, contentsQuestions}
 use Rattle.rows.specs.Rows as Rows
+use Rattle.changing.specs.Changing.{added, takenOut}
 use Rattle.bodies.specs.Questions.{question4, markQuestions, part1Questions, question7, namesRight, recordRight, isSchedule, isSized, question8, question9, lastQuestions, bodyQuestions}
 use Rattle.filling.specs.Filling.{filledRadius, filled, fillQuestions}
 use Rattle.logs.specs.Packed.{magnitude, isMinus, withSign, areDigits, isLast, isPacked, isPlace, packedOf}
-use Rattle.logs.specs.Log.{placeBits, marksOfLog, logOfMarks}
+use Rattle.logs.specs.Log.{marksOfLog, logOfMarks}
 use Rattle.logs.specs.Questions.{logSize, recordQuestions, logChecks, logQuestions, marksQuestions}
-use Rattle.sheet.specs.Questions.{checkQuestions, check, partsQuestions}
+use Rattle.sheet.specs.Questions.{checkQuestions, check, question10, indexedQuestions, partsQuestions}
 use Rattle.zoom.specs.declared.Zoom.{Zoom}
 use Rattle.zoom.specs.declared.Zoom.the-variants.{Stop, Wheel}
 use Rattle.zoom.specs.Zoom.{stopScale, wheelScale, scaleOf}
@@ -34,31 +36,23 @@ use Rattle.view.specs.declared.Rectangle.{Rectangle}
 use Rattle.view.specs.Shown.{gap, distanceSquared, reaches, shown}
 use Rattle.bitmap.specs.Map.{mapByte, mapPart, mapBytes, countShown}
 use Rattle.view.specs.Questions as Viewing
-use Rattle.rollmap.specs.Jobs.{outcome, checkJob, scheduled, assembleQuestions, assembleJob, fillJob, logToMarksJob, marksToLogJob, shownIn, viewJob}
+use Rattle.rollmap.specs.Jobs.{outcome, checkJob, scheduled, schedulingQuestions, schedulingJob, addChecks, addJob, takeOutChecks, takeOutJob, assembleQuestions, assembleJob, fillJob, logToMarksJob, marksToLogJob, shownIn, viewJob}
 use Rattle.text.specs.Text.{digits}
 use Rattle.report.specs.Text.{text, line, markLine, markLines, listing, refusalLine, printQuestions, printed}
 
 -- ---- inputs by their fields
 
 -- "as x, y, radius, priority", then the kind; the tag is 0
-pub record Mark : Type 0 where
-  pub x : ℤ
-  pub y : ℤ
-  pub radius : ℕ
-  pub priority : ℕ
-  pub kind : ℕ
+abbrev markOf : ℤ → ℤ → ℕ → ℕ → ℕ → Mark
+markOf x y radius priority kind = record { x = x; y = y; radius = radius; priority = priority; kind = kind; tag = 0 }
 
+-- "all kind 0"
 abbrev mark : ℤ → ℤ → ℕ → ℕ → Mark
-mark x y radius priority = record { x = x; y = y; radius = radius; priority = priority; kind = 0 }
-
-abbrev twoBytes : ℤ → List ℕ
-twoBytes (pos a) = leBytes 2 a
-twoBytes (negsuc a) = leBytes 2 (65536 - suc a)
+mark x y radius priority = markOf x y radius priority 0
 
 marks : List Mark → List ℕ
 marks [] = []
-marks (m ∷ rest) =
-    twoBytes (m .x) ++ (twoBytes (m .y) ++ (leBytes 2 (m .radius) ++ (leBytes 2 (m .priority) ++ (m .kind ∷ 0 ∷ 0 ∷ marks rest))))
+marks (m ∷ rest) = markBytes m ++ marks rest
 
 -- a sheet of one part
 sheet : List Mark → List ℕ
@@ -89,6 +83,10 @@ pub data Asked : Type 0 where
   -- a log turned into marks, and marks into a log, in a buffer of so many bytes: number, length, and the bytes written
   turnsLog : List ℕ → ℕ → Asked
   turnsMarks : List Mark → ℕ → Asked
+  -- a mark added to a sheet, with work and written buffers of so many bytes, and a mark taken out: number and length, and of the new sheet
+  -- eliminator, numerator and denominator of a mark
+  adds : List ℕ → Mark → ℕ → ℕ → ℕ → Asked
+  takesOut : List ℕ → ℕ → ℕ → ℕ → ℕ → Asked
 
 -- the numbers of two bytes each
 pairs : List ℕ → List ℕ
@@ -115,6 +113,8 @@ answers (rescues s m) =
     o .number ∷ o .value ∷ (checkJob (o .written)) .number ∷ recordOf (scheduled (o .written)) m
 answers (turnsLog s room) = let o = logToMarksJob s room in o .number ∷ o .value ∷ o .written
 answers (turnsMarks l room) = let o = marksToLogJob (marks l) room in o .number ∷ o .value ∷ o .written
+answers (adds s mark work room m) = let o = addJob s mark work room in o .number ∷ o .value ∷ recordOf (o .written) m
+answers (takesOut s out work room m) = let o = takeOutJob s out work room in o .number ∷ o .value ∷ recordOf (o .written) m
 
 -- ---- the table
 
@@ -145,20 +145,23 @@ p11 = mark (pos 60) (pos 0) 2 5 ∷ mark (negsuc 99) (pos 0) 10 9 ∷ mark (pos 
 
 -- a mark of this radius and this kind
 abbrev of : ℕ → ℕ → List Mark
-of radius kind = record { x = pos 0; y = pos 0; radius = radius; priority = 0; kind = kind } ∷ []
+of radius kind = markOf (pos 0) (pos 0) radius 0 kind ∷ []
 
 -- two moisture patches with the house radius, and their sheet as it was scheduled when that was 120: mark 1 goes at 10,000 over 240²
 abbrev patches : List Mark
-patches =
-    record { x = pos 0; y = pos 0; radius = 0; priority = 9; kind = 100 }
-    ∷ record { x = pos 100; y = pos 0; radius = 0; priority = 5; kind = 149 }
-    ∷ []
+patches = markOf (pos 0) (pos 0) 0 9 100 ∷ markOf (pos 100) (pos 0) 0 5 149 ∷ []
 
 oldSheet : List ℕ
 oldSheet =
     let never = leBytes 2 65535 ++ (leBytes 8 0 ++ leBytes 4 0) in
     let gone = leBytes 2 0 ++ (leBytes 8 10000 ++ leBytes 4 57600) in
     join ((1 holds marks patches) ∷ (2 holds (never ++ gone)) ∷ (3 holds (leBytes 2 0 ++ leBytes 2 1)) ∷ [])
+
+-- the patches with a schedule in which neither goes; of equal values the lower number is the root
+neverSheet : List ℕ
+neverSheet =
+    let never = leBytes 2 65535 ++ (leBytes 8 0 ++ leBytes 4 0) in
+    join ((1 holds marks patches) ∷ (2 holds (never ++ never)) ∷ (3 holds (leBytes 2 0 ++ leBytes 2 1)) ∷ [])
 
 -- a log of one record, its x and y by their bytes; radius 300, priority 5, kind 0, tag 0
 abbrev log : ℕ → ℕ → ℕ → ℕ → ℕ → ℕ → List ℕ
@@ -233,16 +236,28 @@ table =
     -- x by both before y: 16 of x where y gets 15; and 13 last
     ∷ (turnsLog (log 0x99 0x99 0x9c 0x00 0x00 0x0a) 11 gives (16 ∷ 0 ∷ []))
     ∷ (turnsLog (log 0x00 0x00 0x0c 0x00 0x00 0x0c) 10 gives (13 ∷ 0 ∷ []))
+    -- 02, request 5: the last mark of P1 added to the others
+    ∷ (adds (scheduled (sheet (take 3 p1))) (mark (pos 0) (pos 3) 5 1) 1152 140 3 gives (0 ∷ 140 ∷ 0 ∷ 9 ∷ 225 ∷ []))
+    -- the first mark of P1 taken out: the last is then mark 2, and goes by the one that was mark 1
+    ∷ (takesOut (scheduled (sheet p1)) 0 1120 113 2 gives (0 ∷ 113 ∷ 0 ∷ 10009 ∷ 225 ∷ []))
+    -- a schedule that is not ours, in which no patch goes, is not carried over
+    ∷ (adds neverSheet (mark (pos 0) (pos 3) 5 1) 1120 113 1 gives (0 ∷ 113 ∷ 0 ∷ 10000 ∷ 90000 ∷ []))
+    -- 10; 17 where m is n; 5 of the new mark before 6; 13 last
+    ∷ (adds (sheet p5) (mark (pos 0) (pos 3) 5 1) 1120 113 0 gives (10 ∷ 0 ∷ 0 ∷ 0 ∷ 0 ∷ []))
+    ∷ (takesOut (scheduled (sheet p5)) 2 0 0 0 gives (17 ∷ 0 ∷ 0 ∷ 0 ∷ 0 ∷ []))
+    ∷ (adds (scheduled (sheet p5)) (markOf (pos 0) (pos 0) 16384 0 200) 0 0 0 gives (5 ∷ 0 ∷ 0 ∷ 0 ∷ 0 ∷ []))
+    ∷ (adds (scheduled (sheet p5)) (markOf (pos 0) (pos 0) 16384 0 199) 0 0 0 gives (6 ∷ 0 ∷ 0 ∷ 0 ∷ 0 ∷ []))
+    ∷ (takesOut (scheduled (sheet p5)) 1 1055 59 0 gives (13 ∷ 0 ∷ 0 ∷ 0 ∷ 0 ∷ []))
     ∷ []
 
 -- No row is lost.
-pub table-length : length table ≡ 40
+pub table-length : length table ≡ 48
 unfolding table
 table-length = refl
 
 -- Every answer is the expected one.
 pub examples : map (λ (r : Row). answers (r .asked)) table ≡ map (λ (r : Row). r .expected) table
-unfolding table answers recordOf pairs sheet marks oldSheet ofBits
+unfolding table answers recordOf pairs sheet marks oldSheet neverSheet ofBits
     leAt leBytes less same later level kindGroup houseRadius oldRadius houseOf isKind isRadius usedRadius distance touchingOf touching outranks rankKey
     least put before pair next run process isNever valueAt records scheduleOf treeOf beats coordinate axisKey indexOf indexBytes sameBytes isIndex
     startAt split entries contentsOf chain join answer inTurn every question1 codesRight question3 contentsQuestions question4
@@ -250,6 +265,6 @@ unfolding table answers recordOf pairs sheet marks oldSheet ofBits
     logSize recordQuestions logChecks logQuestions marksQuestions logToMarksJob marksToLogJob
     Rows.rows filledRadius filled fillQuestions markQuestions part1Questions isSized question7 namesRight recordRight isSchedule question8
     question9 lastQuestions bodyQuestions checkQuestions check partsQuestions assembleQuestions stopScale wheelScale scaleOf livesAt gap distanceSquared reaches
-    shown mapByte mapPart mapBytes countShown Viewing.question10 Viewing.question11 Viewing.viewQuestions outcome checkJob scheduled
-    assembleJob fillJob shownIn viewJob digits line rootStep root zoomDown markLine markLines listing refusalLine printQuestions printed
+    shown mapByte mapPart mapBytes countShown question10 indexedQuestions Viewing.question11 Viewing.viewQuestions outcome checkJob scheduled
+    added Rows.without takenOut addChecks takeOutChecks schedulingQuestions schedulingJob assembleJob fillJob shownIn viewJob digits line rootStep root zoomDown markLine markLines listing refusalLine printQuestions printed
 examples = refl

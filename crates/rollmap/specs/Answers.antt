@@ -4,6 +4,7 @@ use mathlib.Core.Path.{_≡_}
 use mathlib.Core.List.{List}
 use lib.IntN.{ℤ}
 use lib.ListN.{length}
+use Rattle.marks.specs.declared.Mark.{Mark}
 use Rattle.view.specs.declared.Rectangle.{Rectangle}
 use Rattle.rollmap.specs.declared.Answer.{Answer}
 use Rattle.rollmap.specs.Jobs.{Outcome, after}
@@ -19,6 +20,10 @@ refusal number = record { number = number; value = 0 }
 -- the rectangle of these edges
 abbrev pub edges : ℤ → ℤ → ℤ → ℤ → Rectangle
 edges x0 x1 y0 y1 = record { x0 = x0; x1 = x1; y0 = y0; y1 = y1 }
+
+-- the mark of these fields
+abbrev pub fields : ℤ → ℤ → ℕ → ℕ → ℕ → ℕ → Mark
+fields x y radius priority kind tag = record { x = x; y = y; radius = radius; priority = priority; kind = kind; tag = tag }
 
 -- What a call that writes answers, `r`, and leaves in a buffer that held `before`.
 pub record Gives (o : Outcome) (before : List ℕ) (r : Answer) (buffer : List ℕ) : Type 0 where

@@ -7,6 +7,7 @@ use lib.ListN.{length, take}
 use lib.Dec.{ltb, leb, eqb}
 use Rattle.lists.specs.Stores.{over}
 use Rattle.numbers.specs.Little.{Bytes}
+use Rattle.marks.specs.declared.Mark.{Mark}
 use Rattle.marks.specs.Marks.{markSize}
 use Rattle.elimination.specs.Reel.{scheduleOf}
 use Rattle.scheduling.specs.Filling.{workSize}
@@ -14,11 +15,12 @@ use Rattle.index.specs.Index.{indexOf, indexBytes}
 use Rattle.contents.specs.Contents.{Part, _holds_, split, join, marksPart, schedulePart}
 use Rattle.contents.specs.Questions.{isCount}
 use Rattle.contents.specs.Asking.{Question, _asks_, answer}
-use Rattle.bodies.specs.Questions.{markCount, reelFrom}
+use Rattle.bodies.specs.Questions.{markCount, reelFrom, fieldQuestions}
+use Rattle.changing.specs.Changing.{added, takenOut}
 use Rattle.filling.specs.Filling.{filled, fillQuestions}
 use Rattle.logs.specs.Log.{logRecordSize, recordCount, marksOfLog, logOfMarks}
 use Rattle.logs.specs.Questions.{logQuestions, marksQuestions}
-use Rattle.sheet.specs.Questions.{sheetCount, checkQuestions, check, partsQuestions}
+use Rattle.sheet.specs.Questions.{sheetCount, checkQuestions, check, indexedQuestions, partsQuestions}
 use Rattle.zoom.specs.declared.Zoom.{Zoom}
 use Rattle.zoom.specs.Zoom.{scaleOf, scale}
 use Rattle.view.specs.declared.Rectangle.{Rectangle}
@@ -39,6 +41,10 @@ unfoldable pub outcome : List Question → ℕ → List ℕ → Outcome
 outcome questions value written =
     let number = answer questions in
     cond (eqb number 0) (record { number = 0; value = value; written = written }) (record { number = number; value = 0; written = [] })
+
+-- a job that answers 0 and writes these bytes
+abbrev pub wrote : List ℕ → Outcome
+wrote w = record { number = 0; value = length w; written = w }
 
 -- "Bytes past a written result stay untouched": what the buffer holds after the call.
 unfoldable pub after : Outcome → List ℕ → List ℕ
@@ -61,9 +67,13 @@ newIndex s = indexBytes (indexOf s (newSchedule s) (markCount s))
 abbrev pub newParts : List ℕ → List Part
 newParts s = (1 holds s) ∷ (2 holds newSchedule s) ∷ (3 holds newIndex s) ∷ []
 
--- What scheduling writes for a sheet.
+-- What scheduling writes for these marks.
+abbrev pub scheduledFrom : List ℕ → List ℕ
+scheduledFrom marks = join (newParts marks)
+
+-- What it writes for a sheet.
 unfoldable pub scheduled : List ℕ → List ℕ
-scheduled s = join (newParts (marksPart (split s)))
+scheduled s = scheduledFrom (marksPart (split s))
 
 -- "32 + 27n bytes for n marks"
 abbrev pub scheduledSize : ℕ → ℕ
@@ -73,12 +83,17 @@ scheduledSize n = 27 * n + 32
 abbrev pub hasRoom : ℕ → ℕ → ℕ → Bool
 hasRoom n work room = leb (workSize n) work && leb (scheduledSize n) room
 
--- "scheduling 1 to 9 and 13"
-unfoldable pub scheduleQuestions : List ℕ → ℕ → ℕ → List Question
-scheduleQuestions s work room = checkQuestions s ++ ((13 asks hasRoom (sheetCount s) work room) ∷ [])
+-- a job that asks `checks`, and then 13 for these marks, and writes what scheduling writes for them
+unfoldable pub schedulingQuestions : List Question → List ℕ → ℕ → ℕ → List Question
+schedulingQuestions checks marks work room = checks ++ ((13 asks hasRoom (markCount marks) work room) ∷ [])
 
-unfoldable pub scheduleJob : List ℕ → ℕ → ℕ → Outcome
-scheduleJob s work room = outcome (scheduleQuestions s work room) (length (scheduled s)) (scheduled s)
+unfoldable pub schedulingJob : List Question → List ℕ → ℕ → ℕ → Outcome
+schedulingJob checks marks work room =
+    outcome (schedulingQuestions checks marks work room) (length (scheduledFrom marks)) (scheduledFrom marks)
+
+-- "scheduling 1 to 9 and 13"
+abbrev pub scheduleJob : List ℕ → ℕ → ℕ → Outcome
+scheduleJob s work room = schedulingJob (checkQuestions s) (marksPart (split s)) work room
 
 -- "A sheet is scheduled here if its bytes are those that scheduling, answering 0, writes for some sheet."
 pub record ScheduledHere (s : List ℕ) : Type 0 where
@@ -96,6 +111,24 @@ pub record LeftByScheduling (s : List ℕ) : Type 0 where
   pub held : List ℕ
   pub answered : (scheduleJob given-sheet work (length held)) .number ≡ 0
   pub left : s ≡ take ((scheduleJob given-sheet work (length held)) .value) (after (scheduleJob given-sheet work (length held)) held)
+
+-- ---- adding and taking out: 02, request 5
+
+-- "Checks: after 1 to 10, .. 18 where 4,096 marks are held already; then 5, 6 for the new mark, then 13 .. for the new number of marks."
+unfoldable pub addChecks : List ℕ → Mark → List Question
+addChecks s mark = indexedQuestions s ++ ((18 asks ltb (sheetCount s) 4096) ∷ fieldQuestions (mark .kind) (mark .radius))
+
+-- "Add a mark .. The new sheet equals one scheduled from the new marks."
+abbrev pub addJob : List ℕ → Mark → ℕ → ℕ → Outcome
+addJob s mark work room = schedulingJob (addChecks s mark) (added (marksPart (split s)) mark) work room
+
+-- "after 1 to 10, 17 where m isn't below n .. then 13"
+unfoldable pub takeOutChecks : List ℕ → ℕ → List Question
+takeOutChecks s m = indexedQuestions s ++ ((17 asks ltb m (sheetCount s)) ∷ [])
+
+-- ".. or take out mark m"
+abbrev pub takeOutJob : List ℕ → ℕ → ℕ → ℕ → Outcome
+takeOutJob s m work room = schedulingJob (takeOutChecks s m) (takenOut (marksPart (split s)) m) work room
 
 -- ---- putting together
 

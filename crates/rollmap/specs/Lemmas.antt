@@ -6,4 +6,5 @@ pub mod Turning
 pub mod Scheduled
 pub mod Walking
 pub mod Scheduling
+pub mod Changing
 pub mod Viewing

@@ -1,14 +1,16 @@
 -- Jobs is what each call gives, Parts and Demand3 what is claimed of sheets and views by demands 2 and 3, and Theorems their proofs.
--- Filled is what is claimed of filled marks, and Turned of logs and marks that are turned into one another.
+-- Changed is what is claimed of marks that come and go, and Coming its proof. Filled is what is claimed of filled marks, and Turned of logs and marks that are turned into one another.
 -- Stops is request 4 of 02: a stop and the wheel value of the same zoom give the same.
 -- Steps is what the code's own steps give.
 pub mod Jobs
 pub mod Answers
 pub mod Parts
 pub mod Demand3
+pub mod Changed
 pub mod Filled
 pub mod Turned
 pub mod Theorems
+pub mod Coming
 pub mod Stops
 pub mod Steps
 pub mod Lemmas

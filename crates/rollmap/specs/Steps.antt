@@ -1,15 +1,12 @@
 -- What the steps of scheduling and viewing give.
 use Prim.Native.Nat.{ℕ}
 use mathlib.Core.List.{List, [], _∷_, _++_}
-use mathlib.Core.Bool.{Bool, _&&_}
 use lib.Dec.{leb}
 use lib.ListN.{drop}
 use Rattle.elimination.specs.Reel.{Reel, scheduleOf}
 use Rattle.index.specs.Index.{indexOf, indexBytes}
 use Rattle.indexing.specs.Buffer.{indexEnd}
 use Rattle.contents.specs.Contents.{split, marksPart, schedulePart}
-use Rattle.contents.specs.declared.Layout.{Layout}
-use Rattle.contents.specs.Places.{isThere}
 use Rattle.contents.specs.Asking.{_asks_}
 use Rattle.sheet.specs.Questions.{sheetCount}
 use Rattle.view.specs.declared.Rectangle.{Rectangle}
@@ -21,10 +18,6 @@ use Rattle.rollmap.specs.Jobs.{Outcome, outcome}
 unfoldable pub resultsOver : Reel → List ℕ → List ℕ
 resultsOver r buffer =
     r .marks ++ (scheduleOf r ++ (indexBytes (indexOf (r .marks) (scheduleOf r) (r .count)) ++ drop (indexEnd (r .count)) buffer))
-
--- 10, by a layout
-abbrev pub isIndexed : Layout → Bool
-isIndexed l = isThere l 2 && isThere l 3
 
 -- viewing an accepted sheet at a zoom that is taken: 13 is all that is left to ask
 unfoldable pub viewAt : List ℕ → Rectangle → ℕ → ℕ → Outcome

@@ -13,14 +13,14 @@ use lib.Ieee.Exact.{HasValue}
 use Rattle.contents.specs.Contents.{split}
 use Rattle.contents.specs.Asking.{Question, _asks_, answer}
 use Rattle.contents.specs.Laws.{append-yes, append-iff}
-use Rattle.sheet.specs.Questions.{sheetCount, checkQuestions, check}
-use Rattle.sheet.specs.Laws.{check-numbered}
+use Rattle.sheet.specs.Questions.{sheetCount, check, question10, indexedQuestions}
+use Rattle.sheet.specs.Laws.{indexed-numbered, indexed-iff}
 use Rattle.bitmap.specs.Map.{mapSize, mapBytes, countShown}
 use Rattle.zoom.specs.declared.Zoom.the-variants.{Stop, Wheel}
 use Rattle.zoom.specs.Zoom.{scaleOf}
 use Rattle.zoom.specs.Laws.{stop-wheel, stop-refused}
 use Rattle.view.specs.declared.Rectangle.{Rectangle}
-use Rattle.view.specs.Questions.{question10, question11, isTaken, viewQuestions}
+use Rattle.view.specs.Questions.{question11, isTaken, viewQuestions}
 use Rattle.rollmap.specs.declared.Answer.{Answer}
 use Rattle.rollmap.specs.Jobs.{shownIn, viewJob}
 use Rattle.rollmap.specs.Answers.{refusal, answerOf, Gives}
@@ -44,10 +44,9 @@ pub record MeetsStop (s : List ℕ) (e : Rectangle) (stop : ℕ) (before : List 
 
 -- ---- over the jobs
 
-some-no : (there right : Bool) → 0 < cond there (cond right 12 11) 10
-some-no true true = omega arith
-some-no true false = omega arith
-some-no false right = omega arith
+some-no : (right : Bool) → 0 < cond right 12 11
+some-no true = omega arith
+some-no false = omega arith
 
 module _ (s : List ℕ) (e : Rectangle) (stop room : ℕ) where
   -- "a stop and the wheel value of the same zoom give the same answer, map and count"
@@ -60,23 +59,22 @@ module _ (s : List ℕ) (e : Rectangle) (stop room : ℕ) where
 
   abbrev last : List Question
   last =
-      (10 asks question10 (split s))
-      ∷ (11 asks question11 e)
+      (11 asks question11 e)
       ∷ (12 asks isTaken (scaleOf (Stop stop)))
       ∷ (13 asks leb (mapSize (sheetCount s)) room)
       ∷ []
 
   module _ (beyond : 16 < stop) where
-    last-no : answer last ≡ cond (question10 (split s)) (cond (question11 e) 12 11) 10
+    last-no : answer last ≡ cond (question11 e) 12 11
     unfolding answer scaleOf
     last-no = rw (stop-refused stop beyond)
 
     -- "any other stop gets 12"
     pub other-stop : check s ≡ 0 → question10 (split s) ≡ true → question11 e ≡ true
         → viewJob s e (Stop stop) room ≡ record { number = 12; value = 0; written = [] }
-    unfolding viewJob viewQuestions check
+    unfolding viewJob viewQuestions
     other-stop ok there right =
-        let no : answer questions ≡ 12 = append-yes (checkQuestions s) last (check-numbered s) ok ∙ last-no ∙ rw (there, right) in
+        let no : answer questions ≡ 12 = append-yes (indexedQuestions s) last (indexed-numbered s) (indexed-iff s .1 (ok, there)) ∙ last-no ∙ rw right in
         outcome-no questions _ _ (omega (arith, no)) ∙ rw no
 
     -- and none is taken.
@@ -87,8 +85,8 @@ module _ (s : List ℕ) (e : Rectangle) (stop room : ℕ) where
         (elim (decLt 0 (answer questions)) [
           | yes l ↦ l
           | no l ↦
-              (let none = append-iff (checkQuestions s) last (check-numbered s) .0 (omega arith) .1 in
-              absurd (omega (arith, none, last-no, some-no (question10 (split s)) (question11 e))))
+              (let none = append-iff (indexedQuestions s) last (indexed-numbered s) .0 (omega arith) .1 in
+              absurd (omega (arith, none, last-no, some-no (question11 e))))
         ])
 
 -- ---- and so of what the call answers and leaves

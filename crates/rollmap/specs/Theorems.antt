@@ -1,16 +1,14 @@
 -- Demands 2 and 3 over the bytes of sheets. Assumes nothing.
-use Prim.Native.Nat.{ℕ, _+_, _*_, _<_, _≤_}
+use Prim.Native.Nat.{ℕ, zero, suc, _+_, _*_, _<_, _≤_}
 use mathlib.Core.Path.{_≡_, refl, sym, ap, _∙_}
-use mathlib.Core.Bool.{true}
+use mathlib.Core.Bool.{true, false≢true}
 use mathlib.Core.List.{List, [], _∷_, _++_}
 use mathlib.Core.Logic.{_↔_}
 use native.Mathlib.Omega.{arith}
-use borrow.Author.Tests.{le-leb, lt-ltb}
-use lib.Dec.{leb}
+use borrow.Author.Tests.{lt-ltb}
 use lib.ListN.{length, take, drop, length-append}
 use lib.Seq.{take-append-seam}
 use Rattle.lists.specs.Stores.{over}
-use Rattle.lists.specs.TestLaws.{both-iff}
 use Rattle.lists.specs.Tests.{bit}
 use Rattle.numbers.specs.Little.{Bytes}
 use Rattle.fractions.specs.declared.Value.{Value}
@@ -18,14 +16,15 @@ use Rattle.fractions.specs.Order.{Equal}
 use Rattle.marks.specs.Good.{GoodMarks}
 use Rattle.elimination.specs.Reel.{scheduleOf}
 use Rattle.elimination.specs.Schedule.{schedule-iff, schedule-later}
-use Rattle.contents.specs.Contents.{Part, countAt, split, join, marksPart, schedulePart}
+use Rattle.contents.specs.Contents.{Part, _holds_, countAt, split, join, marksPart, schedulePart}
 use Rattle.contents.specs.Asking.{Question, answer}
-use Rattle.contents.specs.Laws.{asked-iff, append-iff, count-iff, split-join}
+use Rattle.contents.specs.Laws.{Numbered, asked-iff, append-iff, count-iff, split-join, join-bytes}
 use Rattle.contents.specs.Questions.{isCount}
-use Rattle.bodies.specs.Questions.{reelOf}
+use Rattle.bodies.specs.Questions.{markCount, reelOf}
+use Rattle.bodies.specs.Fitting.{Fitting}
 use Rattle.bodies.specs.Laws.{fitting-writable}
-use Rattle.sheet.specs.Questions.{sheetCount, checkQuestions, check}
-use Rattle.sheet.specs.Laws.{check-numbered, accepted-iff, parts-iff, join-accepted, sheet-again, parts-again}
+use Rattle.sheet.specs.Questions.{sheetCount, checkQuestions, check, indexedQuestions}
+use Rattle.sheet.specs.Laws.{check-numbered, indexed-numbered, indexed-iff, accepted-iff, parts-iff, join-accepted, sheet-again, parts-again}
 use Rattle.bitmap.specs.Map.{mapSize, mapBytes, countShown, shownFrom, isSet}
 use Rattle.bitmap.specs.Facts.{Shows}
 use Rattle.bitmap.specs.Laws.{map-shows, map-length, shown-set, shown-same}
@@ -36,7 +35,7 @@ use Rattle.view.specs.declared.Rectangle.{Rectangle}
 use Rattle.view.specs.Shown.{shown}
 use Rattle.view.specs.Questions.{viewQuestions, isMap, walkQuestions}
 use Rattle.rollmap.specs.declared.Answer.{Answer}
-use Rattle.rollmap.specs.Jobs.{Outcome, outcome, after, newParts, scheduled, hasRoom, scheduleQuestions, scheduleJob, ScheduledHere, LeftByScheduling}
+use Rattle.rollmap.specs.Jobs.{Outcome, outcome, after, newParts, scheduledFrom, scheduled, hasRoom, schedulingQuestions, schedulingJob, scheduleJob, ScheduledHere, LeftByScheduling}
 use Rattle.rollmap.specs.Jobs.{given, assembleQuestions, assembleJob, shownIn, viewJob, walksFrom, isShownJob}
 use Rattle.rollmap.specs.Answers.{answerOf, Gives}
 use Rattle.rollmap.specs.Parts.{Joins}
@@ -44,7 +43,7 @@ use Rattle.rollmap.specs.Demand3.{sheetValue, IsList, KeepsRules, shownB
 use Rattle.rollmap.specs.Lemmas.Given.{codes-right, given-right}
 use Rattle.rollmap.specs.Lemmas.Outcomes.{outcome-yes, outcome-number, all-yes, kept}
 use Rattle.rollmap.specs.Lemmas.Walking.{map-iff, map-asked, map-taken, walks-all}
-use Rattle.rollmap.specs.Lemmas.Scheduling.{sheet-long, room-asked}
+use Rattle.rollmap.specs.Lemmas.Scheduling.{sheet-long, there-room, room-asked, checks-passed}
 use Rattle.rollmap.specs.Lemmas.Scheduled.{later-same, count-same, new-fitting, good, marks-long, marks-bytes}
 -- ---- part 1 of an accepted sheet
 
@@ -78,36 +77,87 @@ module _ (g : List ℕ) (bytes : Bytes g) (ok : check g ≡ 0) where
       let parts : split (join (newParts (marksPart (split g)))) ≡ newParts (marksPart (split g)) = scheduled-parts in
       rw parts
 
+-- ---- marks as they stand
+
+-- Marks that pass 4 to 6.
+pub record Pass (marks : List ℕ) : Type 0 where
+  pub good : GoodMarks marks (markCount marks)
+  pub long : length marks ≡ 11 * markCount marks
+  pub bytes : Bytes marks
+
+-- The sheet of them alone is accepted, and scheduling it writes what it writes for them.
+module _ (marks : List ℕ) (pass : Pass marks) where
+  abbrev alone : List Part
+  alone = (1 holds marks) ∷ []
+
+  alone-fitting : Fitting alone
+  alone-fitting =
+      record {
+        marks = pass .good;
+        marks-long = pass .long;
+        schedule-long = λ e. absurd (false≢true e);
+        index-long = λ e. absurd (false≢true e);
+        schedule-right = λ e. absurd (false≢true e);
+        index-right = λ e. absurd (false≢true e);
+      }
+
+  pub alone-accepted : check (join alone) ≡ 0
+  alone-accepted = join-accepted alone (codes-right 1 refl) alone-fitting
+
+  pub alone-split : split (join alone) ≡ alone
+  alone-split = split-join alone (fitting-writable alone alone-fitting (codes-right 1 refl))
+
+  alone-bytes : Bytes (join alone)
+  alone-bytes =
+      join-bytes alone
+      (λ i. elim i [ zero ↦ pass .bytes | suc j ↦ (λ k. omega arith) ])
+
+  pub alone-scheduled : scheduled (join alone) ≡ scheduledFrom marks
+  unfolding scheduled
+  alone-scheduled = ap (λ (l : List Part). scheduledFrom (marksPart l)) alone-split
+
+  pub from-here : ScheduledHere (scheduledFrom marks)
+  from-here = record { given-sheet = join alone; bytes = alone-bytes; accepted = alone-accepted; written = sym alone-scheduled }
+
+  -- its parts
+  pub from-parts : split (scheduledFrom marks) ≡ newParts marks
+  from-parts =
+      ap split (sym alone-scheduled) ∙ scheduled-parts (join alone) alone-bytes alone-accepted
+      ∙ ap (λ (l : List Part). newParts (marksPart l)) alone-split
+
+pub here-accepted : (s : List ℕ) → ScheduledHere s → check s ≡ 0
+here-accepted s here = ap check (here .written) ∙ scheduled-accepted (here .given-sheet) (here .bytes) (here .accepted)
+
 -- ---- 'scheduled here' over the job
 
 -- what scheduling leaves where it answers 0
 module _ (g : List ℕ) (work : ℕ) (held : List ℕ) (answered : (scheduleJob g work (length held)) .number ≡ 0) where
   abbrev questions : List Question
-  questions = scheduleQuestions g work (length held)
+  questions = schedulingQuestions (checkQuestions g) (marksPart (split g)) work (length held)
 
   yes-to-all : answer questions ≡ 0
-  unfolding scheduleJob
+  unfolding schedulingJob scheduled
   yes-to-all = sym (outcome-number questions (length (scheduled g)) (scheduled g)) ∙ answered
 
   pub schedule-accepts : check g ≡ 0
-  unfolding scheduleQuestions check
-  schedule-accepts = append-iff (checkQuestions g) _ (check-numbered g) .0 yes-to-all .0
+  unfolding check
+  schedule-accepts = checks-passed (checkQuestions g) (check-numbered g) (marksPart (split g)) work (length held) yes-to-all
 
   pub schedule-leaves : take ((scheduleJob g work (length held)) .value) (after (scheduleJob g work (length held)) held) ≡ scheduled g
-  unfolding scheduleJob after over
+  unfolding schedulingJob scheduled after over
   schedule-leaves =
       rw (outcome-yes questions (length (scheduled g)) (scheduled g) yes-to-all) (take-append-seam (scheduled g) (drop (length (scheduled g)) held))
 
 -- Buffers of the right size are enough: the work buffer, and one of the sheet's own length.
 module _ (g : List ℕ) (bytes : Bytes g) (ok : check g ≡ 0) where
   pub schedule-answers : (scheduleJob g (32 * sheetCount g + 1024) (length (scheduled g))) .number ≡ 0
-  unfolding scheduleJob
+  unfolding schedulingJob scheduled check
   schedule-answers =
       let long = scheduled-length g bytes ok in
       let room : hasRoom (sheetCount g) (32 * sheetCount g + 1024) (length (scheduled g)) ≡ true =
-      both-iff (leb (32 * sheetCount g + 1024) _) _ .1 (le-leb (32 * sheetCount g + 1024) _ (omega arith), le-leb (27 * sheetCount g + 32) (length (scheduled g)) (omega (arith, long))) in
-      outcome-number (scheduleQuestions g (32 * sheetCount g + 1024) (length (scheduled g))) (length (scheduled g)) (scheduled g)
-      ∙ (room-asked g (32 * sheetCount g + 1024) (scheduled g) ok ∙ rw room)
+      there-room (sheetCount g) (32 * sheetCount g + 1024) (length (scheduled g)) (omega arith) (omega (arith, long)) in
+      outcome-number (schedulingQuestions (checkQuestions g) (marksPart (split g)) (32 * sheetCount g + 1024) (length (scheduled g))) (length (scheduled g)) (scheduled g)
+      ∙ (room-asked (checkQuestions g) (check-numbered g) (marksPart (split g)) (32 * sheetCount g + 1024) (length (scheduled g)) ok ∙ rw room)
 
 -- 01's words: "scheduled here if its bytes are those that scheduling, answering 0, writes for some sheet".
 pub here-iff : (s : List ℕ) → ScheduledHere s ↔ LeftByScheduling s
@@ -143,8 +193,8 @@ module _ (k : ℕ) (body1 body2 body3 : List ℕ) (room : ℕ) where
   pub assembled-reads : (assembleJob k body1 body2 body3 room) .number ≡ 0
       → (check ((assembleJob k body1 body2 body3 room) .written) ≡ 0) × (split ((assembleJob k body1 body2 body3 room) .written) ≡ handed)
   unfolding assembleJob assembleQuestions
-  assembled-reads zero =
-      let yes : answer (assembleQuestions k handed room) ≡ 0 = sym (outcome-number (assembleQuestions k handed room) (length (join handed)) (join handed)) ∙ zero in
+  assembled-reads z =
+      let yes : answer (assembleQuestions k handed room) ≡ 0 = sym (outcome-number (assembleQuestions k handed room) (length (join handed)) (join handed)) ∙ z in
       let a = asked-iff 1 (isCount k) _ (omega arith) .0 yes in
       let fits = parts-iff handed room .0 (a .1) .0 in
       let right = given-right k body1 body2 body3 (a .0) in
@@ -265,8 +315,8 @@ module _ (s : List ℕ) (e : Rectangle) (zoom : Zoom) (buffer : List ℕ) (taken
   shows = rw map-is (map-shows (shownIn s e zoom) (sheetCount s) _)
 
   ok : check s ≡ 0
-  unfolding viewQuestions check
-  ok = append-iff (checkQuestions s) _ (check-numbered s) .0 taken .0
+  unfolding viewQuestions
+  ok = indexed-iff s .0 (append-iff (indexedQuestions s) _ (indexed-numbered s) .0 taken .0) .0
 
   -- It is a map that can be walked.
   is-map : isMap map (sheetCount s) ≡ true
@@ -289,25 +339,37 @@ module _ (s : List ℕ) (e : Rectangle) (zoom : Zoom) (buffer : List ℕ) (taken
 
 -- ---- and so of what the calls answer and leave
 
+-- Of a job that schedules these marks, which pass 4 to 6 wherever its `checks` are passed.
+module _ (checks : List Question) (numbered : Numbered checks) (marks : List ℕ) (pass : answer checks ≡ 0 → Pass marks) where
+  pub scheduling-meets : (work : ℕ) (before : List ℕ) {r : Answer} {out : List ℕ}
+      → Gives (schedulingJob checks marks work (length before)) before r out → Meets marks r out
+  unfolding schedulingJob scheduled
+  scheduling-meets work before {r} {out} gives =
+      record {
+        accepted = λ z. rw (sheet z) (here-accepted (scheduledFrom marks) (here z));
+        here = λ z. rw (sheet z) (here z);
+        part1 = λ z. rw (sheet z) (ap marksPart (from-parts marks (pass (ok z))));
+        fresh = λ z g e. rw e (sheet z);
+        demand3 = λ z. rw (sheet z) (demand3 (scheduledFrom marks) (here z));
+      }
+    where
+      ok : r .number ≡ 0 → answer checks ≡ 0
+      ok z =
+          checks-passed checks numbered marks work (length before)
+          (all-yes (schedulingQuestions checks marks work (length before)) (length (scheduledFrom marks)) (scheduledFrom marks) before gives z)
+
+      here : r .number ≡ 0 → ScheduledHere (scheduledFrom marks)
+      here z = from-here marks (pass (ok z))
+
+      sheet : r .number ≡ 0 → take (r .value) out ≡ scheduledFrom marks
+      sheet z = kept (schedulingQuestions checks marks work (length before)) (scheduledFrom marks) before gives z
+
 pub schedule-meets : (g : List ℕ) (work : ℕ) (before : List ℕ) {r : Answer} {out : List ℕ} → Bytes g
-    → Gives (scheduleJob g work (length before)) before r out → Meets g r out
-unfolding scheduleJob
-schedule-meets g work before {r} {out} bytes gives =
-    record {
-      accepted = λ z. rw (sheet z) (scheduled-accepted g bytes (ok z));
-      here = λ z. rw (sheet z) (here z);
-      part1 = λ z. rw (sheet z) (part1-kept (scheduled g) (here z));
-      demand3 = λ z. rw (sheet z) (demand3 (scheduled g) (here z));
-    }
-  where
-    ok : r .number ≡ 0 → check g ≡ 0
-    ok z = schedule-accepts g work before (ap (λ (a : Answer). a .number) (sym (gives .answered)) ∙ z)
-
-    here : r .number ≡ 0 → ScheduledHere (scheduled g)
-    here z = record { given-sheet = g; bytes = bytes; accepted = ok z; written = refl }
-
-    sheet : r .number ≡ 0 → take (r .value) out ≡ scheduled g
-    sheet z = kept (scheduleQuestions g work (length before)) (scheduled g) before gives z
+    → Gives (scheduleJob g work (length before)) before r out → Meets (marksPart (split g)) r out
+unfolding check
+schedule-meets g work before bytes =
+    scheduling-meets (checkQuestions g) (check-numbered g) (marksPart (split g))
+    (λ ok. record { good = good g bytes ok; long = marks-long g bytes ok; bytes = marks-bytes g bytes ok }) work before
 
 pub view-meets : (s : List ℕ) (e : Rectangle) (zoom : Zoom) (before : List ℕ) {r : Answer} {map : List ℕ}
     → Gives (viewJob s e zoom (length before)) before r map → MeetsView s e zoom r map

@@ -9,11 +9,7 @@ use Rattle.bodies.specs.Questions.{markCount, part1Questions}
 use Rattle.logs.specs.Log.{recordCount}
 use Rattle.logs.specs.Questions.{logChecks}
 use Rattle.rollmap.specs.declared.Answer.{Answer}
-use Rattle.rollmap.specs.Jobs.{Outcome, logToMarksJob, marksToLogJob}
-
--- a job that answers 0 and writes these bytes
-abbrev pub wrote : List ℕ → Outcome
-wrote w = record { number = 0; value = length w; written = w }
+use Rattle.rollmap.specs.Jobs.{wrote, logToMarksJob, marksToLogJob}
 
 -- The marks `w` of the log `s`: as many as it has records, they pass 4 to 6, and "accepted logs come back byte for byte after both turns",
 -- wherever there is room for them.

@@ -5,12 +5,14 @@ use elimination::RECORD_SIZE;
 use index::INDEX_ENTRY_SIZE;
 use logs::LOG_RECORD_SIZE;
 use marks::MARK_SIZE;
+use marks::Mark;
 use sheet::Assembled;
 use view::Rectangle;
 use zoom::Scale;
 use zoom::Zoom;
 ghost use mathlib.Core.Path.{_≡_};
 ghost use mathlib.Core.Bool.{true};
+ghost use mathlib.Core.List.{[], _++_};
 ghost use Prim.Native.Nat.{_+_, _*_, _≤_};
 ghost use lib.ListN.{length, take};
 ghost use Rattle.lists.specs.Stores.{over};
@@ -19,20 +21,22 @@ ghost use Rattle.marks.specs.Good.{GoodMarks};
 ghost use Rattle.scheduling.specs.Filling.{workSize};
 ghost use Rattle.scheduling.specs.Behind.{reelIn};
 ghost use Rattle.indexing.specs.Buffer.{indexEnd};
-ghost use Rattle.contents.specs.Contents.{split, join};
+ghost use Rattle.changing.specs.Changing.{added, takenOut};
+ghost use Rattle.contents.specs.Contents.{split, marksPart, join};
 ghost use Rattle.contents.specs.Places.{layoutOf, placeOf, Located};
-ghost use Rattle.sheet.specs.Questions.{check};
+ghost use Rattle.sheet.specs.Questions.{check, question10};
 ghost use Rattle.sheet.specs.Opened.{opened, openParts};
 ghost use Rattle.zoom.specs.declared.Zoom.the-variants.{Stop, Wheel};
-ghost use Rattle.view.specs.Questions.{question10, question11, isMap};
-ghost use Rattle.rollmap.specs.Jobs.{checkJob, newParts, scheduledSize, hasRoom, scheduleJob, given, assembleJob, fillJob, logToMarksJob, marksToLogJob, viewJob, walkJob, isShownJob};
-ghost use Rattle.rollmap.specs.Answers.{refusal, answerOf, edges, Gives, Lent};
+ghost use Rattle.view.specs.Questions.{question11, isMap};
+ghost use Rattle.rollmap.specs.Jobs.{checkJob, scheduledFrom, scheduledSize, hasRoom, schedulingJob, scheduleJob, addJob, takeOutJob, given, assembleJob, fillJob, logToMarksJob, marksToLogJob, viewJob, walkJob, isShownJob};
+ghost use Rattle.rollmap.specs.Answers.{refusal, answerOf, edges, fields, Gives, Lent};
 ghost use Rattle.rollmap.specs.Parts.{Joins};
 ghost use Rattle.rollmap.specs.Demand3.{Meets, MeetsView};
+ghost use Rattle.rollmap.specs.Changed.{MeetsAdding};
 ghost use Rattle.rollmap.specs.Filled.{MeetsFilling};
 ghost use Rattle.rollmap.specs.Turned.{MeetsLog, MeetsMarks};
 ghost use Rattle.rollmap.specs.Stops.{MeetsStop};
-ghost use Rattle.rollmap.specs.Steps.{resultsOver, isIndexed, viewAt};
+ghost use Rattle.rollmap.specs.Steps.{resultsOver, viewAt};
 
 // What scheduling asks for, in bytes a mark and in bytes beside them: the work buffer, and the sheet of three parts with its contents.
 const WORK_EACH: usize = 32;
@@ -42,6 +46,9 @@ const WORK_BESIDE: usize = 1024;
 const SHEET_EACH: usize = 27;
 
 const SHEET_BESIDE: usize = 32;
+
+// The most marks that a sheet holds.
+const MOST_MARKS: usize = 4096;
 
 // What a call answers: 0 or the refusal's number, and the length, count or mark number asked for.
 #[repr(C)]
@@ -117,16 +124,17 @@ fn put_results(all: &mut [u8], work: &mut [u8], n: usize)
     indexing::build(all, work, n);
 }
 
-// Writes the scheduled sheet of the n marks that part 1 of an accepted sheet has.
-fn put_scheduled(marks: &[u8], work: &mut [u8], out: &mut [u8], n: usize)
-    requires { ⌜ GoodMarks (now marks) n × (length (now marks) ≡ markSize * n) ⌝ }
+// Writes the scheduled sheet of n marks, those of `head` and then those of `tail`: they are put together in `out` and scheduled there.
+fn put_scheduled(head: &[u8], tail: &[u8], work: &mut [u8], out: &mut [u8], n: usize)
+    requires { ⌜ GoodMarks (now head ++ now tail) n × (length (now head ++ now tail) ≡ markSize * n) ⌝ }
     requires { ⌜ (workSize n ≤ length (now work)) × (scheduledSize n ≤ length (now out)) ⌝ }
-    ensures { λ _. ⌜ now (out .exit) ≡ over (join (newParts (now (marks .entry)))) (now (out .entry)) ⌝ }
+    ensures { λ _. ⌜ now (out .exit) ≡ over (scheduledFrom (now (head .entry) ++ now (tail .entry))) (now (out .entry)) ⌝ }
 {
     let codes: [u16; 3] = [1, 2, 3];
-    let sizes = [marks.len(), RECORD_SIZE * n, INDEX_ENTRY_SIZE * n];
+    let sizes = [MARK_SIZE * n, RECORD_SIZE * n, INDEX_ENTRY_SIZE * n];
     let start = contents::put_contents(out, &codes, &sizes);
-    contents::put(out, start, marks);
+    let middle = contents::put(out, start, head);
+    contents::put(out, middle, tail);
     put_results(&mut out[start..], work, n);
 }
 
@@ -138,12 +146,29 @@ fn has_room(n: usize, work: usize, out: usize) -> bool
     WORK_EACH * n + WORK_BESIDE <= work && SHEET_EACH * n + SHEET_BESIDE <= out
 }
 
+// What is left of a job that schedules n marks, those of `head` and then those of `tail`, once its other questions are answered with yes: 13,
+// and then the sheet and its length.
+fn schedule_marks(head: &[u8], tail: &[u8], work: &mut [u8], out: &mut [u8], n: usize) -> Answer
+    requires { ⌜ GoodMarks (now head ++ now tail) n × (length (now head ++ now tail) ≡ markSize * n) ⌝ }
+    ensures { λ r. ⌜ Gives (schedulingJob [] (now (head .entry) ++ now (tail .entry)) (length (now (work .entry))) (length (now (out .entry)))) (now (out .entry)) r (now (out .exit)) ⌝ }
+    ensures { λ r. ⌜ Lent r (now (work .entry)) (now (work .exit)) ⌝ }
+{
+    if !has_room(n, work.len(), out.len()) {
+        return refused(13);
+    }
+    put_scheduled(head, tail, work, out, n);
+    Answer {
+        number: 0,
+        value: (SHEET_EACH * n + SHEET_BESIDE) as u32,
+    }
+}
+
 // Writes the sheet of three parts that a sheet's marks give, and answers its length: questions 1 to 9 and 13. What the work buffer holds
 // plays no part, and what it is left with after a success is not said. The written sheet meets demand 3.
 #[no_mangle]
 pub extern "C" fn rollmap_schedule(sheet: &[u8], work: &mut [u8], out: &mut [u8]) -> Answer
     ensures { λ r. ⌜ Gives (scheduleJob (now (sheet .entry)) (length (now (work .entry))) (length (now (out .entry)))) (now (out .entry)) r (now (out .exit)) ⌝ }
-    ensures { λ r. ⌜ Lent r (now (work .entry)) (now (work .exit)) × Meets (now (sheet .entry)) r (now (out .exit)) ⌝ }
+    ensures { λ r. ⌜ Lent r (now (work .entry)) (now (work .exit)) × Meets (marksPart (split (now (sheet .entry)))) r (now (out .exit)) ⌝ }
 {
     let found = sheet::opened(sheet);
     let number = found.number;
@@ -152,15 +177,77 @@ pub extern "C" fn rollmap_schedule(sheet: &[u8], work: &mut [u8], out: &mut [u8]
     }
     let layout = found.layout;
     let marks = contents::part(sheet, layout, 1);
+    schedule_marks(marks, &marks[..0], work, out, marks.len() / MARK_SIZE)
+}
+
+// ---- marks that come and go
+
+// Schedules a sheet's marks and one more, given by its fields, behind them: questions 1 to 10, 18, then 5 and 6 of the new mark, and 13. It is
+// the sheet that scheduling writes for the new marks; the sheet's own schedule plays no part.
+#[no_mangle]
+pub extern "C" fn rollmap_add(
+    sheet: &[u8],
+    x: i16,
+    y: i16,
+    radius: u16,
+    priority: u16,
+    kind: u8,
+    tag: u16,
+    work: &mut [u8],
+    out: &mut [u8],
+) -> Answer
+    ensures { λ r. ⌜ Gives (addJob (now (sheet .entry)) (fields x y radius priority kind tag) (length (now (work .entry))) (length (now (out .entry)))) (now (out .entry)) r (now (out .exit)) ⌝ }
+    ensures { λ r. ⌜ Lent r (now (work .entry)) (now (work .exit)) × Meets (added (marksPart (split (now (sheet .entry)))) (fields x y radius priority kind tag)) r (now (out .exit)) ⌝ }
+    ensures { λ r. ⌜ MeetsAdding (now (sheet .entry)) (fields x y radius priority kind tag) r (now (out .exit)) ⌝ }
+{
+    let found = sheet::indexed(sheet);
+    let number = found.number;
+    if number != 0 {
+        return refused(number);
+    }
+    let layout = found.layout;
+    let marks = contents::part(sheet, layout, 1);
     let n = marks.len() / MARK_SIZE;
-    if !has_room(n, work.len(), out.len()) {
-        return refused(13);
+    if MOST_MARKS <= n {
+        return refused(18);
     }
-    put_scheduled(marks, work, out, n);
-    Answer {
-        number: 0,
-        value: (SHEET_EACH * n + SHEET_BESIDE) as u32,
+    let wrong = bodies::fields_answer(kind, radius);
+    if wrong != 0 {
+        return refused(wrong);
     }
+    let last = marks::mark_bytes(Mark {
+        x,
+        y,
+        radius,
+        priority,
+        kind,
+        tag,
+    });
+    schedule_marks(marks, &last, work, out, n + 1)
+}
+
+// Schedules a sheet's marks without mark m, whereupon higher numbers drop by one: questions 1 to 10, 17 and 13. It is the sheet that scheduling
+// writes for the new marks.
+#[no_mangle]
+pub extern "C" fn rollmap_take_out(sheet: &[u8], m: u32, work: &mut [u8], out: &mut [u8]) -> Answer
+    ensures { λ r. ⌜ Gives (takeOutJob (now (sheet .entry)) m (length (now (work .entry))) (length (now (out .entry)))) (now (out .entry)) r (now (out .exit)) ⌝ }
+    ensures { λ r. ⌜ Lent r (now (work .entry)) (now (work .exit)) × Meets (takenOut (marksPart (split (now (sheet .entry)))) m) r (now (out .exit)) ⌝ }
+{
+    let found = sheet::indexed(sheet);
+    let number = found.number;
+    if number != 0 {
+        return refused(number);
+    }
+    let layout = found.layout;
+    let marks = contents::part(sheet, layout, 1);
+    let n = marks.len() / MARK_SIZE;
+    let gone = m as usize;
+    if n <= gone {
+        return refused(17);
+    }
+    let at = MARK_SIZE * gone;
+    let next = at + MARK_SIZE;
+    schedule_marks(&marks[..at], &marks[next..], work, out, n - 1)
 }
 
 // ---- filling
@@ -245,13 +332,6 @@ fn is_rectangle(e: Rectangle) -> bool
     (e.x0 <= e.x1) & (e.y0 <= e.y1)
 }
 
-// 10. Are parts 2 and 3 there?
-fn is_indexed(layout: Layout) -> bool
-    ensures { λ r. ⌜ r ≡ isIndexed layout ⌝ }
-{
-    contents::is_there(layout, 2) & contents::is_there(layout, 3)
-}
-
 // The view of an accepted sheet with parts 2 and 3 at z = k/64: question 13, and then the map and the count.
 fn view_at(sheet: &[u8], layout: Layout, rectangle: Rectangle, k: u32, map: &mut [u8]) -> Answer
     requires { ⌜ (check (now sheet) ≡ 0) × (layout ≡ layoutOf (now sheet)) × (question10 (split (now sheet)) ≡ true) × (k ≤ 65536) ⌝ }
@@ -274,15 +354,12 @@ fn view_at(sheet: &[u8], layout: Layout, rectangle: Rectangle, k: u32, map: &mut
 fn view(sheet: &[u8], rectangle: Rectangle, zoom: Zoom, map: &mut [u8]) -> Answer
     ensures { λ r. ⌜ Gives (viewJob (now (sheet .entry)) rectangle zoom (length (now (map .entry)))) (now (map .entry)) r (now (map .exit)) ⌝ }
 {
-    let found = sheet::opened(sheet);
+    let found = sheet::indexed(sheet);
     let number = found.number;
     if number != 0 {
         return refused(number);
     }
     let layout = found.layout;
-    if !is_indexed(layout) {
-        return refused(10);
-    }
     if !is_rectangle(rectangle) {
         return refused(11);
     }
@@ -332,7 +409,7 @@ pub extern "C" fn rollmap_view_wheel(
 fn is_map(map: &[u8], n: u32) -> bool
     ensures { λ r. ⌜ r ≡ isMap (now (map .entry)) n ⌝ }
 {
-    n <= 4096 && (n as usize + 7) / 8 <= map.len()
+    n as usize <= MOST_MARKS && (n as usize + 7) / 8 <= map.len()
 }
 
 // The least shown mark at or after `start` and below n, else 65,535.

@@ -1,17 +1,17 @@
 -- Rows of one width: each is found again, a list is its rows, and a loop writes them one by one. Assumes nothing.
-use Prim.Native.Nat.{ℕ, zero, suc, _+_, _*_, _^_, _<_, _≤_}
+use Prim.Native.Nat.{ℕ, zero, suc, _+_, _-_, _*_, _^_, _<_, _≤_}
 use mathlib.Core.Path.{_≡_, refl, sym, ap, ap₂, _∙_}
-use mathlib.Core.List.{List, [], _++_}
+use mathlib.Core.List.{List, [], _++_, append-nil}
 use native.Mathlib.Decide.{decLt}
 use native.Mathlib.Nat.{zero-add, mul-suc, mul-le-mul-left}
 use native.Mathlib.Numerals.{add-one}
 use native.Mathlib.Omega.{arith}
-use lib.ListN.{length, getD, take, drop, length-append, length-take, length-drop}
-use lib.Seq.{sets, take-append-le, drop-append-le, take-at, drop-at, take-all, take-add, take-take, drop-drop, length-take-le, getD-take, getD-drop}
+use lib.ListN.{length, getD, take, drop, take-append-drop, length-append, length-take, length-drop, drop-of-length-le}
+use lib.Seq.{sets, take-append-le, drop-append-le, drop-append-add, take-at, drop-at, take-all, take-add, take-take, drop-drop, length-take-le, getD-take, getD-drop}
 use Rattle.lists.specs.StoreLaws.{sets-append}
-use Rattle.numbers.specs.Little.{leAt, leBytes}
-use Rattle.numbers.specs.Laws.{le-length, le-drop, le-take, le-append, read-back}
-use Rattle.rows.specs.Rows.{rows}
+use Rattle.numbers.specs.Little.{leAt, leBytes, Bytes}
+use Rattle.numbers.specs.Laws.{bytes-take, bytes-drop, bytes-append, le-length, le-drop, le-take, le-append, read-back}
+use Rattle.rows.specs.Rows.{rows, rowAt, without}
 
 -- row i ends at or before row n
 within : (w i n : ℕ) → i < n → w * i + w ≤ w * n
@@ -52,6 +52,63 @@ module _ (row : ℕ → List ℕ) (w : ℕ) where
 
   pub rows-whole : (s : List ℕ) (n : ℕ) → length s ≡ w * n → ((i : ℕ) → i < n → row i ≡ take w (drop (w * i) s)) → rows row n ≡ s
   rows-whole s n e h = rows-take s n h ∙ take-all (w * n) s (omega arith)
+
+-- ---- rows behind rows, and a row taken out
+
+-- a row of the first of two lists
+front-row : (w i : ℕ) (s t : List ℕ) → w * i + w ≤ length s → rowAt w (s ++ t) i ≡ rowAt w s i
+front-row w i s t h =
+    let left : w ≤ length (drop (w * i) s) = simp length-drop (omega arith) in
+    rw (drop-append-le (w * i) s t (omega arith), take-append-le w (drop (w * i) s) t left)
+
+module _ (w : ℕ) (s : List ℕ) (n : ℕ) (long : length s ≡ w * n) where
+  -- what stands before a row that is put behind them
+  pub append-below : (t : List ℕ) (i : ℕ) → i < n → rowAt w (s ++ t) i ≡ rowAt w s i
+  append-below t i h = front-row w i s t (omega (arith, within w i n h, long))
+
+  -- which, taken out, leaves them
+  pub without-last : (t : List ℕ) → length t ≡ w → without w (s ++ t) n ≡ s
+  unfolding without
+  without-last t k =
+      let all : length (s ++ t) ≤ w * n + w = omega (arith, length-append s t) in
+      rw (take-at s t (w * n) long, drop-of-length-le (s ++ t) all, append-nil s)
+
+  module _ (m : ℕ) (low : m < n) where
+    abbrev front : List ℕ
+    front = take (w * m) s
+
+    abbrev behind : List ℕ
+    behind = drop (w * m + w) s
+
+    front-long : length front ≡ w * m
+    front-long = length-take-le (w * m) s (omega (arith, within w m n low, long))
+
+    pub without-length : length (without w s m) + w ≡ length s
+    unfolding without
+    without-length = omega (arith, length-append front behind, front-long, length-drop (w * m + w) s, within w m n low, long)
+
+    pub without-below : (i : ℕ) → i < m → rowAt w (without w s m) i ≡ rowAt w s i
+    unfolding without
+    without-below i h =
+        let room : w * i + w ≤ length front = omega (arith, within w i m h, front-long) in
+        front-row w i front behind room
+        ∙ sym (front-row w i front (drop (w * m) s) room)
+        ∙ ap (λ (l : List ℕ). rowAt w l i) (take-append-drop (w * m) s)
+
+    -- "higher numbers drop by one"
+    pub without-above : (i : ℕ) → m ≤ i → rowAt w (without w s m) i ≡ rowAt w s (suc i)
+    unfolding without
+    without-above i h =
+        let le : w * m ≤ w * i = mul-le-mul-left {m = m} {n = i} w h in
+        let past : w * i ≡ length front + (w * i - w * m) = omega (arith, front-long) in
+        let next : w * m + w + (w * i - w * m) ≡ w * suc i = omega (arith, mul-suc w i) in
+        ap (take w)
+        (ap (λ (k : ℕ). drop k (front ++ behind)) past ∙ drop-append-add front behind (w * i - w * m)
+        ∙ drop-drop (w * i - w * m) (w * m + w) s ∙ ap (λ (k : ℕ). drop k s) next)
+
+pub without-bytes : (w : ℕ) (s : List ℕ) (m : ℕ) → Bytes s → Bytes (without w s m)
+unfolding without
+without-bytes w s m b = bytes-append (take (w * m) s) (drop (w * m + w) s) (bytes-take (w * m) s b) (bytes-drop (w * m + w) s b)
 
 -- ---- fields of a row of w bytes, at `at`
 

@@ -5,10 +5,12 @@ use mathlib.Core.Bool.{true}
 use mathlib.Core.List.{List}
 use mathlib.Core.Logic.{_↔_}
 use lib.ListN.{length}
+use borrow.Author.Tests.{eq-eqb}
 use Rattle.numbers.specs.Little.{Bytes}
 use Rattle.contents.specs.Contents.{Part, codesOf, has, find, split, join, Writable}
 use Rattle.contents.specs.Asking.{answer}
 use Rattle.contents.specs.Questions.{codesRight}
+use Rattle.contents.specs.declared.Layout.{Layout}
 use Rattle.contents.specs.Places.{layoutOf, placeOf, isThere, cutOf, Located}
 use Rattle.contents.specs.Laws as Contents
 use Rattle.contents.specs.Laws.{Numbered}
@@ -16,9 +18,9 @@ use Rattle.bodies.specs.Questions.{bodyQuestions}
 use Rattle.bodies.specs.Fitting.{Fitting}
 use Rattle.bodies.specs.Laws.{fitting-iff, fitting-writable}
 use Rattle.sheet.specs.declared.Opening.{Opening}
-use Rattle.sheet.specs.Questions.{checkQuestions, check, partsQuestions}
+use Rattle.sheet.specs.Questions.{checkQuestions, check, question10, indexedQuestions, partsQuestions}
 use Rattle.sheet.specs.Accepted.{Accepted}
-use Rattle.sheet.specs.Opened.{opened, openParts}
+use Rattle.sheet.specs.Opened.{openedAt, opened, indexed, openParts}
 use Rattle.sheet.specs.Lemmas.Accepting as Accepting
 use Rattle.sheet.specs.Lemmas.Opened as Opened
 
@@ -26,11 +28,18 @@ use Rattle.sheet.specs.Lemmas.Opened as Opened
 pub check-numbered : (s : List ℕ) → Numbered (checkQuestions s)
 check-numbered = Accepting.check-numbered
 
+pub indexed-numbered : (s : List ℕ) → Numbered (indexedQuestions s)
+indexed-numbered = Accepting.indexed-numbered
+
 -- ---- what the answer 0 says
 
 -- 1 to 9
 pub accepted-iff : (s : List ℕ) → (check s ≡ 0) ↔ Accepted s
 accepted-iff = Accepting.accepted-iff
+
+-- 1 to 10
+pub indexed-iff : (s : List ℕ) → (answer (indexedQuestions s) ≡ 0) ↔ ((check s ≡ 0) × (question10 (split s) ≡ true))
+indexed-iff = Accepting.indexed-iff
 
 -- 4 to 9 and 13, of parts that are put together
 pub parts-iff : (parts : List Part) (room : ℕ) → (answer (partsQuestions parts room) ≡ 0) ↔ (Fitting parts × (length (join parts) ≤ room))
@@ -42,6 +51,14 @@ parts-iff = Accepting.parts-iff
 pub opened-accepted : (s : List ℕ) → check s ≡ 0 → (opened s) .layout ≡ layoutOf s
 opened-accepted = Opened.opened-accepted
 
+-- the parts by the layout of an accepted sheet
+module _ {layout : Layout} (s : List ℕ) (ok : check s ≡ 0) (is : layout ≡ layoutOf s) where
+  pub layout-part : (code : ℕ) → cutOf s (placeOf layout code) ≡ find (split s) code
+  layout-part code = rw is (Contents.layout-part s (accepted-iff s .0 ok .laid) code)
+
+  pub layout-there : (code : ℕ) → isThere layout code ≡ has (split s) code
+  layout-there code = rw is (Contents.layout-there s (accepted-iff s .0 ok .laid) code)
+
 -- what a caller of `opened` knows of what it found
 module _ {found : Opening} (s : List ℕ) (is : found ≡ opened s) where
   pub found-number : found .number ≡ check s
@@ -52,10 +69,17 @@ module _ {found : Opening} (s : List ℕ) (is : found ≡ opened s) where
   found-layout ok = rw is (opened-accepted s ok)
 
   pub found-part : check s ≡ 0 → (code : ℕ) → cutOf s (placeOf (found .layout) code) ≡ find (split s) code
-  found-part ok code = rw (found-layout ok) (Contents.layout-part s (accepted-iff s .0 ok .laid) code)
+  found-part ok = layout-part s ok (found-layout ok)
 
-  pub found-there : check s ≡ 0 → (code : ℕ) → isThere (found .layout) code ≡ has (split s) code
-  found-there ok code = rw (found-layout ok) (Contents.layout-there s (accepted-iff s .0 ok .laid) code)
+-- and a caller of `indexed`
+module _ {found : Opening} (s : List ℕ) (is : found ≡ indexed s) where
+  pub indexed-number : found .number ≡ answer (indexedQuestions s)
+  unfolding indexed
+  indexed-number = rw is
+
+  pub indexed-layout : answer (indexedQuestions s) ≡ 0 → found .layout ≡ layoutOf s
+  unfolding indexed
+  indexed-layout ok = rw (is, eq-eqb (answer (indexedQuestions s)) 0 ok)
 
 -- What an opened sheet's readers give are the sheet's parts, and none of a refused sheet.
 pub opened-count : (s : List ℕ) → (opened s) .layout .count ≡ length (openParts s)

@@ -1,9 +1,10 @@
 -- The questions of a whole sheet, and the jobs that ask them: checking a sheet and putting parts together.
 use Prim.Native.Nat.{ℕ}
+use mathlib.Core.Bool.{Bool, _&&_}
 use mathlib.Core.List.{List, [], _∷_, _++_}
 use lib.ListN.{length}
 use lib.Dec.{leb}
-use Rattle.contents.specs.Contents.{Part, split, join}
+use Rattle.contents.specs.Contents.{Part, has, split, join}
 use Rattle.contents.specs.Asking.{Question, _asks_, answer}
 use Rattle.contents.specs.Questions.{contentsQuestions}
 use Rattle.bodies.specs.Questions.{countOf, bodyQuestions}
@@ -15,6 +16,14 @@ checkQuestions s = contentsQuestions s ++ bodyQuestions (split s)
 -- The number that checking a sheet answers; a sheet is accepted where that is 0.
 unfoldable pub check : List ℕ → ℕ
 check s = answer (checkQuestions s)
+
+-- 10. "Are parts 2 and 3 there?"
+unfoldable pub question10 : List Part → Bool
+question10 parts = has parts 2 && has parts 3
+
+-- 1 to 10, of a sheet that is viewed or changed
+unfoldable pub indexedQuestions : List ℕ → List Question
+indexedQuestions s = checkQuestions s ++ ((10 asks question10 (split s)) ∷ [])
 
 -- n: how many marks a sheet has
 abbrev pub sheetCount : List ℕ → ℕ

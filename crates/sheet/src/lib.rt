@@ -9,7 +9,7 @@ ghost use Rattle.contents.specs.Contents.{together};
 ghost use Rattle.contents.specs.Questions.{codesRight};
 ghost use Rattle.contents.specs.Places.{placeOf, cutOf};
 ghost use Rattle.sheet.specs.Questions.{check};
-ghost use Rattle.sheet.specs.Opened.{opened};
+ghost use Rattle.sheet.specs.Opened.{opened, indexed};
 ghost use Rattle.sheet.specs.Assembled.{Assembling};
 
 // ---- checking
@@ -58,7 +58,7 @@ pub fn assemble(codes: &[u16], bodies: &[&[u8]], out: &mut [u8]) -> Assembled
 
 // ---- the opened sheet
 
-// What opening a sheet finds: the number that checking answers, and where the parts lie: none where it is refused.
+// What opening a sheet finds: the number that its questions answer, and where the parts lie: none where it is refused.
 pub struct Opening {
     pub number: u32,
     pub layout: Layout,
@@ -77,6 +77,26 @@ pub fn opened(s: &[u8]) -> Opening
     }
     let layout = contents::layout_of(s);
     Opening { number, layout }
+}
+
+// 1 to 10: an accepted sheet that lacks part 2 or part 3 is refused too.
+pub fn indexed(s: &[u8]) -> Opening
+    ensures { λ r. ⌜ r ≡ indexed (now (s .entry)) ⌝ }
+{
+    let found = opened(s);
+    let number = found.number;
+    if number != 0 {
+        return found;
+    }
+    let layout = found.layout;
+    if contents::is_there(layout, 2) & contents::is_there(layout, 3) {
+        return Opening { number, layout };
+    }
+    let none = contents::no_parts();
+    Opening {
+        number: 10,
+        layout: none,
+    }
 }
 
 // Where the parts of a sheet lie.

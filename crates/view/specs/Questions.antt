@@ -1,4 +1,4 @@
--- Questions 10 to 13, and the jobs that ask them: viewing and walking.
+-- Questions 11 to 13, and the jobs that ask them: viewing and walking.
 use Prim.Native.Nat.{ℕ}
 use mathlib.Core.Bool.{Bool, _&&_}
 use mathlib.Core.List.{List, [], _∷_, _++_}
@@ -9,15 +9,10 @@ use Rattle.zoom.specs.declared.Zoom.{Zoom}
 use Rattle.zoom.specs.declared.Scale.{Scale}
 use Rattle.zoom.specs.declared.Scale.the-variants.{Taken, Refused}
 use Rattle.zoom.specs.Zoom.{scaleOf}
-use Rattle.contents.specs.Contents.{Part, split, has}
 use Rattle.contents.specs.Asking.{Question, _asks_}
-use Rattle.sheet.specs.Questions.{checkQuestions, sheetCount}
+use Rattle.sheet.specs.Questions.{indexedQuestions, sheetCount}
 use Rattle.view.specs.declared.Rectangle.{Rectangle}
 use Rattle.bitmap.specs.Map.{mapSize}
-
--- 10. "Are parts 2 and 3 there?"
-unfoldable pub question10 : List Part → Bool
-question10 parts = has parts 2 && has parts 3
 
 -- 11. "Is x0 ≤ x1 and y0 ≤ y1?"
 unfoldable pub question11 : Rectangle → Bool
@@ -34,9 +29,8 @@ isTaken r = eqb (scaleNumber r) 0
 -- "viewing 1 to 13". `room` is the length of the lent map.
 unfoldable pub viewQuestions : List ℕ → Rectangle → Zoom → ℕ → List Question
 viewQuestions s e zoom room =
-    checkQuestions s
-    ++ ((10 asks question10 (split s))
-    ∷ (11 asks question11 e)
+    indexedQuestions s
+    ++ ((11 asks question11 e)
     ∷ (12 asks isTaken (scaleOf zoom))
     ∷ (13 asks leb (mapSize (sheetCount s)) room)
     ∷ [])

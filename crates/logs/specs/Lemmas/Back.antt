@@ -10,17 +10,18 @@ use lib.Seq.{drop-cons}
 use borrow.Author.Tests.{le-leb}
 use Rattle.numbers.specs.Little.{leAt, leBytes, signed, Bytes}
 use Rattle.numbers.specs.Laws.{le-length, le-bound, write-back}
-use Rattle.marks.specs.Marks.{xAt, yAt, isRadius}
+use Rattle.marks.specs.Marks.{xAt, yAt, placeBits, isRadius}
 use Rattle.marks.specs.Good.{GoodMark, GoodMarks}
 use Rattle.marks.specs.Laws.{used-bound}
+use Rattle.marks.specs.FieldLaws.{bits-bound, signed-bits, bits-signed}
 use Rattle.rows.specs.Rows.{rows}
 use Rattle.rows.specs.Laws.{rows-length, rows-at, rows-whole, field-le, field-get, le-found, Pieces, pieces-of, pieces}
 use Rattle.bodies.specs.Questions.{markCount}
 use Rattle.logs.specs.Packed.{isPlace, packed}
-use Rattle.logs.specs.Log.{recordCount, coordinateAt, placeBits, markOfRecord, recordOfMark}
+use Rattle.logs.specs.Log.{recordCount, coordinateAt, markOfRecord, recordOfMark}
 use Rattle.logs.specs.Questions.{packedAt}
 use Rattle.logs.specs.Right.{PlaceRight, RecordRight, LogRight}
-use Rattle.logs.specs.Lemmas.Packed.{packed-back, packed-read, place-short, bits-bound, signed-bits, bits-signed, signed-place}
+use Rattle.logs.specs.Lemmas.Packed.{packed-back, packed-read, place-mag, place-short, signed-place}
 use Rattle.logs.specs.Lemmas.Writing.{packed-length, mark-length, record-length}
 
 -- ---- a coordinate that is found
@@ -95,14 +96,14 @@ module _ (s : List ℕ) (n : ℕ) (right : LogRight s n) where
     x-again : packed (xAt marks i) ≡ take 3 (drop (13 * i) s)
     x-again =
         let p = right .each i l .x in
-        ap (λ (u : ℕ). packed (signed 2 u)) (le-found 2 marks (11 * i) (placeBits x) (bits-bound x (p .place)) (found .first))
-        ∙ ap packed (signed-bits x (p .place)) ∙ packed-back _ _ _ (p .packed) ∙ three s (13 * i) (omega (arith, right .long))
+        ap (λ (u : ℕ). packed (signed 2 u)) (le-found 2 marks (11 * i) (placeBits x) (bits-bound x (place-mag x (p .place))) (found .first))
+        ∙ ap packed (signed-bits x (place-mag x (p .place))) ∙ packed-back _ _ _ (p .packed) ∙ three s (13 * i) (omega (arith, right .long))
 
     y-again : packed (yAt marks i) ≡ take 3 (drop (13 * i + 3) s)
     y-again =
         let p = right .each i l .y in
-        ap (λ (u : ℕ). packed (signed 2 u)) (le-found 2 marks (11 * i + 2) (placeBits y) (bits-bound y (p .place)) (found .second))
-        ∙ ap packed (signed-bits y (p .place)) ∙ packed-back _ _ _ (p .packed) ∙ three s (13 * i + 3) (omega (arith, right .long))
+        ap (λ (u : ℕ). packed (signed 2 u)) (le-found 2 marks (11 * i + 2) (placeBits y) (bits-bound y (place-mag y (p .place))) (found .second))
+        ∙ ap packed (signed-bits y (place-mag y (p .place))) ∙ packed-back _ _ _ (p .packed) ∙ three s (13 * i + 3) (omega (arith, right .long))
 
     record-again : recordOfMark marks i ≡ take 13 (drop (13 * i) s)
     record-again = ap₂ _++_ x-again (ap₂ _++_ y-again (found .third)) ∙ pieces s (13 * i) 3 3 7

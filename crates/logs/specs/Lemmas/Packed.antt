@@ -12,7 +12,8 @@ use borrow.Author.Tests.{leb-true, eqb-true, lt-ltb, le-ltb, le-leb, lt-leb, eq-
 use Rattle.lists.specs.TestLaws.{both-iff}
 use Rattle.numbers.specs.Little.{signed}
 use Rattle.logs.specs.Packed.{magnitude, isMinus, withSign, packedValue, areDigits, isLast, isPacked, isPlace, packedOf, packed}
-use Rattle.logs.specs.Log.{coordinateAt, placeBits}
+use Rattle.marks.specs.Marks.{placeBits}
+use Rattle.logs.specs.Log.{coordinateAt}
 use Rattle.logs.specs.Questions.{packedAt}
 
 -- ---- the tests as statements
@@ -138,7 +139,7 @@ minus-of : (c : ℕ) {sign : ℕ} → c % 16 ≡ sign → isMinus c ≡ eqb sign
 unfolding isMinus
 minus-of c e = rw e
 
-place-mag : (z : ℤ) → isPlace z ≡ true → mag z < 32768
+pub place-mag : (z : ℤ) → isPlace z ≡ true → mag z < 32768
 unfolding isPlace
 place-mag (pos n) e = omega (arith, leb-true n 32767 e)
 place-mag (negsuc n) e = omega (arith, leb-true n 32767 (both-iff (leb n 32767) true .0 e .0))
@@ -170,26 +171,6 @@ packed-read (negsuc n) e =
     (rw (digits-made (suc n) 13 small (omega arith), l, m, g, eqb·suc-zero n), rw (m, g))
 
 -- ---- places as 16 bits
-
-pub bits-bound : (z : ℤ) → isPlace z ≡ true → placeBits z < 65536
-unfolding placeBits
-bits-bound (pos n) e = omega (arith, place-mag (pos n) e)
-bits-bound (negsuc n) e = omega arith
-
-pub signed-bits : (z : ℤ) → isPlace z ≡ true → signed 2 (placeBits z) ≡ z
-unfolding placeBits
-signed-bits (pos n) e = rw (lt-ltb n 32768 (place-mag (pos n) e))
-signed-bits (negsuc n) e =
-    let h = place-mag (negsuc n) e in
-    rw (le-ltb (65535 - n) 32768 (omega arith)) (ap negsuc (omega arith))
-
-pub bits-signed : (u : ℕ) → u < 65536 → placeBits (signed 2 u) ≡ u
-unfolding placeBits
-bits-signed u h =
-    elim (decLt u 32768) [
-      | yes l ↦ rw (lt-ltb u 32768 l)
-      | no l ↦ rw (le-ltb u 32768 (omega arith)) (omega arith)
-    ]
 
 pub signed-place : (u : ℕ) → u < 65536 → isPlace (signed 2 u) ≡ true
 signed-place u h =

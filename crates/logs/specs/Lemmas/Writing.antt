@@ -11,7 +11,8 @@ use Rattle.numbers.specs.Laws.{le-length}
 use Rattle.marks.specs.Marks.{xAt, yAt}
 use Rattle.rows.specs.Laws.{cut-length, pieces-sets}
 use Rattle.logs.specs.Packed.{signOf, packedOf, packed}
-use Rattle.logs.specs.Log.{coordinateAt, placeBits, markOfRecord, recordOfMark}
+use Rattle.marks.specs.Marks.{placeBits}
+use Rattle.logs.specs.Log.{coordinateAt, markOfRecord, recordOfMark}
 
 pub packed-length : (m sign : ℕ) → length (packedOf m sign) ≡ 3
 unfolding packedOf

@@ -4,7 +4,7 @@ use mathlib.Core.Path.{_≡_, refl, sym, ap, _∙_}
 use mathlib.Core.Bool.{true, false, cond}
 use mathlib.Core.List.{List, [], _∷_, _++_, append-nil, append-assoc}
 use native.Mathlib.Omega.{arith}
-use borrow.Author.Tests.{leb-true}
+use borrow.Author.Tests.{leb-true, le-leb}
 use borrow.Rule.Slice.PartMut.{midOf, putMid}
 use lib.Dec.{leb}
 use lib.ListN.{length, getD, take, drop, length-append, length-drop, drop-of-length-le}
@@ -17,14 +17,12 @@ use Rattle.elimination.specs.Schedule.{schedule-length}
 use Rattle.index.specs.Index.{indexOf, indexBytes}
 use Rattle.index.specs.Laws as Index
 use Rattle.indexing.specs.Buffer.{withIndex}
-use Rattle.contents.specs.Contents.{split, contentsOf, chain, join, marksPart}
-use Rattle.contents.specs.Asking.{answer}
-use Rattle.contents.specs.Laws.{append-yes, append-no, contents-length}
+use Rattle.contents.specs.Contents.{contentsOf, chain, join}
+use Rattle.contents.specs.Asking.{Question, answer}
+use Rattle.contents.specs.Laws.{Numbered, none-asked, append-yes, append-no, append-iff, contents-length}
 use Rattle.bodies.specs.Questions.{markCount}
-use Rattle.sheet.specs.Questions.{sheetCount, checkQuestions, check}
-use Rattle.sheet.specs.Laws.{check-numbered, accepted-iff}
 use Rattle.rollmap.specs.declared.Answer.{Answer}
-use Rattle.rollmap.specs.Jobs.{newParts, scheduled, hasRoom, scheduleQuestions, scheduleJob}
+use Rattle.rollmap.specs.Jobs.{outcome, newParts, scheduledFrom, hasRoom, schedulingQuestions, schedulingJob}
 use Rattle.rollmap.specs.Answers.{refusal, Gives}
 use Rattle.rollmap.specs.Steps.{resultsOver}
 use Rattle.rollmap.specs.Lemmas.Outcomes.{refused-gives, written-gives}
@@ -71,10 +69,10 @@ module _ (s : List ℕ) (n : ℕ) (few : n ≤ 4096) (long : length s ≡ 11 * n
   codes = 1 ∷ 2 ∷ 3 ∷ []
 
   abbrev sizes : List ℕ
-  sizes = length s ∷ 14 * n ∷ 2 * n ∷ []
+  sizes = 11 * n ∷ 14 * n ∷ 2 * n ∷ []
 
   pub size-small : (i : ℕ) → getD sizes i 0 < 4294967296
-  size-small zero = omega (arith, few, long)
+  size-small zero = omega (arith, few)
   size-small (suc zero) = omega (arith, few)
   size-small (suc (suc zero)) = omega (arith, few)
   size-small (suc (suc (suc i))) = omega arith
@@ -90,6 +88,7 @@ module _ (s : List ℕ) (n : ℕ) (few : n ≤ 4096) (long : length s ≡ 11 * n
   sheet-is =
       rw (
         count-is,
+        long,
         schedule-length (record { marks = s; count = n }),
         index-long s n few,
         append-nil (indexBytes (indexOf s (scheduleOf (record { marks = s; count = n })) n)),
@@ -106,12 +105,14 @@ module _ (s : List ℕ) (n : ℕ) (few : n ≤ 4096) (long : length s ≡ 11 * n
   sheet-long = rw sheet-is (omega (arith, length-append start results, start-long, results-long))
 
   module _ (o₀ : List ℕ) (room : 27 * n + 32 ≤ length o₀) where
-    -- the contents and part 1
-    pub begun : {o₁ o₂ : List ℕ} → o₁ ≡ sets o₀ 0 (contentsOf codes sizes) → o₂ ≡ sets o₁ 32 s → o₂ ≡ start ++ drop (11 * n + 32) o₀
+    -- the contents, and part 1 in two pieces
+    pub begun : (head tail : List ℕ) → s ≡ head ++ tail → {o₁ o₂ o₃ : List ℕ} → o₁ ≡ sets o₀ 0 (contentsOf codes sizes) → o₂ ≡ sets o₁ 32 head
+        → o₃ ≡ sets o₂ (32 + length head) tail → o₃ ≡ start ++ drop (11 * n + 32) o₀
     unfolding over
-    begun e f =
+    begun head tail are {o₁} {o₂} {o₃} e f g =
+        let b : o₃ ≡ sets o₁ 32 s = rw (g, f, are) (sym (sets-append o₁ 32 head tail)) in
         let a : sets o₀ 0 start ≡ sets (sets o₀ 0 (contentsOf codes sizes)) 32 s = rw (contents-length codes sizes refl) at (sets-append o₀ 0 (contentsOf codes sizes) s) in
-        rw (f, e, ← a, over-sets start o₀ (omega (arith, start-long, room)), start-long)
+        rw (b, e, ← a, over-sets start o₀ (omega (arith, start-long, room)), start-long)
 
     -- what a call is lent that is lent all but the contents
     module _ (from k : ℕ) {o₂ : List ℕ} (from-is : from ≡ 32) (k-is : k ≡ length o₂ - from) (o-is : o₂ ≡ start ++ drop (11 * n + 32) o₀) where
@@ -164,29 +165,46 @@ room-there n work room e =
     let p = both-iff (leb (32 * n + 1024) work) (leb (27 * n + 32) room) .0 e in
     (leb-true (32 * n + 1024) work (p .0), leb-true (27 * n + 32) room (p .1))
 
-module _ (s : List ℕ) (work : ℕ) (buffer : List ℕ) where
-  pub schedule-refused : {r : Answer} → 0 < check s → r ≡ refusal (check s) → Gives (scheduleJob s work (length buffer)) buffer r buffer
-  unfolding scheduleJob scheduleQuestions check
-  schedule-refused some is =
-      refused-gives (scheduleQuestions s work (length buffer)) (length (scheduled s)) (scheduled s) buffer (check s) (append-no (checkQuestions s) _ (check-numbered s) some) some is
+pub there-room : (n work room : ℕ) → 32 * n + 1024 ≤ work → 27 * n + 32 ≤ room → hasRoom n work room ≡ true
+there-room n work room p q =
+    both-iff (leb (32 * n + 1024) work) (leb (27 * n + 32) room) .1 (le-leb (32 * n + 1024) work p, le-leb (27 * n + 32) room q)
 
-  module _ (ok : check s ≡ 0) where
-    pub room-asked : answer (scheduleQuestions s work (length buffer)) ≡ cond (hasRoom (sheetCount s) work (length buffer)) 0 13
-    unfolding scheduleQuestions check answer
-    room-asked = append-yes (checkQuestions s) _ (check-numbered s) ok
+-- a job that asks `checks` before 13
+module _ (checks : List Question) (numbered : Numbered checks) (marks : List ℕ) (work : ℕ) where
+  pub room-asked : (room : ℕ) → answer checks ≡ 0 → answer (schedulingQuestions checks marks work room) ≡ cond (hasRoom (markCount marks) work room) 0 13
+  unfolding schedulingQuestions answer
+  room-asked room e = append-yes checks _ numbered e
 
-    pub schedule-no-room : {r : Answer} → hasRoom (sheetCount s) work (length buffer) ≡ false → r ≡ refusal 13
-        → Gives (scheduleJob s work (length buffer)) buffer r buffer
-    unfolding scheduleJob
-    schedule-no-room short is =
-        refused-gives (scheduleQuestions s work (length buffer)) (length (scheduled s)) (scheduled s) buffer 13 (rw short at room-asked) (omega arith) is
+  pub checks-passed : (room : ℕ) → answer (schedulingQuestions checks marks work room) ≡ 0 → answer checks ≡ 0
+  unfolding schedulingQuestions
+  checks-passed room e = append-iff checks _ numbered .0 e .0
 
-    pub schedule-written : {r : Answer} → hasRoom (sheetCount s) work (length buffer) ≡ true
-        → r ≡ record { number = 0; value = 27 * sheetCount s + 32 }
-        → {left : List ℕ} → left ≡ over (join (newParts (marksPart (split s)))) buffer
-        → Gives (scheduleJob s work (length buffer)) buffer r left
-    unfolding scheduleJob scheduled
-    schedule-written room is bytes =
-        let fit = accepted-iff s .0 ok .fitting in
-        written-gives (scheduleQuestions s work (length buffer)) (length (scheduled s)) (scheduled s) buffer (rw room at room-asked)
-        (rw (sheet-long (marksPart (split s)) (sheetCount s) (fit .marks .few) (fit .marks-long)) is) bytes
+  pub stopped : (buffer : List ℕ) {r : Answer} {number : ℕ} → number ≡ answer checks → 0 < number → r ≡ refusal number
+      → Gives (schedulingJob checks marks work (length buffer)) buffer r buffer
+  unfolding schedulingJob schedulingQuestions
+  stopped buffer {r} {number} e some is =
+      refused-gives (schedulingQuestions checks marks work (length buffer)) (length (scheduledFrom marks)) (scheduledFrom marks) buffer number
+      (append-no checks _ numbered (omega arith) ∙ sym e) some is
+
+-- once these are answered with yes, 13 is all that is left to ask
+pub passed : (checks : List Question) → Numbered checks → (marks : List ℕ) (work room : ℕ) → answer checks ≡ 0
+    → schedulingJob checks marks work room ≡ schedulingJob [] marks work room
+unfolding schedulingJob outcome
+passed checks numbered marks work room e = rw (room-asked checks numbered marks work room e, room-asked [] tt marks work room none-asked)
+
+-- and the job that asks 13 alone, of n marks
+module _ (s : List ℕ) (n : ℕ) (few : n ≤ 4096) (long : length s ≡ 11 * n) (work : ℕ) (buffer : List ℕ) where
+  last-asked : answer (schedulingQuestions [] s work (length buffer)) ≡ cond (hasRoom n work (length buffer)) 0 13
+  last-asked = rw (count-is s n few long) at (room-asked [] tt s work (length buffer) none-asked)
+
+  pub no-room : {r : Answer} → hasRoom n work (length buffer) ≡ false → r ≡ refusal 13 → Gives (schedulingJob [] s work (length buffer)) buffer r buffer
+  unfolding schedulingJob
+  no-room short is =
+      refused-gives (schedulingQuestions [] s work (length buffer)) (length (scheduledFrom s)) (scheduledFrom s) buffer 13 (rw short at last-asked) (omega arith) is
+
+  pub sheet-written : {r : Answer} → hasRoom n work (length buffer) ≡ true → r ≡ record { number = 0; value = 27 * n + 32 }
+      → {left : List ℕ} → left ≡ over (scheduledFrom s) buffer → Gives (schedulingJob [] s work (length buffer)) buffer r left
+  unfolding schedulingJob
+  sheet-written room is bytes =
+      written-gives (schedulingQuestions [] s work (length buffer)) (length (scheduledFrom s)) (scheduledFrom s) buffer (rw room at last-asked)
+      (rw (sheet-long s n few long) is) bytes

@@ -12,9 +12,9 @@ use Rattle.logs.specs.Log.{recordCount, marksOfLog, logOfMarks}
 use Rattle.logs.specs.Questions.{logChecks, logQuestions, marksQuestions}
 use Rattle.logs.specs.Theorems.{log-numbered, log-right, marks-length, marks-count, log-marks, log-again, log-count, marks-log, marks-again, log-length}
 use Rattle.rollmap.specs.declared.Answer.{Answer}
-use Rattle.rollmap.specs.Jobs.{logToMarksJob, marksToLogJob}
+use Rattle.rollmap.specs.Jobs.{wrote, logToMarksJob, marksToLogJob}
 use Rattle.rollmap.specs.Answers.{Gives}
-use Rattle.rollmap.specs.Turned.{wrote, LogTurned, MarksTurned, MeetsLog, MeetsMarks}
+use Rattle.rollmap.specs.Turned.{LogTurned, MarksTurned, MeetsLog, MeetsMarks}
 use Rattle.rollmap.specs.Lemmas.Outcomes.{outcome-yes}
 use Rattle.rollmap.specs.Lemmas.Rooms.{with-room, passed, counted}
 

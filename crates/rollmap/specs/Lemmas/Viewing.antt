@@ -1,6 +1,6 @@
 -- Viewing: each way out answers as the job says. Assumes nothing.
 use Prim.Native.Nat.{ℕ, _<_, _≤_}
-use mathlib.Core.Path.{_≡_, _∙_}
+use mathlib.Core.Path.{_≡_, sym, _∙_}
 use mathlib.Core.Bool.{Bool, true, false}
 use mathlib.Core.List.{List, [], _∷_}
 use native.Mathlib.Omega.{arith}
@@ -12,10 +12,8 @@ use Rattle.lists.specs.TestLaws.{both-iff}
 use Rattle.contents.specs.Contents.{has, split, marksPart, schedulePart, indexPart}
 use Rattle.contents.specs.Asking.{Question, _asks_, answer}
 use Rattle.contents.specs.Laws.{append-yes, append-no}
-use Rattle.sheet.specs.Questions.{sheetCount, checkQuestions, check}
-use Rattle.sheet.specs.declared.Opening.{Opening}
-use Rattle.sheet.specs.Opened.{opened}
-use Rattle.sheet.specs.Laws.{check-numbered, accepted-iff, found-there}
+use Rattle.sheet.specs.Questions.{sheetCount, check, question10, indexedQuestions}
+use Rattle.sheet.specs.Laws.{indexed-numbered, accepted-iff}
 use Rattle.bitmap.specs.Map.{mapSize, mapBytes, countShown}
 use Rattle.bitmap.specs.Laws.{map-length}
 use Rattle.zoom.specs.declared.Zoom.{Zoom}
@@ -24,11 +22,11 @@ use Rattle.zoom.specs.Zoom.{scaleOf}
 use Rattle.view.specs.declared.Rectangle.{Rectangle}
 use Rattle.view.specs.Shown.{shown}
 use Rattle.view.specs.View.{Viewable, Viewed}
-use Rattle.view.specs.Questions.{question10, question11, isTaken, viewQuestions}
+use Rattle.view.specs.Questions.{question11, isTaken, viewQuestions}
 use Rattle.rollmap.specs.declared.Answer.{Answer}
 use Rattle.rollmap.specs.Jobs.{outcome, shownIn, viewJob}
 use Rattle.rollmap.specs.Answers.{refusal, Gives}
-use Rattle.rollmap.specs.Steps.{isIndexed, viewAt}
+use Rattle.rollmap.specs.Steps.{viewAt}
 use Rattle.rollmap.specs.Lemmas.Outcomes.{refused-gives, written-gives}
 
 -- ---- question 13, the map and the count
@@ -53,8 +51,7 @@ module _ (s : List ℕ) (e : Rectangle) (k : ℕ) (buffer : List ℕ) where
 
 module _ (s : List ℕ) (e : Rectangle) (zoom : Zoom) (buffer : List ℕ) where
   abbrev later : List Question
-  later =
-      (10 asks question10 (split s)) ∷ (11 asks question11 e) ∷ (12 asks isTaken (scaleOf zoom)) ∷ (13 asks leb (mapSize (sheetCount s)) (length buffer)) ∷ []
+  later = (11 asks question11 e) ∷ (12 asks isTaken (scaleOf zoom)) ∷ (13 asks leb (mapSize (sheetCount s)) (length buffer)) ∷ []
 
   refused-at : {r : Answer} (number : ℕ) → answer (viewQuestions s e zoom (length buffer)) ≡ number → 0 < number → r ≡ refusal number
       → Gives (viewJob s e zoom (length buffer)) buffer r buffer
@@ -62,33 +59,30 @@ module _ (s : List ℕ) (e : Rectangle) (zoom : Zoom) (buffer : List ℕ) where
   refused-at =
       refused-gives (viewQuestions s e zoom (length buffer)) (countShown (shownIn s e zoom) (sheetCount s)) (mapBytes (shownIn s e zoom) (sheetCount s)) buffer
 
-  pub view-refused : {r : Answer} → 0 < check s → r ≡ refusal (check s) → Gives (viewJob s e zoom (length buffer)) buffer r buffer
-  unfolding viewQuestions check
-  view-refused found is = refused-at (check s) (append-no (checkQuestions s) later (check-numbered s) found) found is
+  pub view-refused : {r : Answer} {number : ℕ} → number ≡ answer (indexedQuestions s) → 0 < number → r ≡ refusal number
+      → Gives (viewJob s e zoom (length buffer)) buffer r buffer
+  unfolding viewQuestions
+  view-refused {number = number} found some is =
+      refused-at number (append-no (indexedQuestions s) later (indexed-numbered s) (omega arith) ∙ sym found) some is
 
-  module _ (ok : check s ≡ 0) where
+  module _ (ok : answer (indexedQuestions s) ≡ 0) where
     asked : answer (viewQuestions s e zoom (length buffer)) ≡ answer later
-    unfolding viewQuestions check
-    asked = append-yes (checkQuestions s) later (check-numbered s) ok
+    unfolding viewQuestions
+    asked = append-yes (indexedQuestions s) later (indexed-numbered s) ok
 
-    pub view-no-parts : {r : Answer} → question10 (split s) ≡ false → r ≡ refusal 10 → Gives (viewJob s e zoom (length buffer)) buffer r buffer
+    pub view-no-rectangle : {r : Answer} → question11 e ≡ false → r ≡ refusal 11 → Gives (viewJob s e zoom (length buffer)) buffer r buffer
     unfolding answer
-    view-no-parts missing is = refused-at 10 (asked ∙ rw missing) (omega arith) is
+    view-no-rectangle wrong is = refused-at 11 (asked ∙ rw wrong) (omega arith) is
 
-    module _ (there : question10 (split s) ≡ true) where
-      pub view-no-rectangle : {r : Answer} → question11 e ≡ false → r ≡ refusal 11 → Gives (viewJob s e zoom (length buffer)) buffer r buffer
+    module _ (right : question11 e ≡ true) where
+      pub view-no-zoom : {r : Answer} → scaleOf zoom ≡ Refused → r ≡ refusal 12 → Gives (viewJob s e zoom (length buffer)) buffer r buffer
       unfolding answer
-      view-no-rectangle wrong is = refused-at 11 (asked ∙ rw (there, wrong)) (omega arith) is
+      view-no-zoom refused is = refused-at 12 (asked ∙ rw (right, refused)) (omega arith) is
 
-      module _ (right : question11 e ≡ true) where
-        pub view-no-zoom : {r : Answer} → scaleOf zoom ≡ Refused → r ≡ refusal 12 → Gives (viewJob s e zoom (length buffer)) buffer r buffer
-        unfolding answer
-        view-no-zoom refused is = refused-at 12 (asked ∙ rw (there, right, refused)) (omega arith) is
-
-        -- the zoom is taken: 13 is all that is left to ask
-        pub view-taken : (k : ℕ) → scaleOf zoom ≡ Taken k → viewJob s e zoom (length buffer) ≡ viewAt s e k (length buffer)
-        unfolding viewJob viewAt shownIn outcome answer
-        view-taken k taken = rw (asked, there, right, taken)
+      -- the zoom is taken: 13 is all that is left to ask
+      pub view-taken : (k : ℕ) → scaleOf zoom ≡ Taken k → viewJob s e zoom (length buffer) ≡ viewAt s e k (length buffer)
+      unfolding viewJob viewAt shownIn outcome answer
+      view-taken k taken = rw (asked, right, taken)
 
 -- ---- what the search asks for
 
@@ -109,8 +103,3 @@ viewable s map ok there room =
       index-right = f .index-right (parts .1);
       room = room;
     }
-
--- question 10, as the layout tells it
-pub indexed-is : {found : Opening} (s : List ℕ) → found ≡ opened s → check s ≡ 0 → isIndexed (found .layout) ≡ question10 (split s)
-unfolding question10
-indexed-is s is ok = rw (found-there s is ok 2, found-there s is ok 3)

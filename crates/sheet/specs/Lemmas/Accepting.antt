@@ -1,6 +1,7 @@
 -- The answer 0 of each job is what its questions say.
 use Prim.Native.Nat.{ℕ, _<_, _≤_}
 use mathlib.Core.Path.{_≡_}
+use mathlib.Core.Bool.{true}
 use mathlib.Core.List.{List}
 use mathlib.Core.Logic.{_↔_}
 use native.Mathlib.Omega.{arith}
@@ -15,7 +16,7 @@ use Rattle.contents.specs.Laws.{Numbered, numbered-append, none-asked, asked-if
 use Rattle.bodies.specs.Questions.{bodyQuestions}
 use Rattle.bodies.specs.Fitting.{Fitting}
 use Rattle.bodies.specs.Laws.{bodies-numbered, fitting-iff}
-use Rattle.sheet.specs.Questions.{checkQuestions, check, partsQuestions}
+use Rattle.sheet.specs.Questions.{checkQuestions, check, question10, indexedQuestions, partsQuestions}
 use Rattle.sheet.specs.Accepted.{Accepted}
 
 pub check-numbered : (s : List ℕ) → Numbered (checkQuestions s)
@@ -38,6 +39,20 @@ accepted-iff s = (
       let p = append-iff (contentsQuestions s) _ (contents-numbered s) .0 e in
       record { laid = laid-iff s .0 (p .0); fitting = fitting-iff (split s) .0 (p .1) }),
   (λ a. append-iff (contentsQuestions s) _ (contents-numbered s) .1 (laid-iff s .1 (a .laid), fitting-iff (split s) .1 (a .fitting))),
+)
+
+-- 1 to 10
+pub indexed-numbered : (s : List ℕ) → Numbered (indexedQuestions s)
+unfolding indexedQuestions
+indexed-numbered s = numbered-append (checkQuestions s) _ (check-numbered s) (omega arith, tt)
+
+pub indexed-iff : (s : List ℕ) → (answer (indexedQuestions s) ≡ 0) ↔ ((check s ≡ 0) × (question10 (split s) ≡ true))
+unfolding indexedQuestions check
+indexed-iff s = (
+  (λ e.
+      let a = append-iff (checkQuestions s) _ (check-numbered s) .0 e in
+      (a .0, asked-iff 10 (question10 (split s)) _ (omega arith) .0 (a .1) .0)),
+  (λ p. append-iff (checkQuestions s) _ (check-numbered s) .1 (p .0, asked-iff 10 (question10 (split s)) _ (omega arith) .1 (p .1, none-asked))),
 )
 
 pub parts-iff : (parts : List Part) (room : ℕ)
