@@ -18,6 +18,7 @@
 
 #![forbid(unsafe_code)]
 
+pub mod change;
 pub mod contents;
 pub mod fill;
 pub mod fraction;

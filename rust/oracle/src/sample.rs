@@ -1,8 +1,12 @@
 //! What tests and benchmarks are made of: marks made up from a seed, the same ones on
-//! every machine, all of which 01 takes; those of its first example; and what a test
-//! tries whole.
+//! every machine, all of which 01 takes; those of its first example; sheets that are
+//! refused; and what a test tries whole.
 
-use crate::mark::{Mark, LARGEST_RADIUS};
+use crate::mark::{write_marks, Mark, LARGEST_RADIUS};
+use crate::process::schedule_by_process;
+use crate::record::write_records;
+use crate::sheet::join;
+use crate::Refusal;
 
 /// The marks of P1 (01, 'The printed schedule').
 pub const P1: [Mark; 4] = [
@@ -125,6 +129,34 @@ pub fn raw_sheet(entries: &[(u16, u32, u32)], body: &[u8]) -> Vec<u8> {
     sheet
 }
 
+/// Sheets that questions 1 to 10 refuse, each with the number of the first that does. The
+/// next one would refuse it, too; but a sheet that 9 is asked of has the parts that 10
+/// asks for, so that 8 stands once before either.
+pub fn refused_sheets() -> Vec<(Refusal, Vec<u8>)> {
+    let large = Mark::plain(0, 0, LARGEST_RADIUS + 1, 0);
+    let both = write_marks(&[Mark { kind: 200, ..large }]);
+    let longer = [both.as_slice(), &[0]].concat();
+    let part_1 = write_marks(&P1);
+    let part_2 = write_records(&schedule_by_process(&P1));
+    let (no_records, no_tree) = (vec![0; part_2.len()], [0; 8]);
+    vec![
+        (1, raw_sheet(&[(9, 0, 0); 8], &[])),
+        (2, raw_sheet(&[(2, 0, 5)], &[])),
+        (3, raw_sheet(&[(1, 12, 12)], &[0; 13])),
+        (4, join(&[&longer])),
+        (5, join(&[&both])),
+        (6, join(&[&write_marks(&[large]), &[0; 3]])),
+        (7, join(&[&part_1, &no_records, &[]])),
+        (8, join(&[&part_1, &no_records, &no_tree])),
+        (8, join(&[&part_1, &no_records])),
+        (9, join(&[&part_1, &part_2, &no_tree])),
+        (10, join(&[&part_1, &part_2])),
+        (10, join(&[&part_1])),
+        (10, join(&[&[], &[]])),
+        (10, join(&[&[]])),
+    ]
+}
+
 /// Calls `visit` with every list of so many entries from the choice.
 pub fn each_list<T: Copy>(choice: &[T], entries: u32, visit: &mut impl FnMut(&[T])) {
     for code in 0..choice.len().pow(entries) {
@@ -211,8 +243,7 @@ fn anywhere(generator: &mut Generator) -> i16 {
 #[cfg(test)]
 mod tests {
     use super::*;
-    use crate::mark::write_marks;
-    use crate::sheet::{check, join};
+    use crate::sheet::check;
 
     #[test]
     fn every_sample_has_n_marks_that_are_taken() {

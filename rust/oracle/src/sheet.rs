@@ -85,6 +85,16 @@ pub struct Opened<'a> {
     pub tree: Option<Vec<u16>>,
 }
 
+impl Opened<'_> {
+    /// The records of a sheet that has parts 2 and 3. Asks 10.
+    pub fn indexed_records(&self) -> Result<&[Record], Refusal> {
+        match (&self.records, &self.tree) {
+            (Some(records), Some(_)) => Ok(records),
+            _ => Err(10),
+        }
+    }
+}
+
 /// Opens a sheet. Asks 1 to 9.
 pub fn open(sheet: &[u8]) -> Result<Opened<'_>, Refusal> {
     open_bodies(split(sheet)?)

@@ -63,9 +63,7 @@ pub fn view(
     map_length: usize,
 ) -> Result<(Vec<u8>, u32), Refusal> {
     let opened = open(sheet)?;
-    let (Some(records), Some(_)) = (&opened.records, &opened.tree) else {
-        return Err(10);
-    };
+    let records = opened.indexed_records()?;
     let k = ask_view(edges, zoom)?;
     ask(13, map_length >= map_bytes(opened.marks.len()))?;
     Ok(map_and_count(&opened.marks, &removals(records), edges, k))

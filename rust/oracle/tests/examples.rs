@@ -1,15 +1,18 @@
 //! The proved examples P1 to P12 of 01, with 02's answer to P4, and its 'Plausible and
 //! false'.
 
+mod common;
+
+use common::{one_part, scheduled, three_parts};
 use oracle::fraction::Fraction;
 use oracle::map::is_set;
-use oracle::mark::{outranks, rank_order, touching_value, write_marks, Mark};
+use oracle::mark::{outranks, rank_order, touching_value, Mark};
 use oracle::process::schedule_by_process;
-use oracle::record::{read_records, removals, write_records, Record};
+use oracle::record::{read_records, removals, Record};
 use oracle::report::print;
 use oracle::rules::{keep_both, Breach};
 use oracle::sample::P1;
-use oracle::sheet::{check, join, open, schedule, split};
+use oracle::sheet::{check, open, split};
 use oracle::tree;
 use oracle::view::{reaches, view, Edges};
 use oracle::zoom::Zoom;
@@ -21,17 +24,6 @@ const P3: Edges = Edges {
     y0: -10,
     y1: 10,
 };
-
-/// The sheet of one part with these marks.
-fn one_part(marks: &[Mark]) -> Vec<u8> {
-    join(&[&write_marks(marks)])
-}
-
-/// The sheet of three parts that scheduling these marks writes.
-fn scheduled(marks: &[Mark]) -> Vec<u8> {
-    let n = marks.len();
-    schedule(&one_part(marks), 32 * n + 1_024, 32 + 27 * n).unwrap()
-}
 
 /// The records that scheduling these marks writes.
 fn records(marks: &[Mark]) -> Vec<Record> {
@@ -148,12 +140,7 @@ fn p12() {
 /// The number that checking gives for the sheet of these marks and records, with
 /// the tree they give.
 fn check_with(marks: &[Mark], records: &[Record]) -> u32 {
-    let tree = tree::write_tree(&tree::build(marks, records));
-    check(&join(&[
-        &write_marks(marks),
-        &write_records(records),
-        &tree,
-    ]))
+    check(&three_parts(marks, records))
 }
 
 #[test]

@@ -1,11 +1,14 @@
 //! Each question of 01 answered with no, on both sides of its limits, and in the
 //! order the questions are put.
 
+mod common;
+
+use common::{one_part, three_parts, with_tree, OUT, WORK};
 use oracle::map::walk;
 use oracle::mark::{write_marks, Mark};
 use oracle::record::{write_records, Record};
 use oracle::report::print;
-use oracle::sample::{marks, raw_sheet, Shape, P1};
+use oracle::sample::{marks, raw_sheet, refused_sheets, Shape, P1};
 use oracle::sheet::{assemble, check, join, schedule};
 use oracle::tree;
 use oracle::view::{view, Edges};
@@ -17,29 +20,6 @@ const UNKNOWN_KIND: Mark = Mark {
 };
 
 const LARGE_RADIUS: Mark = Mark::plain(0, 0, 16_384, 0);
-
-/// The largest work and written buffers that scheduling asks for.
-const WORK: usize = 32 * 4_096 + 1_024;
-const OUT: usize = 32 + 27 * 4_096;
-
-/// The sheet of one part with these marks.
-fn one_part(marks: &[Mark]) -> Vec<u8> {
-    join(&[&write_marks(marks)])
-}
-
-/// The sheet of three parts with these marks and records and their tree.
-fn three_parts(marks: &[Mark], records: &[Record]) -> Vec<u8> {
-    with_tree(marks, records, &tree::build(marks, records))
-}
-
-/// The sheet of three parts with these marks, records and tree.
-fn with_tree(marks: &[Mark], records: &[Record], tree: &[u16]) -> Vec<u8> {
-    join(&[
-        &write_marks(marks),
-        &write_records(records),
-        &tree::write_tree(tree),
-    ])
-}
 
 /// The schedule of P1.
 fn p1_records() -> [Record; 4] {
@@ -62,6 +42,15 @@ fn check_p1_with(mark: usize, changed: Record) -> u32 {
 /// after them.
 fn raw(entries: &[(u16, u32, u32)], body: usize) -> Vec<u8> {
     raw_sheet(entries, &vec![0; body])
+}
+
+#[test]
+fn sheets_that_two_questions_refuse_get_the_first() {
+    for (number, sheet) in refused_sheets() {
+        let unscheduled = number == 10;
+        assert_eq!(check(&sheet), if unscheduled { 0 } else { number });
+        assert_eq!(view_all(&sheet), Err(number));
+    }
 }
 
 #[test]

@@ -1,11 +1,14 @@
 //! The jobs on samples: what one writes the others take, and refusals agree.
 
+mod common;
+
 use std::collections::BTreeSet;
 
+use common::{one_part, scheduled, three_parts, OUT, WORK};
 use oracle::map::{is_set, walk, NO_MARK};
 use oracle::mark::{write_marks, Mark};
 use oracle::process::schedule_by_process;
-use oracle::record::{removals, write_records, Record};
+use oracle::record::{removals, Record};
 use oracle::report::print;
 use oracle::rules::keep_both;
 use oracle::sample::{marks, Generator, Shape};
@@ -26,14 +29,9 @@ fn each_sample(mut visit: impl FnMut(&[Mark])) {
     }
 }
 
-/// The sheet of three parts that scheduling these marks writes.
-fn scheduled(marks: &[Mark]) -> Vec<u8> {
-    schedule_large(&join(&[&write_marks(marks)])).unwrap()
-}
-
 /// Schedules with buffers that are long enough for any sheet.
 fn schedule_large(sheet: &[u8]) -> Result<Vec<u8>, u32> {
-    schedule(sheet, 32 * 4_096 + 1_024, 32 + 27 * 4_096)
+    schedule(sheet, WORK, OUT)
 }
 
 #[test]
@@ -55,15 +53,11 @@ fn scheduling_replaces_what_schedule_there_is() {
         let sheet = scheduled(marks);
         assert_eq!(schedule_large(&sheet).unwrap(), sheet);
         let records = vec![Record::NEVER; marks.len()];
-        let foreign = [
-            write_marks(marks),
-            write_records(&records),
-            tree::write_tree(&tree::build(marks, &records)),
-        ];
-        let bodies: Vec<&[u8]> = foreign.iter().map(Vec::as_slice).collect();
+        let foreign = three_parts(marks, &records);
+        let bodies = split(&foreign).unwrap().present();
         assert_eq!(schedule_large(&join(&bodies[..2])).unwrap(), sheet);
-        assert_eq!(schedule_large(&join(&bodies)).unwrap(), sheet);
-        assert_eq!(print(&join(&bodies)), print(&sheet));
+        assert_eq!(schedule_large(&foreign).unwrap(), sheet);
+        assert_eq!(print(&foreign), print(&sheet));
     });
 }
 
@@ -163,8 +157,7 @@ fn a_view_uses_the_schedule_as_the_sheet_has_it() {
     let (_, ours) = count(&scheduled(&marks));
     assert_eq!(ours, 1);
     let records = [Record::NEVER; 10];
-    let tree = tree::write_tree(&tree::build(&marks, &records));
-    let foreign = join(&[&write_marks(&marks), &write_records(&records), &tree]);
+    let foreign = three_parts(&marks, &records);
     assert_eq!(count(&foreign), (vec![0xff, 0x03], 10));
 }
 
@@ -248,9 +241,9 @@ fn the_largest_sheet_is_scheduled() {
 
 #[test]
 fn sheets_of_no_mark_and_one_mark_are_printed() {
-    assert_eq!(print(&join(&[&[]])), "marks 0\n");
-    let one = write_marks(&[Mark::plain(1, 2, 3, 4)]);
-    assert_eq!(print(&join(&[&one])), "marks 1\n0 -\n");
+    assert_eq!(print(&one_part(&[])), "marks 0\n");
+    let one = one_part(&[Mark::plain(1, 2, 3, 4)]);
+    assert_eq!(print(&one), "marks 1\n0 -\n");
 }
 
 #[test]
@@ -259,6 +252,6 @@ fn the_removal_zoom_is_printed_though_no_view_has_it() {
         Mark::plain(i16::MIN, i16::MIN, 1, 0),
         Mark::plain(i16::MAX, i16::MAX, 1, 0),
     ];
-    let text = print(&join(&[&write_marks(&marks)]));
+    let text = print(&one_part(&marks));
     assert_eq!(text, "marks 2\n0 -\n1 0 8589672450 4 2965775\n");
 }
