@@ -39,6 +39,8 @@
  *       marks are walked
  *   15  of a log: a coordinate is five digits and a sign, 12 or 13, and not minus zero
  *   16  of a log: it is from -32,768 to 32,767
+ *   17  of a mark to be taken out: its number is below n
+ *   18  of a mark to be added: the sheet has fewer than 4,096 marks
  *
  * Of a log, 4 is: it is a multiple of 13 and has at most 4,096 records. 14 is asked by
  * the program alone.
@@ -74,6 +76,8 @@ extern "C" {
 #define ROLLMAP_REFUSED_BUFFER 13u
 #define ROLLMAP_REFUSED_PACKED 15u
 #define ROLLMAP_REFUSED_PLACE 16u
+#define ROLLMAP_REFUSED_MISSING 17u
+#define ROLLMAP_REFUSED_FULL 18u
 
 /* The most marks of a sheet. */
 #define ROLLMAP_MOST_MARKS 4096u
@@ -93,7 +97,8 @@ extern "C" {
    where its mark is never removed. */
 #define ROLLMAP_NO_MARK 65535u
 
-/* Bytes that scheduling n marks needs: of work, and of out. */
+/* Bytes that scheduling n marks needs: of work, and of out. Adding a mark and taking one
+   out need those of the new number of marks. */
 #define ROLLMAP_WORK_BYTES(n) ((size_t)32 * (n) + 1024)
 #define ROLLMAP_SCHEDULED_BYTES(n) ((size_t)27 * (n) + 32)
 
@@ -121,6 +126,29 @@ struct rollmap_answer rollmap_check(const uint8_t *sheet, size_t sheet_length);
    bytes written, 32 + 27n. work has at least 32n + 1,024 bytes, which hold anything
    before the call and anything after a success. Asks 1 to 9, and 13 of work and out. */
 struct rollmap_answer rollmap_schedule(const uint8_t *sheet, size_t sheet_length,
+                                       uint8_t *work, size_t work_length,
+                                       uint8_t *out, size_t out_length);
+
+/* Adds a mark to a sheet of three parts, or takes mark m out of it, and schedules the new
+   marks afresh, whatever schedule the sheet has. A new mark is given by its six fields, as
+   part 1 has them, and stands at the end: its number is the old number of marks. Where mark
+   m is taken out, higher numbers drop by one; the only mark of a sheet may go, too. What is
+   written to out is the sheet that rollmap_schedule writes for the new marks, and what
+   follows there stays as it is. The value is the number of bytes written, 32 + 27n for the
+   new number n of marks. work has at least 32n + 1,024 bytes for that n, which hold anything
+   before the call and anything after a success. Where a mark is added to a sheet that
+   rollmap_schedule or one of these calls wrote, and that mark is taken out again, the old
+   bytes come back.
+
+   Adding asks 1 to 10 of the sheet, 18, 5 and 6 of the new mark, and 13 of work and out.
+   Taking out asks 1 to 10 of the sheet, 17 of m, of which all 32 bits count, and 13 of work
+   and out. */
+struct rollmap_answer rollmap_add(const uint8_t *sheet, size_t sheet_length,
+                                  int16_t x, int16_t y, uint16_t radius, uint16_t priority,
+                                  uint8_t kind, uint16_t tag,
+                                  uint8_t *work, size_t work_length,
+                                  uint8_t *out, size_t out_length);
+struct rollmap_answer rollmap_take_out(const uint8_t *sheet, size_t sheet_length, uint32_t m,
                                        uint8_t *work, size_t work_length,
                                        uint8_t *out, size_t out_length);
 

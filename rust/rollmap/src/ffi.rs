@@ -9,7 +9,7 @@
 
 #![allow(unsafe_code)]
 
-use crate::{View, Zoom};
+use crate::{Mark, View, Zoom};
 
 /// What a call answers: 0 or the refusing question's number, and a value.
 #[derive(Clone, Copy)]
@@ -33,6 +33,31 @@ extern "C" {
     fn rollmap_schedule(
         sheet: *const u8,
         sheet_length: usize,
+        work: *mut u8,
+        work_length: usize,
+        out: *mut u8,
+        out_length: usize,
+    ) -> Answer;
+
+    fn rollmap_add(
+        sheet: *const u8,
+        sheet_length: usize,
+        x: i16,
+        y: i16,
+        radius: u16,
+        priority: u16,
+        kind: u8,
+        tag: u16,
+        work: *mut u8,
+        work_length: usize,
+        out: *mut u8,
+        out_length: usize,
+    ) -> Answer;
+
+    fn rollmap_take_out(
+        sheet: *const u8,
+        sheet_length: usize,
+        m: u32,
         work: *mut u8,
         work_length: usize,
         out: *mut u8,
@@ -114,6 +139,41 @@ pub(crate) fn schedule(sheet: &[u8], work: &mut [u8], out: &mut [u8]) -> Answer 
         rollmap_schedule(
             sheet.as_ptr(),
             sheet.len(),
+            work.as_mut_ptr(),
+            work.len(),
+            out.as_mut_ptr(),
+            out.len(),
+        )
+    }
+}
+
+pub(crate) fn add(sheet: &[u8], mark: Mark, work: &mut [u8], out: &mut [u8]) -> Answer {
+    // SAFETY: pointers and lengths are slices' (see the top of this file).
+    unsafe {
+        rollmap_add(
+            sheet.as_ptr(),
+            sheet.len(),
+            mark.x,
+            mark.y,
+            mark.radius,
+            mark.priority,
+            mark.kind,
+            mark.tag,
+            work.as_mut_ptr(),
+            work.len(),
+            out.as_mut_ptr(),
+            out.len(),
+        )
+    }
+}
+
+pub(crate) fn take_out(sheet: &[u8], m: u32, work: &mut [u8], out: &mut [u8]) -> Answer {
+    // SAFETY: pointers and lengths are slices' (see the top of this file).
+    unsafe {
+        rollmap_take_out(
+            sheet.as_ptr(),
+            sheet.len(),
+            m,
             work.as_mut_ptr(),
             work.len(),
             out.as_mut_ptr(),

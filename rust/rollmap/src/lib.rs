@@ -33,6 +33,7 @@
 
 #![deny(unsafe_code, missing_docs)]
 
+mod change;
 mod ffi;
 mod fill;
 mod log;
@@ -43,6 +44,7 @@ mod sheet;
 mod view;
 mod walk;
 
+pub use change::{add, add_to_vec, take_out, take_out_to_vec};
 pub use fill::{fill, fill_to_vec, rescue};
 pub use log::{log_to_marks, log_to_marks_vec, marks_to_log, marks_to_log_vec, LOG_RECORD_BYTES};
 pub use mark::{marks, marks_to_vec, Mark, MARK_BYTES};

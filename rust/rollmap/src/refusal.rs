@@ -29,7 +29,7 @@ pub enum Refusal {
     Schedule = 8,
     /// 9: the index in part 3.
     Index = 9,
-    /// 10: a view of a sheet that lacks part 2 or 3.
+    /// 10: parts 2 and 3, which a view needs, and a change of the marks.
     Unscheduled = 10,
     /// 11: the edges of a view.
     Edges = 11,
@@ -43,6 +43,10 @@ pub enum Refusal {
     Packed = 15,
     /// 16: a coordinate of a log, as a place.
     Place = 16,
+    /// 17: the number of a mark to be taken out, which is not there.
+    Missing = 17,
+    /// 18: a mark to be added to as many as a sheet has at most.
+    Full = 18,
 }
 
 impl Refusal {
@@ -64,6 +68,8 @@ impl Refusal {
         Self::Program,
         Self::Packed,
         Self::Place,
+        Self::Missing,
+        Self::Full,
     ];
 
     /// The question's number.
@@ -115,6 +121,8 @@ impl Refusal {
                  not minus zero?"
             }
             Self::Place => "are x and y of each record of the log from -32,768 to 32,767?",
+            Self::Missing => "is the number of the mark to be taken out below n?",
+            Self::Full => "are fewer than 4,096 marks held already?",
         }
     }
 }
@@ -149,14 +157,14 @@ mod tests {
     use super::*;
 
     #[test]
-    fn numbers_are_1_to_16_in_order() {
+    fn numbers_are_1_to_18_in_order() {
         let numbers = Refusal::ALL.iter().map(|refusal| refusal.number());
-        assert!(numbers.eq(1..=16));
+        assert!(numbers.eq(1..=18));
         for &refusal in Refusal::ALL {
             assert_eq!(Refusal::from_number(refusal.number()), Some(refusal));
         }
         assert_eq!(Refusal::from_number(0), None);
-        assert_eq!(Refusal::from_number(17), None);
+        assert_eq!(Refusal::from_number(19), None);
     }
 
     #[test]

@@ -20,7 +20,7 @@ pub const fn scheduled_bytes(n: usize) -> usize {
     32 + 27 * n
 }
 
-/// A work buffer that is lent to scheduling: at least [`work_bytes`] of the marks, which
+/// A work buffer that is lent to what schedules marks: at least [`work_bytes`] of the marks, which
 /// hold anything before, and anything after a success. It has a type of its own so that
 /// it cannot be taken for the buffer that is written.
 #[derive(Debug)]
@@ -57,9 +57,17 @@ pub fn schedule(sheet: &[u8], work: Work<'_>, out: &mut [u8]) -> Result<usize, R
 /// Asks [1 to 9](Refusal).
 pub fn schedule_to_vec(sheet: &[u8]) -> Result<Vec<u8>, Refusal> {
     let n = mark_count(sheet).unwrap_or(0);
+    scheduled_to_vec(n, |work, out| schedule(sheet, work, out))
+}
+
+/// What a call writes that schedules n marks, in buffers of its own.
+pub(crate) fn scheduled_to_vec(
+    n: usize,
+    call: impl FnOnce(Work<'_>, &mut [u8]) -> Result<usize, Refusal>,
+) -> Result<Vec<u8>, Refusal> {
     let mut work = vec![0; work_bytes(n)];
     let mut out = vec![0; scheduled_bytes(n)];
-    let written = schedule(sheet, Work(&mut work), &mut out)?;
+    let written = call(Work(&mut work), &mut out)?;
     out.truncate(written);
     Ok(out)
 }

@@ -40,6 +40,13 @@ cut short: 3 0
 its part 1 at 0, 0 bytes
 crossed edges: 11 0, map ee
 short map: 13 65535
+add in short work: 13 0, then ee
+add an unknown kind: 5 0, then ee
+add: 0 167, then ee, mark d4 fe 01 04 00 00 01 02 95 fe ff
+take it out: 0 140, the same 1, then ee
+take out 4 of 4: 17 0
+take out 65536: 17 0, the same 1
+take out 0: 0 113, 1: 0 10000 400
 no bodies 2 and 3: 0 56
 no body 3: 0 122
 no parts: 1 0
@@ -154,7 +161,7 @@ fn every_call_takes_less_stack_than_the_header_says() {
         (name, bytes.parse::<usize>().expect("a number"))
     });
     let calls: Vec<(&str, usize)> = calls.collect();
-    assert_eq!(calls.len(), 11);
+    assert_eq!(calls.len(), 13);
     for (name, bytes) in calls {
         assert!(bytes < STACK, "{name} takes {bytes}");
     }

@@ -66,6 +66,41 @@ static void print_views(const uint8_t *sheet, size_t length)
     print_view("stop 17", rollmap_view_stop(sheet, length, -32768, 32767, -32768, 32767, 17, map, 2), map);
 }
 
+/* A fifth mark comes, with something in every field, and the first one goes. */
+static void print_changes(const uint8_t *sheet, size_t length)
+{
+    uint8_t work[ROLLMAP_WORK_BYTES(N + 1)];
+    uint8_t more[ROLLMAP_SCHEDULED_BYTES(N + 1) + 1], back[ROLLMAP_SCHEDULED_BYTES(N) + 1];
+    struct rollmap_answer answer;
+    const uint8_t *mark = more + ROLLMAP_CONTENTS_BYTES(3) + ROLLMAP_MARK_BYTES * N;
+    const uint8_t *record = back + ROLLMAP_CONTENTS_BYTES(3) + ROLLMAP_MARK_BYTES * (N - 1) + ROLLMAP_RECORD_BYTES;
+    unsigned at;
+
+    memset(more, 0xee, sizeof more);
+    memset(back, 0xee, sizeof back);
+    answer = rollmap_add(sheet, length, -300, 1025, 0, 513, 149, 65534, work, sizeof work - 1, more, sizeof more);
+    printf("add in short work: %u %u, then %02x\n", answer.number, answer.value, more[0]);
+    answer = rollmap_add(sheet, length, -300, 1025, 0, 513, 200, 65534, work, sizeof work, more, sizeof more);
+    printf("add an unknown kind: %u %u, then %02x\n", answer.number, answer.value, more[0]);
+    answer = rollmap_add(sheet, length, -300, 1025, 0, 513, 149, 65534, work, sizeof work, more, sizeof more);
+    printf("add: %u %u, then %02x, mark", answer.number, answer.value, more[answer.value]);
+    for (at = 0; at < ROLLMAP_MARK_BYTES; at++)
+        printf(" %02x", mark[at]);
+    printf("\n");
+    answer = rollmap_take_out(more, sizeof more - 1, N, work, sizeof work, back, sizeof back);
+    printf("take it out: %u %u, the same %d, then %02x\n", answer.number, answer.value,
+           memcmp(back, sheet, length) == 0, back[length]);
+    answer = rollmap_take_out(sheet, length, N, work, sizeof work, back, sizeof back);
+    printf("take out 4 of 4: %u %u\n", answer.number, answer.value);
+    answer = rollmap_take_out(sheet, length, 65536, work, sizeof work, back, sizeof back);
+    printf("take out 65536: %u %u, the same %d\n", answer.number, answer.value,
+           memcmp(back, sheet, length) == 0);
+    answer = rollmap_take_out(sheet, length, 0, work, sizeof work, back, sizeof back);
+    printf("take out 0: %u %u, 1: %u %lu %lu\n", answer.number, answer.value,
+           (unsigned)number_at(record, 2), (unsigned long)number_at(record + 2, 8),
+           (unsigned long)number_at(record + 10, 4));
+}
+
 /* The bodies that are left out may be null. */
 static void print_ignored(const uint8_t *sheet)
 {
@@ -152,6 +187,7 @@ int main(void)
     print_schedule(out, sizeof out - 1);
     print_views(out, sizeof out - 1);
     print_refusals(out, sizeof out - 1);
+    print_changes(out, sizeof out - 1);
     print_ignored(out);
     print_marks();
     print_logs();

@@ -2,23 +2,11 @@
 
 mod common;
 
-use common::{one_part, scheduled, three_parts};
+use common::{bound, one_part, scheduled, three_parts};
 use oracle::fraction::Removal;
 use oracle::process::schedule_in_rank_order;
 use oracle::sample::{marks, Shape, P1};
 use rollmap::{marks_to_vec, Mark, Record};
-
-/// A mark of the oracle as the bindings have it.
-fn bound(mark: &oracle::mark::Mark) -> Mark {
-    Mark {
-        x: mark.x,
-        y: mark.y,
-        radius: mark.radius,
-        priority: mark.priority,
-        kind: mark.kind,
-        tag: mark.tag,
-    }
-}
 
 /// A record of the oracle as the bindings have it.
 fn bound_record(record: &oracle::record::Record) -> Record {

@@ -5,12 +5,15 @@ mod common;
 use std::io::Write;
 use std::process::{Command, Stdio};
 
-use common::{one_part, three_parts, PROGRAM};
+use common::{bound, one_part, three_parts, PROGRAM};
 use oracle::mark::{read_marks, touching_value, Mark};
 use oracle::record::{read_records, removals, Record};
 use oracle::sample::{marks, Shape, P1};
 use oracle::view::{map_and_count, Edges};
-use rollmap::{map_bytes, schedule_to_vec, view_to_map, Refusal, View, Zoom};
+use rollmap::{
+    add_to_vec, map_bytes, schedule_to_vec, scheduled_bytes, take_out_to_vec, view_to_map,
+    work_bytes, Refusal, View, Work, Zoom,
+};
 
 const GUARDS: &str = include_str!("../../../docs/GUARDS.md");
 
@@ -23,6 +26,16 @@ fn scheduled(marks: &[Mark]) -> Vec<u8> {
 fn shown(sheet: &[u8], zoom: Zoom) -> Vec<u32> {
     let map = view_to_map(sheet, View::whole(zoom)).unwrap();
     map.iter().collect()
+}
+
+/// The number of the mark that removes each mark.
+fn eliminators(sheet: &[u8]) -> Vec<Option<u16>> {
+    let records = rollmap::records(sheet).unwrap();
+    let eliminator = |record| match record {
+        rollmap::Record::Never => None,
+        rollmap::Record::Removed { eliminator, .. } => Some(eliminator),
+    };
+    records.map(eliminator).collect()
 }
 
 /// The zoom of which 64 times is k.
@@ -59,7 +72,7 @@ fn every_test_that_the_page_names_is_here() {
     let sentences = GUARDS.lines().filter_map(|line| line.split_once("Test: "));
     let named = cells.chain(sentences.map(|(_, name)| name.trim_end_matches('.')));
     let names: Vec<&str> = named.flat_map(|names| names.split(", ")).collect();
-    assert_eq!(names.len(), 19);
+    assert_eq!(names.len(), 25);
     for name in names {
         let test = format!("#[test]\nfn {}()", name.trim_matches('`'));
         assert!(own.contains(&test), "{name}");
@@ -187,14 +200,7 @@ fn an_eliminator_may_be_gone_and_nobody_need_touch() {
         Mark::plain(110, 0, 10, 1),
     ];
     let sheet = scheduled(&marks);
-    let eliminators: Vec<Option<u16>> = rollmap::records(&sheet)
-        .unwrap()
-        .map(|record| match record {
-            rollmap::Record::Never => None,
-            rollmap::Record::Removed { eliminator, .. } => Some(eliminator),
-        })
-        .collect();
-    assert_eq!(eliminators, [None, Some(0), Some(1)]);
+    assert_eq!(eliminators(&sheet), [None, Some(0), Some(1)]);
     assert_eq!(shown(&sheet, wheel(320)), [0]);
     assert!(!touch(&marks[0], &marks[2], 320), "nobody touches 2 there");
 }
@@ -397,6 +403,135 @@ fn one_mark_is_asked_for_by_its_number() {
     assert!((0..9).filter(|&mark| map.contains(mark)).eq([0, 2]));
     assert_eq!(rollmap::is_shown(map.as_bytes(), 4, 2), Ok(true));
     assert_eq!(rollmap::is_shown(map.as_bytes(), 2, 2), Ok(false));
+}
+
+// ---- the scanner and the operator's station
+
+#[test]
+fn a_change_is_scheduling_by_hand() {
+    for shape in Shape::ALL {
+        let marks = marks(shape, 60, 10);
+        let (&last, others) = marks.split_last().unwrap();
+        assert_eq!(
+            add_to_vec(&scheduled(others), bound(&last)),
+            Ok(scheduled(&marks))
+        );
+        assert_eq!(
+            take_out_to_vec(&scheduled(&marks), 0),
+            Ok(scheduled(&marks[1..]))
+        );
+    }
+    let bare = one_part(&P1);
+    assert_eq!(take_out_to_vec(&bare, 0), Err(Refusal::Unscheduled));
+    assert_eq!(add_to_vec(&bare, bound(&P1[0])), Err(Refusal::Unscheduled));
+    // The buffers of the old number of marks are too short for one more.
+    let (mut work, mut out) = (vec![0; work_bytes(4)], vec![0; scheduled_bytes(4)]);
+    let added = rollmap::add(&scheduled(&P1), bound(&P1[0]), Work(&mut work), &mut out);
+    assert_eq!(added, Err(Refusal::Buffer));
+}
+
+#[test]
+fn changes_as_they_come_are_the_merged_list() {
+    let marks = marks(Shape::Grid, 20, 11);
+    let mut sheet = scheduled(&marks[..10]);
+    for mark in &marks[10..] {
+        sheet = add_to_vec(&sheet, bound(mark)).unwrap();
+        sheet = take_out_to_vec(&sheet, 3).unwrap();
+    }
+    let merged = [&marks[..3], &marks[13..]].concat();
+    assert_eq!(sheet, scheduled(&merged));
+    // The same two marks in the other order are another sheet.
+    let twins = [Mark::plain(0, 0, 1, 5), Mark::plain(9, 0, 1, 5)];
+    let one_by_one = |order: [usize; 2]| {
+        let first = add_to_vec(&scheduled(&[]), bound(&twins[order[0]])).unwrap();
+        add_to_vec(&first, bound(&twins[order[1]])).unwrap()
+    };
+    let staying = |sheet: &[u8]| {
+        let [m] = shown(sheet, Zoom::Stop(16))[..] else {
+            panic!("one of the two");
+        };
+        rollmap::marks(sheet).unwrap().nth(m as usize).unwrap().x
+    };
+    assert_eq!(staying(&one_by_one([0, 1])), 0);
+    assert_eq!(staying(&one_by_one([1, 0])), 9);
+}
+
+#[test]
+fn numbers_drop_by_one_above_the_mark_taken_out() {
+    // 3 goes by 2, and 1 and 2 by 0.
+    let marks = [
+        Mark::plain(0, 0, 10, 9),
+        Mark::plain(-5_000, 0, 10, 1),
+        Mark::plain(100, 0, 10, 5),
+        Mark::plain(110, 0, 10, 1),
+    ];
+    let sheet = scheduled(&marks);
+    let all = [None, Some(0), Some(0), Some(2)];
+    assert_eq!(eliminators(&sheet), all);
+    let fewer = take_out_to_vec(&sheet, 1).unwrap();
+    assert_eq!(eliminators(&fewer), [None, Some(0), Some(1)]);
+    let left = [0, 2, 3].map(|m: usize| bound(&marks[m]));
+    assert!(rollmap::marks(&fewer).unwrap().eq(left));
+    // Marks 1 and 3 of the first sheet, from the highest down.
+    let both = [3, 1].iter().fold(sheet, |sheet, &m| {
+        take_out_to_vec(&sheet, m).expect("there is such a mark")
+    });
+    assert_eq!(both, scheduled(&[marks[0], marks[2]]));
+}
+
+#[test]
+fn an_addition_is_taken_back_by_taking_out_the_last_mark() {
+    let new = bound(&Mark::plain(50, 50, 0, 7));
+    let there_and_back = |sheet: &[u8]| {
+        let more = add_to_vec(sheet, new).unwrap();
+        let last = rollmap::mark_count(sheet).unwrap();
+        take_out_to_vec(&more, last as u32).unwrap()
+    };
+    for shape in Shape::ALL {
+        let sheet = scheduled(&marks(shape, 40, 12));
+        assert_eq!(there_and_back(&sheet), sheet);
+    }
+    let foreign = three_parts(&P1, &[Record::NEVER; 4]);
+    assert_eq!(there_and_back(&foreign), scheduled(&P1));
+    // A mark that was struck out comes back at the end.
+    let fewer = take_out_to_vec(&scheduled(&P1), 0).unwrap();
+    let back = add_to_vec(&fewer, bound(&P1[0])).unwrap();
+    assert_eq!(back, scheduled(&[P1[1], P1[2], P1[3], P1[0]]));
+}
+
+#[test]
+fn a_mark_that_no_view_shows_is_struck_out_by_its_number() {
+    let (sheet, count) = two_breaks(6, 0);
+    assert_eq!((count, rollmap::mark_count(&sheet)), (1, Some(2)));
+    assert_eq!(shown(&sheet, Zoom::Stop(0)), [0]);
+    let hidden = rollmap::marks(&sheet).unwrap().position(|mark| mark.x == 6);
+    assert_eq!(hidden, Some(1));
+    let fewer = take_out_to_vec(&sheet, 1).unwrap();
+    assert!(rollmap::marks(&fewer).unwrap().map(|mark| mark.x).eq([0]));
+}
+
+#[test]
+fn a_refused_change_leaves_the_old_sheet() {
+    let sheet = scheduled(&P1);
+    let old = scheduled(&P1[..2]);
+    let mut out = old.clone();
+    out.resize(scheduled_bytes(5), 0xee);
+    let before = out.clone();
+    let mut work = vec![0; work_bytes(5)];
+    let taken_out = rollmap::take_out(&sheet, 4, Work(&mut work), &mut out);
+    assert_eq!(taken_out, Err(Refusal::Missing));
+    for (refused, mark) in [
+        (Refusal::Kind, Mark { kind: 200, ..P1[0] }),
+        (Refusal::Radius, Mark::plain(0, 0, 16_384, 0)),
+    ] {
+        let added = rollmap::add(&sheet, bound(&mark), Work(&mut work), &mut out);
+        assert_eq!(added, Err(refused));
+    }
+    let full = three_parts(&marks(Shape::Line, 4_096, 13), &[Record::NEVER; 4_096]);
+    let added = rollmap::add(&full, bound(&P1[0]), Work(&mut work), &mut out);
+    assert_eq!(added, Err(Refusal::Full));
+    assert_eq!(out, before);
+    assert_eq!(shown(&out[..old.len()], Zoom::Stop(0)), [0, 1]);
 }
 
 // ---- what every consumer checks once

@@ -3,7 +3,8 @@
 mod common;
 
 use common::{
-    bodies_of, foreign_records, joined, number, one_part, scheduled, some_sheet, Lent, Tally,
+    bodies_of, foreign_records, joined, number, one_part, schedule_in, scheduled, some_sheet,
+    tied_marks, Tally,
 };
 use oracle::mark::Mark;
 use oracle::process::{schedule_by_process, schedule_by_sorted_pairs};
@@ -14,32 +15,15 @@ use rollmap::{schedule_to_vec, scheduled_bytes, work_bytes, Work};
 
 /// Schedules a sheet in buffers of these lengths, and sees that nothing but the
 /// scheduled sheet is written, or nothing at all. Answers the number.
-fn schedule_in(sheet: &[u8], work: usize, out: usize, expected: Result<&[u8], u32>) -> u32 {
-    let seed = (sheet.len() + work + out) as u64;
-    let (mut work, mut out) = (Lent::new(work, seed), Lent::new(out, seed >> 1));
-    let mut lent_sheet = Lent::holding(sheet, seed >> 2);
-    let answer = rollmap::schedule(lent_sheet.slice(), Work(work.slice()), out.slice());
-    lent_sheet.assert_untouched();
-    match expected {
-        Ok(scheduled) => {
-            assert_eq!(answer, Ok(scheduled.len()));
-            out.assert_written(scheduled);
-            work.assert_untouched_around();
-        }
-        Err(expected) => {
-            assert_eq!(number(&answer), expected);
-            out.assert_untouched();
-            work.assert_untouched();
-        }
-    }
-    number(&answer)
+fn schedule(sheet: &[u8], work: usize, out: usize, expected: Result<&[u8], u32>) -> u32 {
+    schedule_in(sheet, [work, out], rollmap::schedule, &expected)
 }
 
 /// Schedules a sheet in buffers that are just long enough, and sees that it becomes
 /// the expected one.
 fn becomes(sheet: &[u8], expected: &[u8]) {
     let n = (expected.len() - 32) / 27;
-    schedule_in(sheet, work_bytes(n), scheduled_bytes(n), Ok(expected));
+    schedule(sheet, work_bytes(n), scheduled_bytes(n), Ok(expected));
 }
 
 /// The records that scheduling these marks writes.
@@ -103,20 +87,6 @@ fn every_sheet_of_three_marks_from_a_small_choice() {
             }
         }
     }
-}
-
-/// Marks on a few points with few radii and priorities, so that most pairs have the
-/// touching value of many others.
-fn tied_marks(generator: &mut Generator, n: usize) -> Vec<Mark> {
-    let (places, radii) = (1 + generator.below(6), 1 + generator.below(3));
-    let (step, priorities) = (generator.choose(&[1, 7, 5_000]), 1 + generator.below(4));
-    let mut mark = || {
-        let mut place = || step * (generator.below(places) as i16 - 3);
-        let (x, y) = (place(), place());
-        let radius = 1 << generator.below(radii);
-        Mark::plain(x, y, radius, generator.below(priorities) as u16)
-    };
-    (0..n).map(|_| mark()).collect()
 }
 
 #[test]
@@ -222,14 +192,14 @@ fn lengths_of_both_buffers() {
         assert_eq!((work, out), (32 * n + 1_024, 32 + 27 * n));
         for (longer_work, longer_out) in [(0, 0), (1, 0), (0, 1), (100, 3), (7, 500)] {
             let answer = Ok(expected.as_slice());
-            schedule_in(&sheet, work + longer_work, out + longer_out, answer);
+            schedule(&sheet, work + longer_work, out + longer_out, answer);
         }
         for short_work in [0, 1, 1_023, 1_023 + n, 32 * n + 1_023] {
-            schedule_in(&sheet, short_work, out + 50, Err(13));
-            schedule_in(&sheet, short_work, 0, Err(13));
+            schedule(&sheet, short_work, out + 50, Err(13));
+            schedule(&sheet, short_work, 0, Err(13));
         }
         for short_out in 0..out {
-            schedule_in(&sheet, work + 50, short_out, Err(13));
+            schedule(&sheet, work + 50, short_out, Err(13));
         }
     }
 }
@@ -245,13 +215,13 @@ fn refused_sheets_write_nothing() {
             number => number,
         };
         let (work, out) = generator.choose(&[(0, 4_000), (4_000, 0), (0, 0), (1_023, 2_000)]);
-        schedule_in(&sheet, work, out, Err(refused));
+        schedule(&sheet, work, out, Err(refused));
         let number = match oracle::sheet::open(&sheet) {
             Ok(opened) => {
                 let expected = scheduled(&opened.marks);
-                schedule_in(&sheet, 2_400, 1_200, Ok(&expected))
+                schedule(&sheet, 2_400, 1_200, Ok(&expected))
             }
-            Err(number) => schedule_in(&sheet, 2_400, 1_200, Err(number)),
+            Err(number) => schedule(&sheet, 2_400, 1_200, Err(number)),
         };
         numbers.add(number);
     }

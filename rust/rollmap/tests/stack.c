@@ -16,6 +16,7 @@ static uint8_t marks[N * ROLLMAP_MARK_BYTES];
 static uint8_t sheet[ROLLMAP_CONTENTS_BYTES(1) + sizeof marks];
 static uint8_t work[ROLLMAP_WORK_BYTES(N)];
 static uint8_t out[ROLLMAP_SCHEDULED_BYTES(N)];
+static uint8_t fewer[ROLLMAP_SCHEDULED_BYTES(N - 1)];
 static uint8_t map[ROLLMAP_MAP_BYTES(N)];
 static uint8_t filled[sizeof marks];
 static uint8_t winder_log[N * ROLLMAP_LOG_RECORD_BYTES];
@@ -28,6 +29,16 @@ static uint32_t assemble(void)
 static uint32_t schedule(void)
 {
     return rollmap_schedule(sheet, sizeof sheet, work, sizeof work, out, sizeof out).number;
+}
+
+static uint32_t take_out(void)
+{
+    return rollmap_take_out(out, sizeof out, 0, work, sizeof work, fewer, sizeof fewer).number;
+}
+
+static uint32_t add(void)
+{
+    return rollmap_add(fewer, sizeof fewer, 1, 2, 3, 4, 5, 6, work, sizeof work, out, sizeof out).number;
 }
 
 static uint32_t check(void)
@@ -80,9 +91,10 @@ static const struct call {
     const char *name;
     uint32_t (*make)(void);
 } calls[] = {
-    {"assemble", assemble},     {"schedule", schedule}, {"check", check},       {"view_stop", view_stop},
-    {"view_wheel", view_wheel}, {"walk", walk},         {"is_shown", is_shown}, {"part", part},
-    {"fill", fill},             {"marks_to_log", marks_to_log}, {"log_to_marks", log_to_marks},
+    {"assemble", assemble},     {"schedule", schedule}, {"take_out", take_out}, {"add", add},
+    {"check", check},           {"view_stop", view_stop}, {"view_wheel", view_wheel}, {"walk", walk},
+    {"is_shown", is_shown},     {"part", part},         {"fill", fill},
+    {"marks_to_log", marks_to_log}, {"log_to_marks", log_to_marks},
 };
 
 static uint8_t *stack;

@@ -12,7 +12,7 @@ use oracle::record::{write_records, Record};
 use oracle::sample::{marks, Generator, Shape};
 use oracle::sheet::join;
 use oracle::tree;
-use rollmap::{Refusal, MARK_BYTES};
+use rollmap::{Refusal, Work, MARK_BYTES};
 
 /// The program, as `rt check schedule` builds it.
 pub const PROGRAM: &str = concat!(env!("CARGO_MANIFEST_DIR"), "/../../target/bin/schedule");
@@ -114,9 +114,14 @@ pub type Expected = Result<Vec<u8>, u32>;
 impl Lent {
     /// Asserts that a call answered what the oracle says and wrote that to the buffer, or
     /// nothing where it was refused. Answers the number.
-    pub fn assert_answered(&self, answer: &Written, expected: &Expected) -> u32 {
+    pub fn assert_answered(
+        &self,
+        answer: &Written,
+        expected: &Result<impl AsRef<[u8]>, u32>,
+    ) -> u32 {
         match expected {
             Ok(written) => {
+                let written = written.as_ref();
                 assert_eq!(*answer, Ok(written.len()));
                 self.assert_written(written);
             }
@@ -145,6 +150,29 @@ pub fn turn(
     out.assert_answered(&answer, &expected(given, out_length))
 }
 
+/// Lends a sheet, and buffers of these lengths for work and to write to, to a call that
+/// schedules marks, and sees that the answer and every byte are as expected: no byte of
+/// the work buffer is written where the call is refused. Answers the number.
+pub fn schedule_in(
+    sheet: &[u8],
+    [work_length, out_length]: [usize; 2],
+    call: impl FnOnce(&[u8], Work<'_>, &mut [u8]) -> Written,
+    expected: &Result<impl AsRef<[u8]>, u32>,
+) -> u32 {
+    let seed = (sheet.len() + work_length + out_length) as u64;
+    let mut work = Lent::new(work_length, seed);
+    let mut out = Lent::new(out_length, seed >> 1);
+    let mut lent = Lent::holding(sheet, seed >> 2);
+    let answer = call(lent.slice(), Work(work.slice()), out.slice());
+    lent.assert_untouched();
+    if expected.is_ok() {
+        work.assert_untouched_around();
+    } else {
+        work.assert_untouched();
+    }
+    out.assert_answered(&answer, expected)
+}
+
 /// A length near the one that is needed.
 pub fn some_room(generator: &mut Generator, needed: usize) -> usize {
     match generator.below(6) {
@@ -156,6 +184,18 @@ pub fn some_room(generator: &mut Generator, needed: usize) -> usize {
 }
 
 // ---- accepted sheets
+
+/// A mark of the oracle as the bindings have it.
+pub fn bound(mark: &Mark) -> rollmap::Mark {
+    rollmap::Mark {
+        x: mark.x,
+        y: mark.y,
+        radius: mark.radius,
+        priority: mark.priority,
+        kind: mark.kind,
+        tag: mark.tag,
+    }
+}
 
 /// The sheet of one part with these marks.
 pub fn one_part(marks: &[Mark]) -> Vec<u8> {
@@ -220,6 +260,20 @@ pub fn some_marks(generator: &mut Generator) -> Vec<Mark> {
         _ => generator.below(8),
     };
     marks(shape, n as usize, generator.draw())
+}
+
+/// Marks on a few points with few radii and priorities, so that most pairs have the
+/// touching value of many others.
+pub fn tied_marks(generator: &mut Generator, n: usize) -> Vec<Mark> {
+    let (places, radii) = (1 + generator.below(6), 1 + generator.below(3));
+    let (step, priorities) = (generator.choose(&[1, 7, 5_000]), 1 + generator.below(4));
+    let mut mark = || {
+        let mut place = || step * (generator.below(places) as i16 - 3);
+        let (x, y) = (place(), place());
+        let radius = 1 << generator.below(radii);
+        Mark::plain(x, y, radius, generator.below(priorities) as u16)
+    };
+    (0..n).map(|_| mark()).collect()
 }
 
 // ---- damaged sheets
