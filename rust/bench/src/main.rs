@@ -8,11 +8,11 @@ mod race;
 
 use std::hint::black_box;
 
-use oracle::mark::write_marks;
+use oracle::mark::{write_marks, Mark};
 use oracle::sample::{marks, Shape};
 use oracle::sheet::join;
 use oracle::view::Edges;
-use rollmap::{map_bytes, scheduled_bytes, work_bytes, View, Work, Zoom};
+use rollmap::{map_bytes, scheduled_bytes, work_bytes, Refusal, View, Work, Zoom};
 
 use plain::schedule::Desk;
 use race::{race, Micros};
@@ -25,6 +25,13 @@ const DATA: [(&str, Shape); 6] = [
     ("one place", Shape::OnePlace),
     ("huge radius", Shape::HugeRadius),
     ("1 % huge radius", Shape::FewHuge),
+];
+
+/// The data that changes are timed on.
+const CHANGED: [(&str, Shape); 3] = [
+    ("uniform", Shape::Uniform),
+    ("clustered", Shape::Clustered),
+    ("reel", Shape::Reel),
 ];
 
 /// The data that viewing is timed on.
@@ -53,6 +60,9 @@ const ROUNDS: usize = 15;
 /// Rounds of sorting all pairs, which is slow.
 const PAIR_ROUNDS: usize = 2;
 
+/// Rounds of a change, which is raced against scheduling that takes nearly as long.
+const CHANGE_ROUNDS: usize = 60;
+
 /// Rounds of what takes well under a millisecond.
 const QUICK_ROUNDS: usize = 100;
 
@@ -60,6 +70,7 @@ fn main() {
     println!("{}", introduction());
     scheduling();
     growth();
+    changing();
     checking();
     viewing();
     walking();
@@ -70,8 +81,8 @@ fn introduction() -> String {
     format!(
         "# Times of the proved library against plain Rust\n\n\
          Each time is the processor's, the least of {ROUNDS} rounds of scheduling \
-         ({PAIR_ROUNDS} by all pairs) and {QUICK_ROUNDS} of the rest, in which the contenders \
-         take turns. Buffers and arrays are allocated before \
+         ({PAIR_ROUNDS} by all pairs), {CHANGE_ROUNDS} of changes and {QUICK_ROUNDS} of the \
+         rest, in which the contenders take turns. Buffers and arrays are allocated before \
          and not cleared between rounds: they hold what the round before left. A ratio above \
          1 says that the proved library takes longer."
     )
@@ -84,14 +95,24 @@ fn table(heading: &str, columns: &[&str]) {
     println!("|{}", "---|".repeat(columns.len()));
 }
 
+/// The sheet of one part with these marks.
+fn one_part(marks: &[Mark]) -> Vec<u8> {
+    join(&[&write_marks(marks)])
+}
+
+/// The scheduled sheet of these marks.
+fn three_parts(marks: &[Mark]) -> Vec<u8> {
+    rollmap::schedule_to_vec(&one_part(marks)).expect("the marks are taken")
+}
+
 /// The sheet of one part of a sample.
 fn sheet_of(shape: Shape, n: usize) -> Vec<u8> {
-    join(&[&write_marks(&marks(shape, n, 1))])
+    one_part(&marks(shape, n, 1))
 }
 
 /// The scheduled sheet of a sample.
 fn scheduled(shape: Shape, n: usize) -> Vec<u8> {
-    rollmap::schedule_to_vec(&sheet_of(shape, n)).expect("the sample is taken")
+    three_parts(&marks(shape, n, 1))
 }
 
 /// The least times of scheduling a sheet: proved, plain with the same cells, and plain
@@ -196,6 +217,82 @@ fn growth() {
                 ours.over(theirs),
                 scan.0,
             );
+        }
+    }
+}
+
+/// The least times of a change that leaves these marks, and of scheduling them: from a
+/// sheet of three parts, which is checked as the changed one is, and from one of one part.
+/// All are seen to write the same bytes.
+fn time_change(
+    new: &[Mark],
+    change: impl Fn(Work<'_>, &mut [u8]) -> Result<usize, Refusal>,
+) -> [Micros; 3] {
+    let n = new.len();
+    let (whole, bare) = (three_parts(new), one_part(new));
+    let mut works = [(); 3].map(|()| vec![0; work_bytes(n)]);
+    let mut outs = [(); 3].map(|()| vec![0; scheduled_bytes(n)]);
+    let ([work, work_whole, work_bare], [out, out_whole, out_bare]) = (&mut works, &mut outs);
+    let times = race(
+        CHANGE_ROUNDS,
+        (MOST / n) as u32,
+        [
+            &mut || _ = black_box(change(Work(work), out)),
+            &mut || _ = black_box(rollmap::schedule(&whole, Work(work_whole), out_whole)),
+            &mut || _ = black_box(rollmap::schedule(&bare, Work(work_bare), out_bare)),
+        ],
+    );
+    assert!(outs.iter().all(|out| *out == whole), "all write the sheet");
+    times
+}
+
+/// The times of adding the last of these marks to the others.
+fn time_adding(new: &[Mark]) -> [Micros; 3] {
+    let (last, others) = new.split_last().expect("there is a mark");
+    let (sheet, last) = (three_parts(others), rollmap::Mark::from_bytes(last.write()));
+    time_change(new, |work, out| rollmap::add(&sheet, last, work, out))
+}
+
+/// The times of taking the middle one of these marks out.
+fn time_taking_out(old: &[Mark]) -> [Micros; 3] {
+    let (sheet, middle) = (three_parts(old), old.len() / 2);
+    let new = [&old[..middle], &old[middle + 1..]].concat();
+    time_change(&new, |work, out| {
+        rollmap::take_out(&sheet, middle as u32, work, out)
+    })
+}
+
+fn changing() {
+    table(
+        "Adding the last mark and taking the middle one out, against scheduling the new marks",
+        &[
+            "data",
+            "change",
+            "new number of marks",
+            "change, µs",
+            "scheduling three parts, µs",
+            "ratio",
+            "scheduling one part, µs",
+            "ratio",
+        ],
+    );
+    for (name, shape) in CHANGED {
+        for n in SIZES {
+            let new = marks(shape, n, 1);
+            let old = marks(shape, MOST.min(n + 1), 1);
+            for (change, n, [ours, whole, bare]) in [
+                ("adding", n, time_adding(&new)),
+                ("taking out", old.len() - 1, time_taking_out(&old)),
+            ] {
+                println!(
+                    "| {name} | {change} | {n} | {:.1} | {:.1} | {:.2} | {:.1} | {:.2} |",
+                    ours.0,
+                    whole.0,
+                    ours.over(whole),
+                    bare.0,
+                    ours.over(bare),
+                );
+            }
         }
     }
 }
