@@ -18,7 +18,7 @@ use Rattle.contents.specs.Asking.{_asks_, answer}
 use Rattle.contents.specs.Contents.{Part, codesOf, Writable}
 use Rattle.contents.specs.Questions.{codesRight}
 use Rattle.contents.specs.Laws.{Numbered}
-use Rattle.bodies.specs.Questions.{markCount, fieldQuestions, part1Questions, isSchedule, bodyQuestions}
+use Rattle.bodies.specs.Questions.{markCount, fieldQuestions, part1Questions, isEdition, isSchedule, bodyQuestions}
 use Rattle.bodies.specs.Fitting.{Fitting}
 use Rattle.bodies.specs.Lemmas.Numbered as Numbering
 use Rattle.bodies.specs.Lemmas.Fitting as Fits
@@ -52,6 +52,10 @@ part1-iff = Fits.part1-iff
 -- and to 4 to 9
 pub fitting-iff : (parts : List Part) → (answer (bodyQuestions parts) ≡ 0) ↔ Fitting parts
 fitting-iff = Fits.fitting-iff
+
+-- Part 4 is one byte.
+pub edition-long : (body : List ℕ) → isEdition body ≡ true → length body ≡ 1
+edition-long = Fits.edition-long
 
 -- Parts that fit one another are small enough for the contents.
 pub fitting-writable : (parts : List Part) → Fitting parts → codesRight (codesOf parts) ≡ true → Writable parts

@@ -1,8 +1,8 @@
--- Questions 4 to 9, each by its number: those of the bodies. Checking a sheet and putting parts together ask the same.
+-- Questions 4 to 9 and 19, each by its number: those of the bodies. Checking a sheet and putting parts together ask the same.
 use Prim.Native.Nat.{ℕ, _*_, _/_, _%_}
 use mathlib.Core.Bool.{Bool, _&&_, _||_}
 use mathlib.Core.List.{List, [], _∷_, _++_}
-use lib.ListN.{length}
+use lib.ListN.{length, getD}
 use lib.Dec.{ltb, leb, eqb}
 use Rattle.lists.specs.Tests.{every}
 use Rattle.fractions.specs.declared.Fraction.{Fraction}
@@ -12,7 +12,7 @@ use Rattle.elimination.specs.declared.Record.{Record}
 use Rattle.elimination.specs.Records.{recordSize, fractionOf, isNever, markRecord, valueAt}
 use Rattle.elimination.specs.Reel.{Reel}
 use Rattle.index.specs.Index.{indexEntrySize, isIndex}
-use Rattle.contents.specs.Contents.{Part, has, marksPart, schedulePart, indexPart}
+use Rattle.contents.specs.Contents.{Part, has, marksPart, schedulePart, indexPart, editionPart}
 use Rattle.contents.specs.Asking.{Question, _asks_, inTurn, ifThere}
 
 -- ---- of part 1, `s`
@@ -25,9 +25,9 @@ question4 s = eqb (length s % markSize) 0 && leb (length s) 45056
 abbrev pub markCount : List ℕ → ℕ
 markCount s = length s / markSize
 
--- the reel of marks as they stand
-abbrev pub reelFrom : List ℕ → Reel
-reelFrom s = record { marks = s; count = markCount s }
+-- the reel of marks as they stand, ranked by this edition
+abbrev pub reelFrom : ℕ → List ℕ → Reel
+reelFrom edition s = record { marks = s; count = markCount s; edition = edition }
 
 -- 5 and 6. "before its radius: is the kind below 200? Is the radius at most 16,383?"
 abbrev pub fieldQuestions : ℕ → ℕ → List Question
@@ -54,7 +54,7 @@ exactly f g = eqb (f .num) (g .num) && eqb (f .den) (g .den)
 unfoldable pub namesRight : Reel → Record → ℕ → Bool
 namesRight r d m =
     let by = d .eliminator in
-    (ltb by (r .count) && outranks (r .marks) by m) && exactly (fractionOf d) (touching (r .marks) by m)
+    (ltb by (r .count) && outranks (r .edition) (r .marks) by m) && exactly (fractionOf d) (touching (r .marks) by m)
 
 -- a record of the schedule is right: it is "the 'never' record", or it names a mark rightly, "and is that mark removed later?"
 unfoldable pub recordRight : Reel → List ℕ → ℕ → Bool
@@ -66,15 +66,29 @@ recordRight r p m =
 unfoldable pub isSchedule : Reel → List ℕ → Bool
 isSchedule r p = every (recordRight r p) (r .count)
 
+-- ---- of part 4, `body`
+
+-- 02, request 6: "Part 4, one byte, names edition 1 or 2; without it edition 1 holds." A part that is not there counts as empty.
+abbrev pub editionIn : List ℕ → ℕ
+editionIn body = getD body 0 1
+
+-- is it "one byte of 1 or 2"?
+unfoldable pub isEdition : List ℕ → Bool
+isEdition body = eqb (length body) 1 && (eqb (editionIn body) 1 || eqb (editionIn body) 2)
+
 -- ---- of a sheet's parts
 
 -- n: how many marks there are
 abbrev pub countOf : List Part → ℕ
 countOf parts = markCount (marksPart parts)
 
+-- the edition that they are ranked by
+abbrev pub editionOf : List Part → ℕ
+editionOf parts = editionIn (editionPart parts)
+
 -- the reel that they hold
 abbrev pub reelOf : List Part → Reel
-reelOf parts = reelFrom (marksPart parts)
+reelOf parts = reelFrom (editionOf parts) (marksPart parts)
 
 -- a part that is there has this size
 unfoldable pub isSized : Bool → ℕ → ℕ → Bool
@@ -84,6 +98,10 @@ isSized there size wanted = ifThere there (eqb size wanted)
 unfoldable pub question7 : List Part → Bool
 question7 parts =
     isSized (has parts 2) (length (schedulePart parts)) (recordSize * countOf parts) && isSized (has parts 3) (length (indexPart parts)) (indexEntrySize * countOf parts)
+
+-- 19. "after 7, 19 where part 4 isn't one byte of 1 or 2"
+unfoldable pub question19 : List Part → Bool
+question19 parts = ifThere (has parts 4) (isEdition (editionPart parts))
 
 -- 8. "Is each schedule record the 'never' record, or else ..?"
 unfoldable pub question8 : List Part → Bool
@@ -95,10 +113,10 @@ question9 parts = ifThere (has parts 3) (isIndex (marksPart parts) (schedulePart
 
 -- ---- in their order
 
--- 7 to 9
+-- 7, 19, 8 and 9: the edition is asked about before the ranks that go by it
 unfoldable pub lastQuestions : List Part → List Question
-lastQuestions parts = (7 asks question7 parts) ∷ (8 asks question8 parts) ∷ (9 asks question9 parts) ∷ []
+lastQuestions parts = (7 asks question7 parts) ∷ (19 asks question19 parts) ∷ (8 asks question8 parts) ∷ (9 asks question9 parts) ∷ []
 
--- 4 to 9
+-- 4 to 9, with 19 "after 7"
 unfoldable pub bodyQuestions : List Part → List Question
 bodyQuestions parts = part1Questions (marksPart parts) ++ lastQuestions parts

@@ -1,4 +1,4 @@
-// The bodies of a sheet: questions 4 to 9.
+// The bodies of a sheet: questions 4 to 9, and 19 after 7.
 use elimination::RECORD_SIZE;
 use elimination::Record;
 use fractions::Fraction;
@@ -17,7 +17,7 @@ ghost use Rattle.contents.specs.Contents.{together};
 ghost use Rattle.contents.specs.Asking.{answer};
 ghost use Rattle.contents.specs.Questions.{codesRight};
 ghost use Rattle.bodies.specs.Questions.{question4, fieldQuestions, oneMark, markQuestions, part1Questions, exactly, namesRight, recordRight};
-ghost use Rattle.bodies.specs.Questions.{isSchedule, isSized, question7, question8, question9, lastQuestions, bodyQuestions};
+ghost use Rattle.bodies.specs.Questions.{isSchedule, editionIn, isEdition, isSized, question7, question19, question8, question9, lastQuestions, bodyQuestions};
 ghost use Rattle.bodies.specs.Fitting.{Marked};
 
 // ---- questions 4 to 6, of part 1
@@ -87,30 +87,30 @@ fn exactly(f: Fraction, g: Fraction) -> bool
 }
 
 // Does mark m's record d name a higher-ranked mark below n, with their touching value as it is, unreduced?
-fn names_right(marks: &[u8], n: usize, d: Record, m: usize) -> bool
+fn names_right(marks: &[u8], edition: u8, n: usize, d: Record, m: usize) -> bool
     requires { ⌜ GoodMarks (now marks) n × (m < n) ⌝ }
-    ensures { λ r. ⌜ r ≡ namesRight (record { marks = now (marks .entry); count = n }) d m ⌝ }
+    ensures { λ r. ⌜ r ≡ namesRight (record { marks = now (marks .entry); count = n; edition = edition }) d m ⌝ }
 {
     let by = d.eliminator as usize;
     if n <= by {
         return false;
     }
-    if !marks::outranks(marks, by, m) {
+    if !marks::outranks(marks, edition, by, m) {
         return false;
     }
     exactly(elimination::fraction_of(d), marks::touching(marks, by, m))
 }
 
 // Is mark m's record the 'never' record, or does it name a mark rightly that is removed later?
-fn record_right(marks: &[u8], schedule: &[u8], n: usize, m: usize) -> bool
+fn record_right(marks: &[u8], edition: u8, schedule: &[u8], n: usize, m: usize) -> bool
     requires { ⌜ GoodMarks (now marks) n × (recordSize * n ≤ length (now schedule)) × (m < n) ⌝ }
-    ensures { λ r. ⌜ r ≡ recordRight (record { marks = now (marks .entry); count = n }) (now (schedule .entry)) m ⌝ }
+    ensures { λ r. ⌜ r ≡ recordRight (record { marks = now (marks .entry); count = n; edition = edition }) (now (schedule .entry)) m ⌝ }
 {
     let d = elimination::record_at(schedule, RECORD_SIZE * m);
     if elimination::is_never(d) {
         return true;
     }
-    if !names_right(marks, n, d, m) {
+    if !names_right(marks, edition, n, d, m) {
         return false;
     }
     let by = d.eliminator as usize;
@@ -121,13 +121,13 @@ fn record_right(marks: &[u8], schedule: &[u8], n: usize, m: usize) -> bool
 }
 
 // Is each record right?
-fn is_schedule(marks: &[u8], schedule: &[u8], n: usize) -> bool
+fn is_schedule(marks: &[u8], edition: u8, schedule: &[u8], n: usize) -> bool
     requires { ⌜ GoodMarks (now marks) n × (recordSize * n ≤ length (now schedule)) ⌝ }
-    ensures { λ r. ⌜ r ≡ isSchedule (record { marks = now (marks .entry); count = n }) (now (schedule .entry)) ⌝ }
+    ensures { λ r. ⌜ r ≡ isSchedule (record { marks = now (marks .entry); count = n; edition = edition }) (now (schedule .entry)) ⌝ }
 {
     let mut m = 0;
     while m < n {
-        if !record_right(marks, schedule, n, m) {
+        if !record_right(marks, edition, schedule, n, m) {
             return false;
         }
         m += 1;
@@ -135,7 +135,30 @@ fn is_schedule(marks: &[u8], schedule: &[u8], n: usize) -> bool
     true
 }
 
-// ---- questions 7 to 9, and 4 to 9, of the bodies under these codes
+// ---- part 4: the edition of the handbook
+
+// Is this one byte of 1 or 2?
+fn is_edition(body: &[u8]) -> bool
+    ensures { λ r. ⌜ r ≡ isEdition (now (body .entry)) ⌝ }
+{
+    if body.len() != 1 {
+        return false;
+    }
+    let edition = body[0];
+    edition == 1 || edition == 2
+}
+
+// The edition that part 4 names; without it the first one holds.
+pub fn edition_of(body: &[u8]) -> u8
+    ensures { λ r. ⌜ r ≡ editionIn (now (body .entry)) ⌝ }
+{
+    if body.len() == 0 {
+        return 1;
+    }
+    body[0]
+}
+
+// ---- questions 7 to 9 and 19, and 4 to 9, of the bodies under these codes
 
 // Has a part that is there this size?
 fn is_sized(there: bool, size: usize, wanted: usize) -> bool
@@ -158,6 +181,17 @@ fn has_sizes(codes: &[u16], bodies: &[&[u8]], n: usize) -> bool
         & is_sized(contents::names(codes, 3), index, INDEX_ENTRY_SIZE * n)
 }
 
+// 19. Is part 4, if present, one byte of 1 or 2?
+fn has_edition(codes: &[u16], bodies: &[&[u8]]) -> bool
+    requires { ⌜ (length (now codes) ≡ length (now bodies)) × (0 < length (now bodies)) ⌝ }
+    ensures { λ r. ⌜ r ≡ question19 (together (now (codes .entry)) (map now (now (bodies .entry)))) ⌝ }
+{
+    if !contents::names(codes, 4) {
+        return true;
+    }
+    is_edition(contents::find(codes, bodies, 4))
+}
+
 // 8. Is each record of part 2 right?
 fn has_schedule(codes: &[u16], bodies: &[&[u8]], n: usize) -> bool
     requires { ⌜ (length (now codes) ≡ length (now bodies)) × (0 < length (now bodies)) × Marked (together (now codes) (map now (now bodies))) n ⌝ }
@@ -169,6 +203,7 @@ fn has_schedule(codes: &[u16], bodies: &[&[u8]], n: usize) -> bool
     }
     is_schedule(
         contents::find(codes, bodies, 1),
+        edition_of(contents::find(codes, bodies, 4)),
         contents::find(codes, bodies, 2),
         n,
     )
@@ -191,7 +226,7 @@ fn has_index(codes: &[u16], bodies: &[&[u8]], n: usize) -> bool
     )
 }
 
-// 7 to 9: the first 'no', or 0.
+// 7, 19, 8 and 9: the first 'no', or 0.
 fn last_answer(codes: &[u16], bodies: &[&[u8]], n: usize) -> u32
     requires { ⌜ (length (now codes) ≡ length (now bodies)) × (0 < length (now bodies)) × Marked (together (now codes) (map now (now bodies))) n ⌝ }
     requires { ⌜ codesRight (now codes) ≡ true ⌝ }
@@ -199,6 +234,9 @@ fn last_answer(codes: &[u16], bodies: &[&[u8]], n: usize) -> u32
 {
     if !has_sizes(codes, bodies, n) {
         return 7;
+    }
+    if !has_edition(codes, bodies) {
+        return 19;
     }
     if !has_schedule(codes, bodies, n) {
         return 8;

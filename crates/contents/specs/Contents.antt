@@ -39,7 +39,7 @@ names (c ∷ codes) code = eqb c code || names codes code
 abbrev pub has : List Part → ℕ → Bool
 has parts code = names (codesOf parts) code
 
--- "Part 1: the marks." "Part 2: the schedule." "Part 3: the index."
+-- 01: "Part 1: the marks." "Part 2: the schedule." "Part 3: the index."
 abbrev pub marksPart : List Part → List ℕ
 marksPart parts = find parts 1
 
@@ -49,9 +49,14 @@ schedulePart parts = find parts 2
 abbrev pub indexPart : List Part → List ℕ
 indexPart parts = find parts 3
 
+-- 02: "Part 4, one byte, names edition 1 or 2"
+abbrev pub editionPart : List Part → List ℕ
+editionPart parts = find parts 4
+
 -- ---- reading
 
--- "Contents: number of parts (2 bytes, 1 to 3), then per part 10 bytes: code (2), offset (4), length (4)." Entries are counted from 0.
+-- "Contents: number of parts (2 bytes, 1 to 3), then per part 10 bytes: code (2), offset (4), length (4)." By 02 there are up to 4 parts.
+-- Entries are counted from 0.
 abbrev pub countSize : ℕ
 countSize = 2
 

@@ -2,8 +2,8 @@
 use Prim.Native.Nat.{ℕ, _+_, _*_, _<_, _≤_}
 use mathlib.Core.Path.{_≡_, refl}
 use mathlib.Core.Bool.{true, false}
-use mathlib.Core.List.{List, [], _∷_}
-use mathlib.Core.Logic.{_↔_, _⊎_}
+use mathlib.Core.List.{List, [], _∷_, List·Memᴰ}
+use mathlib.Core.Logic.{_↔_}
 use borrow.Author.Tests.{ltb-true, lt-ltb}
 use Rattle.lists.specs.TestLaws.{same-test}
 use lib.ListN.{length, getD}
@@ -42,8 +42,10 @@ laid-iff = Laying.laid-iff
 pub count-iff : (k : ℕ) → (isCount k ≡ true) ↔ ((1 ≤ k) × (k ≤ topCode))
 count-iff = Laying.count-iff
 
--- Question 2 takes these three lists of codes and no other.
-pub codes-iff : (codes : List ℕ) → (codesRight codes ≡ true) ↔ ((codes ≡ 1 ∷ []) ⊎ ((codes ≡ 1 ∷ 2 ∷ []) ⊎ (codes ≡ 1 ∷ 2 ∷ 3 ∷ [])))
+-- Question 2 takes these lists of codes and no other.
+pub codes-iff : (codes : List ℕ) → (codesRight codes ≡ true)
+    ↔ List·Memᴰ codes ((1 ∷ []) ∷ (1 ∷ 4 ∷ []) ∷ (1 ∷ 2 ∷ []) ∷ (1 ∷ 2 ∷ 4 ∷ []) ∷ (1 ∷ 2 ∷ 3 ∷ []) ∷ (1 ∷ 2 ∷ 3 ∷ 4 ∷ []) ∷ [])
+unfolding codesRight
 codes-iff = Codes.codes-iff
 
 -- codes that question 2 takes: at least one, at most as many as there are, each at most the top code

@@ -27,15 +27,16 @@ placeBefore s (suc i) code = cond (eqb (codeAt s i) code) (extentAt s i) (placeB
 abbrev pub layoutOf : List ℕ → Layout
 layoutOf s =
     let k = countAt s in
-    record { count = k; marks = placeBefore s k 1; schedule = placeBefore s k 2; index = placeBefore s k 3 }
+    record { count = k; marks = placeBefore s k 1; schedule = placeBefore s k 2; index = placeBefore s k 3; edition = placeBefore s k 4 }
 
 -- 01: "A refused sheet opens with no parts."
 abbrev pub noParts : Layout
-noParts = record { count = 0; marks = nowhere; schedule = nowhere; index = nowhere }
+noParts = record { count = 0; marks = nowhere; schedule = nowhere; index = nowhere; edition = nowhere }
 
 -- where the part of this code lies, by a layout
 abbrev pub placeOf : Layout → ℕ → Extent
-placeOf l code = cond (eqb code 1) (l .marks) (cond (eqb code 2) (l .schedule) (cond (eqb code 3) (l .index) nowhere))
+placeOf l code =
+    cond (eqb code 1) (l .marks) (cond (eqb code 2) (l .schedule) (cond (eqb code 3) (l .index) (cond (eqb code 4) (l .edition) nowhere)))
 
 -- Is the part of this code there, by a layout? No body starts at 0, where the contents stand.
 abbrev pub isThere : Layout → ℕ → Bool
@@ -49,6 +50,7 @@ withPlace l code place =
       marks = cond (eqb code 1) place (l .marks);
       schedule = cond (eqb code 2) place (l .schedule);
       index = cond (eqb code 3) place (l .index);
+      edition = cond (eqb code 4) place (l .edition);
     }
 
 -- the bytes there; none where the extent does not lie in the sheet

@@ -8,15 +8,15 @@ use Rattle.contents.specs.Contents.{names, codesOf, countAt, offsetAt, s
 use Rattle.lists.specs.Tests.{every}
 use Rattle.contents.specs.Asking.{Question, _asks_, ifThere}
 
--- the greatest code, and so the most parts that a sheet has
+-- the greatest code, and so the most parts that a sheet has: "one part and code more with each code added later"
 abbrev pub topCode : ℕ
-topCode = 3
+topCode = 4
 
--- "1 to 3 parts"
+-- 1 to 4 parts: 01 has "1 to 3 parts", and by 02 "questions 1 and 2 allow four parts"
 abbrev pub isCount : ℕ → Bool
 isCount k = leb 1 k && leb k topCode
 
--- 1. "Are there 2 bytes, 1 to 3 parts, and the whole contents?"
+-- 1. "Are there 2 bytes, 1 to 3 parts, and the whole contents?", by 02 with 1 to 4 parts
 unfoldable pub question1 : List ℕ → Bool
 question1 s = leb 2 (length s) && (isCount (countAt s) && leb (contentsSize (countAt s)) (length s))
 
@@ -25,8 +25,7 @@ abbrev pub rising : ℕ → List ℕ → Bool
 rising low [] = true
 rising low (code ∷ codes) = (ltb low code && leb code topCode) && rising code codes
 
--- 2. "Are the codes 1, 2, .. in order?" They rise within 1 to the top code, part 1 is there, and part 3 only with part 2: of three codes
--- these are 1 / 1, 2 / 1, 2, 3, as `codes-iff` of Laws says.
+-- 2. 02: "codes rising within 1 to 4 .., part 1 present and part 3 only with part 2". `codes-iff` of Laws names every list that is right.
 unfoldable pub codesRight : List ℕ → Bool
 codesRight codes = rising 0 codes && (names codes 1 && ifThere (names codes 3) (names codes 2))
 

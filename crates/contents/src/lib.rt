@@ -9,12 +9,12 @@ ghost use lib.Seq.{sets};
 ghost use Rattle.contents.specs.Contents.{codesOf, bodiesOf, names, countAt, codeAt, offsetAt, lengthAt, contentsSize, split};
 ghost use Rattle.contents.specs.Contents.{sizesOf, entry, contentsOf, chain, join, together, find};
 ghost use Rattle.contents.specs.Asking.{answer};
-ghost use Rattle.contents.specs.Questions.{isCount, rising, codesRight, question1, question2, question3, contentsQuestions};
+ghost use Rattle.contents.specs.Questions.{topCode, isCount, rising, codesRight, question1, question2, question3, contentsQuestions};
 ghost use Rattle.contents.specs.Laid.{Whole, Laid};
 ghost use Rattle.contents.specs.Places.{nowhere, extentAt, layoutOf, noParts, placeOf, withPlace, isThere, cutOf};
 
 // The greatest code of a part, and so the most parts that a sheet has.
-const TOP: usize = 3;
+const TOP: usize = 4;
 
 // The sizes of the number of parts and of an entry, whose fields are code (2 bytes), offset (4) and length (4).
 const COUNT_SIZE: usize = 2;
@@ -65,7 +65,7 @@ pub fn is_count(k: usize) -> bool
     1 <= k && k <= TOP
 }
 
-// 1. Are there 2 bytes, 1 to 3 parts, and the whole contents?
+// 1. Are there 2 bytes, 1 to 4 parts, and the whole contents?
 fn has_contents(s: &[u8]) -> bool
     ensures { λ r. ⌜ r ≡ question1 (now (s .entry)) ⌝ }
 {
@@ -111,7 +111,7 @@ pub fn names(codes: &[u16], code: u16) -> bool
 }
 
 // 2, of codes: do they rise within 1 to the top code, is part 1 there, and part 3 only with part 2?
-fn codes_right(codes: &[u16]) -> bool
+pub fn codes_right(codes: &[u16]) -> bool
     ensures { λ r. ⌜ r ≡ codesRight (now (codes .entry)) ⌝ }
 {
     if !is_rising(codes) {
@@ -127,12 +127,12 @@ fn codes_right(codes: &[u16]) -> bool
 }
 
 // The codes of the parts, in the order of their entries; 0 behind the last.
-pub fn codes_of(s: &[u8]) -> [u16; 3]
+pub fn codes_of(s: &[u8]) -> [u16; TOP]
     requires { ⌜ Whole (now s) ⌝ }
-    ensures { λ r. ⌜ (length r ≡ 3) × (take (countAt (now (s .entry))) r ≡ codesOf (split (now (s .entry)))) ⌝ }
+    ensures { λ r. ⌜ (length r ≡ topCode) × (take (countAt (now (s .entry))) r ≡ codesOf (split (now (s .entry)))) ⌝ }
 {
     let count = count_at(s);
-    let mut codes = [0u16; 3];
+    let mut codes = [0u16; TOP];
     let mut i = 0;
     while i < count {
         codes[i] = code_at(s, i);
@@ -198,6 +198,7 @@ pub struct Layout {
     pub marks: Extent,
     pub schedule: Extent,
     pub index: Extent,
+    pub edition: Extent,
 }
 
 // The place of a part that is not there.
@@ -234,6 +235,7 @@ pub fn no_parts() -> Layout
         marks: none,
         schedule: none,
         index: none,
+        edition: none,
     }
 }
 
@@ -245,24 +247,35 @@ fn with_place(l: Layout, code: u16, place: Extent) -> Layout
     let marks = l.marks;
     let schedule = l.schedule;
     let index = l.index;
+    let edition = l.edition;
     match code {
         1 => Layout {
             count,
             marks: place,
             schedule,
             index,
+            edition,
         },
         2 => Layout {
             count,
             marks,
             schedule: place,
             index,
+            edition,
         },
         3 => Layout {
             count,
             marks,
             schedule,
             index: place,
+            edition,
+        },
+        4 => Layout {
+            count,
+            marks,
+            schedule,
+            index,
+            edition: place,
         },
         _ => l,
     }
@@ -280,6 +293,7 @@ pub fn layout_of(s: &[u8]) -> Layout
         marks: none,
         schedule: none,
         index: none,
+        edition: none,
     };
     let mut i = 0;
     while i < count {
@@ -297,6 +311,7 @@ pub fn place_of(l: Layout, code: u32) -> Extent
         1 => l.marks,
         2 => l.schedule,
         3 => l.index,
+        4 => l.edition,
         _ => nowhere(),
     }
 }
@@ -408,12 +423,12 @@ pub fn put_contents(out: &mut [u8], codes: &[u16], sizes: &[usize]) -> usize
     start
 }
 
-// The sizes of at most three bodies; 0 behind the last.
-fn sizes_of(bodies: &[&[u8]]) -> [usize; 3]
-    requires { ⌜ length (now bodies) ≤ 3 ⌝ }
-    ensures { λ r. ⌜ (length r ≡ 3) × (take (length (now (bodies .entry))) r ≡ sizesOf (map now (now (bodies .entry)))) ⌝ }
+// The sizes of at most as many bodies as there are codes; 0 behind the last.
+fn sizes_of(bodies: &[&[u8]]) -> [usize; TOP]
+    requires { ⌜ length (now bodies) ≤ topCode ⌝ }
+    ensures { λ r. ⌜ (length r ≡ topCode) × (take (length (now (bodies .entry))) r ≡ sizesOf (map now (now (bodies .entry)))) ⌝ }
 {
-    let mut sizes = [0usize; 3];
+    let mut sizes = [0usize; TOP];
     let mut i = 0;
     while i < bodies.len() {
         sizes[i] = body_of(bodies, i).len();
@@ -455,7 +470,7 @@ fn fits(bodies: &[&[u8]], room: usize) -> bool
 
 // Has the sheet of the bodies under these codes at most `room` bytes?
 pub fn has_room(codes: &[u16], bodies: &[&[u8]], room: usize) -> bool
-    requires { ⌜ (length (now codes) ≡ length (now bodies)) × (length (now bodies) ≤ 3) ⌝ }
+    requires { ⌜ (length (now codes) ≡ length (now bodies)) × (length (now bodies) ≤ topCode) ⌝ }
     ensures { λ r. ⌜ r ≡ leb (length (join (together (now (codes .entry)) (map now (now (bodies .entry)))))) room ⌝ }
 {
     let head = ENTRY_SIZE * codes.len() + COUNT_SIZE;
@@ -467,7 +482,7 @@ pub fn has_room(codes: &[u16], bodies: &[&[u8]], room: usize) -> bool
 
 // Writes the sheet of the bodies under these codes at the start of `out`, and answers its length.
 pub fn put_parts(out: &mut [u8], codes: &[u16], bodies: &[&[u8]]) -> usize
-    requires { ⌜ (length (now codes) ≡ length (now bodies)) × (length (now bodies) ≤ 3) ⌝ }
+    requires { ⌜ (length (now codes) ≡ length (now bodies)) × (length (now bodies) ≤ topCode) ⌝ }
     requires { ⌜ (length (join (together (now codes) (map now (now bodies)))) ≤ length (now out)) × (length (join (together (now codes) (map now (now bodies)))) < 4294967296) ⌝ }
     ensures { λ r. ⌜ (r ≡ length (join (together (now (codes .entry)) (map now (now (bodies .entry)))))) × (now (out .exit) ≡ sets (now (out .entry)) 0 (join (together (now (codes .entry)) (map now (now (bodies .entry)))))) ⌝ }
 {

@@ -8,7 +8,7 @@ use Rattle.elimination.specs.Reel.{Reel, marksOf}
 pub sheet-proper : (r : Reel) → r .count ≤ 4096 → Proper (marksOf r)
 sheet-proper r few =
     record {
-      distinct = λ i j hi hj. rank-distinct (r .marks) i j (omega arith) (omega arith);
+      distinct = λ i j hi hj. rank-distinct (r .edition) (r .marks) i j (omega arith) (omega arith);
       positive = touching-positive (r .marks);
       symmetric = touching-symmetric (r .marks);
     }

@@ -3,11 +3,11 @@ use Prim.Native.Nat.{ℕ, zero, suc, _+_, _-_, _*_, _<_, _≤_}
 use mathlib.Core.Path.{_≡_, refl, sym, ap, _∙_}
 use mathlib.Core.Bool.{Bool, true, false, cond, _&&_, _||_, false≢true}
 use mathlib.Core.List.{List}
-use mathlib.Core.Logic.{_↔_}
+use mathlib.Core.Logic.{_↔_, _≢_}
 use native.Mathlib.Decide.{decLt}
 use native.Mathlib.Nat.{mul-pos, mul-le-mul}
 use native.Mathlib.Omega.{arith}
-use borrow.Author.Tests.{ltb-true, eqb-true, leb-true, lt-ltb, le-ltb, eq-eqb}
+use borrow.Author.Tests.{ltb-true, eqb-true, leb-true, lt-ltb, le-ltb, eq-eqb, ne-eqb}
 use borrow.Author.Needs.{sfits-of}
 use lib.Dec.{ltb, eqb, eqb·suc-zero}
 use lib.IntN.{ℤ, pos, negsuc, negℤ, natAbs, subℕ, _+ℤ_, _-ℤ_, +ℤ-comm, negℤ-+ℤ, negℤ-negℤ}
@@ -23,7 +23,7 @@ use Rattle.marks.specs.Marks.{markSize, yOffset, priorityOffset, radiusA
 use Rattle.marks.specs.declared.House.the-variants.{Radius, Refused}
 use Rattle.marks.specs.declared.Label.{Label}
 use Rattle.marks.specs.Marks.{Group, note, spot, streak, patch, break, kindGroup, groupRadius, houseRadius, oldGroupRadius, oldRadius}
-use Rattle.marks.specs.Marks.{labelAt, apart, distance, touchingOf, touching, outranks, rankKey}
+use Rattle.marks.specs.Marks.{labelAt, apart, distance, touchingOf, touching, rankRadius, outranks, rankKey}
 
 -- ---- kinds
 
@@ -195,28 +195,70 @@ touching-small s a b k = touchingOf-small (labelAt s a) (labelAt s b) (label-pla
 
 -- ---- rank
 
-pub rank-distinct : (s : List ℕ) (a b : ℕ) → a < 4096 → b < 4096 → rankKey s a ≡ rankKey s b → a ≡ b
+pub rank-distinct : (edition : ℕ) (s : List ℕ) (a b : ℕ) → a < 4096 → b < 4096 → rankKey edition s a ≡ rankKey edition s b → a ≡ b
 unfolding rankKey
-rank-distinct s a b p q e = omega arith
+rank-distinct edition s a b p q e = omega arith
 
--- over the priorities x and y of a and b
-module _ (x y a b : ℕ) (hx : x < 65536) (hy : y < 65536) (ha : a < 4096) (hb : b < 4096) where
-  key-of-rank : ltb y x || (eqb x y && ltb a b) ≡ true → (65535 - x) * 4096 + a < (65535 - y) * 4096 + b
+pub rank-radius-bound : (edition : ℕ) (s : List ℕ) (m : ℕ) → usedAt s m ≤ 16383 → rankRadius edition s m ≤ 16383
+unfolding rankRadius
+rank-radius-bound edition s m h = go (eqb edition 2)
+  where
+    go : (t : Bool) → cond t (usedAt s m) 0 ≤ 16383
+    go true = h
+    go false = omega arith
+
+-- over the priorities x and y of a and b, and what counts of their radii, u and v
+module _ (x y u v a b : ℕ) (hx : x < 65536) (hy : y < 65536) (hu : u ≤ 16383) (hv : v ≤ 16383) (ha : a < 4096) (hb : b < 4096) where
+  key-of-rank : ltb y x || (eqb x y && (ltb v u || (eqb u v && ltb a b))) ≡ true
+      → ((65535 - x) * 16384 + (16383 - u)) * 4096 + a < ((65535 - y) * 16384 + (16383 - v)) * 4096 + b
   key-of-rank e =
-      or-and (ltb y x) (eqb x y) (ltb a b) e (λ h. omega (arith, ltb-true y x h))
-      (λ h l. omega (arith, eqb-true x y h, ltb-true a b l))
+      or-and (ltb y x) (eqb x y) (ltb v u || (eqb u v && ltb a b)) e (λ h. omega (arith, ltb-true y x h))
+      (λ h d.
+      or-and (ltb v u) (eqb u v) (ltb a b) d (λ k. omega (arith, eqb-true x y h, ltb-true v u k))
+      (λ k l. omega (arith, eqb-true x y h, eqb-true u v k, ltb-true a b l)))
 
-  rank-of-key : (65535 - x) * 4096 + a < (65535 - y) * 4096 + b → ltb y x || (eqb x y && ltb a b) ≡ true
+  rank-of-key : ((65535 - x) * 16384 + (16383 - u)) * 4096 + a < ((65535 - y) * 16384 + (16383 - v)) * 4096 + b
+      → ltb y x || (eqb x y && (ltb v u || (eqb u v && ltb a b))) ≡ true
   rank-of-key h =
       elim (decLt y x) [
         | yes l ↦ rw (lt-ltb y x l)
-        | no l ↦ rw (le-ltb y x (omega arith), eq-eqb x y (omega arith), lt-ltb a b (omega arith))
+        | no l ↦ elim (decLt v u) [
+          | yes k ↦ rw (le-ltb y x (omega arith), eq-eqb x y (omega arith), lt-ltb v u k)
+          | no k ↦ rw (le-ltb y x (omega arith), eq-eqb x y (omega arith), le-ltb v u (omega arith), eq-eqb u v (omega arith), lt-ltb a b (omega arith))
+        ]
       ]
 
-pub outranks-key : (s : List ℕ) (a b : ℕ) → Bytes s → a < 4096 → b < 4096
-    → (outranks s a b ≡ true) ↔ (rankKey s a < rankKey s b)
+key-says : (edition : ℕ) (s : List ℕ) (a b : ℕ) → Bytes s → a < 4096 → b < 4096 → rankRadius edition s a ≤ 16383 → rankRadius edition s b ≤ 16383
+    → (outranks edition s a b ≡ true) ↔ (rankKey edition s a < rankKey edition s b)
 unfolding outranks rankKey
-outranks-key s a b k p q =
+key-says edition s a b k p q u v =
     let x = le-bound 2 s (markSize * a + priorityOffset) k in
-    let y = le-bound 2 s (markSize * b + priorityOffset) k in
-    (key-of-rank (priorityAt s a) (priorityAt s b) a b x y p q, rank-of-key (priorityAt s a) (priorityAt s b) a b x y p q)
+    let y = le-bound 2 s (markSize * b + priorityOffset) k in (
+      key-of-rank (priorityAt s a) (priorityAt s b) (rankRadius edition s a) (rankRadius edition s b) a b x y u v p q,
+      rank-of-key (priorityAt s a) (priorityAt s b) (rankRadius edition s a) (rankRadius edition s b) a b x y u v p q,
+    )
+
+pub outranks-key : (edition : ℕ) (s : List ℕ) (a b : ℕ) → Bytes s → a < 4096 → b < 4096 → usedAt s a ≤ 16383 → usedAt s b ≤ 16383
+    → (outranks edition s a b ≡ true) ↔ (rankKey edition s a < rankKey edition s b)
+outranks-key edition s a b k p q u v =
+    key-says edition s a b k p q (rank-radius-bound edition s a u) (rank-radius-bound edition s b v)
+
+-- ---- rank in edition 1
+
+no-radius : (edition : ℕ) (s : List ℕ) (m : ℕ) → edition ≢ 2 → rankRadius edition s m ≡ 0
+unfolding rankRadius
+no-radius edition s m d = rw (ne-eqb edition 2 d)
+
+-- 01's "higher priority first; equal priority, lower number first", in every edition but 2
+pub first-edition : (edition : ℕ) (s : List ℕ) (a b : ℕ) → edition ≢ 2
+    → outranks edition s a b ≡ ltb (priorityAt s b) (priorityAt s a) || (eqb (priorityAt s a) (priorityAt s b) && ltb a b)
+unfolding outranks
+first-edition edition s a b d = rw (no-radius edition s a d, no-radius edition s b d)
+
+-- There no radius counts, and none need be good: the keys have the order of edition 1.
+pub first-edition-key : (edition : ℕ) (s : List ℕ) (a b : ℕ) → edition ≢ 2 → Bytes s → a < 4096 → b < 4096
+    → (outranks 1 s a b ≡ true) ↔ (rankKey edition s a < rankKey edition s b)
+first-edition-key edition s a b d k p q =
+    let u = no-radius edition s a d in
+    let v = no-radius edition s b d in
+    rw (first-edition 1 s a b (λ e. omega arith), ← first-edition edition s a b d) (key-says edition s a b k p q (omega arith) (omega arith))

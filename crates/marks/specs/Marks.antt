@@ -1,4 +1,4 @@
--- 01, "A mark" and "Touching, rank, removal" up to the process, with the house radii of 02, request 2. `s` is part 1 of a sheet, the marks' bytes, and `m` a mark's number.
+-- 01, "A mark" and "Touching, rank, removal" up to the process, with the house radii of 02, request 2, and the rank by editions of request 6. `s` is part 1 of a sheet, the marks' bytes, and `m` a mark's number.
 use Prim.Native.Nat.{ℕ, suc, _+_, _-_, _*_}
 use mathlib.Core.Bool.{Bool, cond, _&&_, _||_}
 use mathlib.Core.List.{List, _++_}
@@ -153,11 +153,19 @@ touching s a b = touchingOf (labelAt s a) (labelAt s b)
 
 -- ---- rank
 
--- "Rank: higher priority first; equal priority, lower number first." Mark `a` ranks higher than mark `b`.
-unfoldable pub outranks : List ℕ → ℕ → ℕ → Bool
-outranks s a b =
-    ltb (priorityAt s b) (priorityAt s a) || (eqb (priorityAt s a) (priorityAt s b) && ltb a b)
+-- What counts between equal priorities before the number. 02, request 6: in edition 2 "the larger used radius"; in edition 1,
+-- and by any number but 2, nothing.
+unfoldable pub rankRadius : ℕ → List ℕ → ℕ → ℕ
+rankRadius edition s m = cond (eqb edition 2) (usedAt s m) 0
 
--- The same as one number, the smaller the higher the rank: `outranks-key` of Laws.
-unfoldable pub rankKey : List ℕ → ℕ → ℕ
-rankKey s m = (65535 - priorityAt s m) * 4096 + m
+-- "Rank: higher priority first"; "between equal priorities the larger used radius ranks higher, then the lower number."
+-- Mark `a` ranks higher than mark `b`. In edition 1 this is 01's sentence: `first-edition` of Laws.
+unfoldable pub outranks : ℕ → List ℕ → ℕ → ℕ → Bool
+outranks edition s a b =
+    ltb (priorityAt s b) (priorityAt s a)
+    || (eqb (priorityAt s a) (priorityAt s b)
+    && (ltb (rankRadius edition s b) (rankRadius edition s a) || (eqb (rankRadius edition s a) (rankRadius edition s b) && ltb a b)))
+
+-- The same as one number of 42 bits, the smaller the higher the rank: `outranks-key` of Laws.
+unfoldable pub rankKey : ℕ → List ℕ → ℕ → ℕ
+rankKey edition s m = ((65535 - priorityAt s m) * 16384 + (16383 - rankRadius edition s m)) * 4096 + m

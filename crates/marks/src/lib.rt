@@ -7,7 +7,7 @@ ghost use lib.IntN.{_-ℤ_, natAbs};
 ghost use Rattle.fractions.specs.Order.{Small};
 ghost use Rattle.marks.specs.Marks.{markSize, xAt, yAt, shifted, radiusAt, priorityAt, kindAt, placeBits, markBytes};
 ghost use Rattle.marks.specs.Marks.{houseOf, oldRadius, usedRadius, usedAt};
-ghost use Rattle.marks.specs.Marks.{labelAt, distance, touchingOf, touching, outranks, rankKey};
+ghost use Rattle.marks.specs.Marks.{labelAt, distance, touchingOf, touching, rankRadius, outranks, rankKey};
 
 // The bytes of a mark, and where the fields behind x begin.
 pub const MARK_SIZE: usize = 11;
@@ -239,20 +239,41 @@ pub fn touching(s: &[u8], a: usize, b: usize) -> Fraction
 
 // ---- rank
 
-// Does mark a rank higher than mark b?
-pub fn outranks(s: &[u8], a: usize, b: usize) -> bool
+// What counts between equal priorities before the number: in edition 2 the used radius, in edition 1 nothing.
+fn rank_radius(s: &[u8], edition: u8, m: usize) -> u16
+    requires { ⌜ markSize * m + markSize ≤ length (now s) ⌝ }
+    ensures { λ r. ⌜ r ≡ rankRadius edition (now (s .entry)) m ⌝ }
+{
+    if edition == 2 {
+        return radius_at(s, m);
+    }
+    0
+}
+
+// Does mark a rank higher than mark b? The radii are read only where the priorities are equal.
+pub fn outranks(s: &[u8], edition: u8, a: usize, b: usize) -> bool
     requires { ⌜ (markSize * a + markSize ≤ length (now s)) × (markSize * b + markSize ≤ length (now s)) ⌝ }
-    ensures { λ r. ⌜ r ≡ outranks (now (s .entry)) a b ⌝ }
+    ensures { λ r. ⌜ r ≡ outranks edition (now (s .entry)) a b ⌝ }
 {
     let p = priority_at(s, a);
     let q = priority_at(s, b);
-    q < p || p == q && a < b
+    if p != q {
+        return q < p;
+    }
+    let u = rank_radius(s, edition, a);
+    let v = rank_radius(s, edition, b);
+    if u != v {
+        return v < u;
+    }
+    a < b
 }
 
 // The rank as one number, the smaller the higher.
-pub fn rank_key(s: &[u8], m: usize) -> u64
-    requires { ⌜ (markSize * m + markSize ≤ length (now s)) × (m < 4096) ⌝ }
-    ensures { λ r. ⌜ r ≡ rankKey (now (s .entry)) m ⌝ }
+pub fn rank_key(s: &[u8], edition: u8, m: usize) -> u64
+    requires { ⌜ (markSize * m + markSize ≤ length (now s)) × (m < 4096) × (usedAt (now s) m ≤ 16383) ⌝ }
+    ensures { λ r. ⌜ r ≡ rankKey edition (now (s .entry)) m ⌝ }
 {
-    (65535 - priority_at(s, m) as u64) * 4096 + m as u64
+    let priority = 65535 - priority_at(s, m) as u64;
+    let radius = 16383 - rank_radius(s, edition, m) as u64;
+    (priority * 16384 + radius) * 4096 + m as u64
 }

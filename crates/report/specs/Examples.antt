@@ -10,18 +10,18 @@ use Rattle.lists.specs.Tests.{every, bit}
 use Rattle.numbers.specs.Little.{leAt, leBytes}
 use Rattle.fractions.specs.Order.{less, same, later, level}
 use Rattle.marks.specs.declared.Mark.{Mark}
-use Rattle.marks.specs.Marks.{placeBits, markBytes, kindGroup, houseRadius, oldRadius, houseOf, isKind, isRadius, usedRadius, distance, touchingOf, touching, outranks, rankKey}
+use Rattle.marks.specs.Marks.{placeBits, markBytes, kindGroup, houseRadius, oldRadius, houseOf, isKind, isRadius, usedRadius, distance, touchingOf, touching, rankRadius, outranks, rankKey}
 use Rattle.elimination.specs.Process.{least, put, before, pair, next, run, process}
 use Rattle.elimination.specs.Records.{eliminatorAt, numAt, denAt, isNever, valueAt, records}
 use Rattle.elimination.specs.Reel.{scheduleOf}
 use Rattle.index.specs.Tree.{treeOf}
 use Rattle.index.specs.Index.{beats, coordinate, axisKey, indexOf, indexBytes, sameBytes, isIndex}
-use Rattle.contents.specs.Contents.{_holds_, startAt, split, entries, contentsOf, chain, join, marksPart, schedulePart, indexPart}
+use Rattle.contents.specs.Contents.{_holds_, codesOf, startAt, split, entries, contentsOf, chain, join, marksPart, schedulePart, indexPart}
 use Rattle.contents.specs.Asking.{answer, inTurn}
 use Rattle.contents.specs.Questions.{question1, codesRight, question3, contentsQuestions}
 use Rattle.rows.specs.Rows as Rows
 use Rattle.changing.specs.Changing.{added, takenOut}
-use Rattle.bodies.specs.Questions.{question4, markQuestions, part1Questions, question7, namesRight, recordRight, isSchedule, isSized, question8, question9, lastQuestions, bodyQuestions}
+use Rattle.bodies.specs.Questions.{question4, markQuestions, part1Questions, isEdition, question7, question19, namesRight, recordRight, isSchedule, isSized, question8, question9, lastQuestions, bodyQuestions}
 use Rattle.filling.specs.Filling.{filledRadius, filled, fillQuestions}
 use Rattle.logs.specs.Packed.{magnitude, isMinus, withSign, areDigits, isLast, isPacked, isPlace, packedOf}
 use Rattle.logs.specs.Log.{marksOfLog, logOfMarks}
@@ -58,6 +58,10 @@ marks (m ∷ rest) = markBytes m ++ marks rest
 sheet : List Mark → List ℕ
 sheet l = join ((1 holds marks l) ∷ [])
 
+-- the same with part 4
+sheetIn : ℕ → List Mark → List ℕ
+sheetIn edition l = join ((1 holds marks l) ∷ (4 holds (edition ∷ [])) ∷ [])
+
 -- ---- what is asked, and its answer as a list of numbers
 
 pub data Asked : Type 0 where
@@ -69,6 +73,12 @@ pub data Asked : Type 0 where
   removes : List Mark → ℕ → Asked
   -- a view of the scheduled sheet with a map of one byte: number, count, and the bytes written
   views : List Mark → Rectangle → Zoom → Asked
+  -- the same of a sheet that names this edition
+  removesIn : ℕ → List Mark → ℕ → Asked
+  -- bodies put together under codes, in a buffer of so many bytes: number and length
+  assembles : List ℕ → List (List ℕ) → ℕ → Asked
+  -- the codes of the sheet that scheduling writes for a sheet of this edition
+  keeps : ℕ → List Mark → Asked
   -- the number that checking answers
   checks : List ℕ → Asked
   -- the used radius of a written radius and a kind
@@ -102,6 +112,9 @@ pub answers : Asked → List ℕ
 answers (prints l) = printed (sheet l)
 answers (indexes l) = pairs (indexPart (split (scheduled (sheet l))))
 answers (removes l m) = recordOf (scheduled (sheet l)) m
+answers (removesIn edition l m) = recordOf (scheduled (sheetIn edition l)) m
+answers (assembles codes bodies room) = let o = assembleJob codes bodies room in o .number ∷ o .value ∷ []
+answers (keeps edition l) = codesOf (split (scheduled (sheetIn edition l)))
 answers (views l e zoom) = let o = viewJob (scheduled (sheet l)) e zoom 1 in o .number ∷ o .value ∷ o .written
 answers (checks s) = (checkJob s) .number ∷ []
 answers (uses radius kind) = usedRadius radius kind ∷ []
@@ -109,7 +122,7 @@ answers (equals a b c d) = bit (same (record { num = a; den = b }) (record { num
 answers (fills l room) = let o = fillJob (marks l) room in o .number ∷ o .value ∷ o .written
 answers (rescues s m) =
     let w = (fillJob (marksPart (split s)) (length s)) .written in
-    let o = assembleJob 1 w [] [] (length s) in
+    let o = assembleJob (1 ∷ []) (w ∷ []) (length s) in
     o .number ∷ o .value ∷ (checkJob (o .written)) .number ∷ recordOf (scheduled (o .written)) m
 answers (turnsLog s room) = let o = logToMarksJob s room in o .number ∷ o .value ∷ o .written
 answers (turnsMarks l room) = let o = marksToLogJob (marks l) room in o .number ∷ o .value ∷ o .written
@@ -142,6 +155,13 @@ largest = mark (negsuc 32767) (negsuc 32767) 16383 0 ∷ mark (pos 32767) (pos 3
 
 abbrev p11 : List Mark
 p11 = mark (pos 60) (pos 0) 2 5 ∷ mark (negsuc 99) (pos 0) 10 9 ∷ mark (pos 0) (pos 0) 10 1 ∷ []
+
+-- two marks of equal priority, of which the larger has the higher number; and two of which one has the house radius 200 of its kind
+abbrev two : List Mark
+two = mark (pos 0) (pos 0) 10 5 ∷ mark (pos 100) (pos 0) 20 5 ∷ []
+
+abbrev house : List Mark
+house = mark (pos 0) (pos 0) 100 5 ∷ markOf (pos 300) (pos 0) 0 5 150 ∷ []
 
 -- a mark of this radius and this kind
 abbrev of : ℕ → ℕ → List Mark
@@ -248,22 +268,43 @@ table =
     ∷ (adds (scheduled (sheet p5)) (markOf (pos 0) (pos 0) 16384 0 200) 0 0 0 gives (5 ∷ 0 ∷ 0 ∷ 0 ∷ 0 ∷ []))
     ∷ (adds (scheduled (sheet p5)) (markOf (pos 0) (pos 0) 16384 0 199) 0 0 0 gives (6 ∷ 0 ∷ 0 ∷ 0 ∷ 0 ∷ []))
     ∷ (takesOut (scheduled (sheet p5)) 1 1055 59 0 gives (13 ∷ 0 ∷ 0 ∷ 0 ∷ 0 ∷ []))
+    -- 02, request 6: "between equal priorities the larger used radius ranks higher, then the lower number", in edition 2 alone
+    ∷ (removes two 1 gives (0 ∷ 10000 ∷ 900 ∷ []))
+    ∷ (removesIn 1 two 1 gives (0 ∷ 10000 ∷ 900 ∷ []))
+    ∷ (removesIn 2 two 0 gives (1 ∷ 10000 ∷ 900 ∷ []))
+    -- the used radius counts, and of equal ones the lower number
+    ∷ (removesIn 2 house 0 gives (1 ∷ 90000 ∷ 90000 ∷ []))
+    ∷ (removesIn 2 p5 1 gives (0 ∷ 0 ∷ 4 ∷ []))
+    -- part 4 is kept
+    ∷ (keeps 2 two gives (1 ∷ 2 ∷ 3 ∷ 4 ∷ []))
+    -- 19: no byte, another byte, two bytes
+    ∷ (checks (sheetIn 2 two) gives (0 ∷ []))
+    ∷ (checks (sheetIn 3 two) gives (19 ∷ []))
+    ∷ (checks (join ((1 holds marks two) ∷ (4 holds []) ∷ [])) gives (19 ∷ []))
+    ∷ (checks (join ((1 holds marks two) ∷ (4 holds (1 ∷ 1 ∷ [])) ∷ [])) gives (19 ∷ []))
+    -- putting together: 1 of the number of codes and of the bodies, 2 of the codes, further bodies ignored
+    ∷ (assembles (1 ∷ 4 ∷ []) (marks two ∷ (2 ∷ []) ∷ (7 ∷ []) ∷ []) 45 gives (0 ∷ 45 ∷ []))
+    ∷ (assembles [] [] 45 gives (1 ∷ 0 ∷ []))
+    ∷ (assembles (1 ∷ 4 ∷ []) (marks two ∷ []) 45 gives (1 ∷ 0 ∷ []))
+    ∷ (assembles (4 ∷ 1 ∷ []) ((2 ∷ []) ∷ marks two ∷ []) 45 gives (2 ∷ 0 ∷ []))
+    ∷ (assembles (1 ∷ 3 ∷ []) (marks two ∷ [] ∷ []) 45 gives (2 ∷ 0 ∷ []))
+    ∷ (assembles (1 ∷ 4 ∷ []) (marks two ∷ (2 ∷ []) ∷ []) 44 gives (13 ∷ 0 ∷ []))
     ∷ []
 
 -- No row is lost.
-pub table-length : length table ≡ 48
+pub table-length : length table ≡ 64
 unfolding table
 table-length = refl
 
 -- Every answer is the expected one.
 pub examples : map (λ (r : Row). answers (r .asked)) table ≡ map (λ (r : Row). r .expected) table
-unfolding table answers recordOf pairs sheet marks oldSheet neverSheet ofBits
-    leAt leBytes less same later level kindGroup houseRadius oldRadius houseOf isKind isRadius usedRadius distance touchingOf touching outranks rankKey
+unfolding table answers recordOf pairs sheet sheetIn marks oldSheet neverSheet ofBits
+    leAt leBytes less same later level kindGroup houseRadius oldRadius houseOf isKind isRadius usedRadius distance touchingOf touching rankRadius outranks rankKey
     least put before pair next run process isNever valueAt records scheduleOf treeOf beats coordinate axisKey indexOf indexBytes sameBytes isIndex
     startAt split entries contentsOf chain join answer inTurn every question1 codesRight question3 contentsQuestions question4
     magnitude isMinus withSign areDigits isLast isPacked isPlace packedOf placeBits marksOfLog logOfMarks
     logSize recordQuestions logChecks logQuestions marksQuestions logToMarksJob marksToLogJob
-    Rows.rows filledRadius filled fillQuestions markQuestions part1Questions isSized question7 namesRight recordRight isSchedule question8
+    Rows.rows filledRadius filled fillQuestions markQuestions part1Questions isSized isEdition question7 question19 namesRight recordRight isSchedule question8
     question9 lastQuestions bodyQuestions checkQuestions check partsQuestions assembleQuestions stopScale wheelScale scaleOf livesAt gap distanceSquared reaches
     shown mapByte mapPart mapBytes countShown question10 indexedQuestions Viewing.question11 Viewing.viewQuestions outcome checkJob scheduled
     added Rows.without takenOut addChecks takeOutChecks schedulingQuestions schedulingJob assembleJob fillJob shownIn viewJob digits line rootStep root zoomDown markLine markLines listing refusalLine printQuestions printed

@@ -122,6 +122,7 @@ pub fn print(input: &[u8], work: &mut [u8], schedule: &mut [u8], out: &mut [u8])
     let layout = contents::layout_of(input);
     let marks = contents::part(input, layout, 1);
     let n = marks.len() / MARK_SIZE;
-    scheduling::schedule(marks, work, schedule, n);
+    let edition = bodies::edition_of(contents::part(input, layout, 4));
+    scheduling::schedule(marks, edition, work, schedule, n);
     put_listing(schedule, out, n)
 }

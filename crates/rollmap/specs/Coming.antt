@@ -1,7 +1,7 @@
 -- 02, request 5, "Marks come and go": what adding a mark and taking one out give, over the jobs, and so of what the calls answer and leave.
 -- Assumes nothing.
 use Prim.Native.Nat.{ℕ, suc, _+_, _-_, _*_, _<_, _≤_}
-use mathlib.Core.Path.{_≡_, refl, sym, ap, _∙_}
+use mathlib.Core.Path.{_≡_, refl, sym, ap, ap₂, _∙_}
 use mathlib.Core.Bool.{true}
 use mathlib.Core.List.{List, [], _++_}
 use mathlib.Core.Logic.{_↔_}
@@ -15,7 +15,7 @@ use Rattle.marks.specs.declared.Mark.{Mark}
 use Rattle.marks.specs.Marks.{markBytes}
 use Rattle.marks.specs.Good.{GoodMarks}
 use Rattle.marks.specs.Fields.{FieldsFit}
-use Rattle.contents.specs.Contents.{split, marksPart}
+use Rattle.contents.specs.Contents.{Part, split, marksPart}
 use Rattle.contents.specs.Asking.{answer}
 use Rattle.contents.specs.Laws.{Numbered, numbered-append, none-asked, asked-iff, append-iff}
 use Rattle.bodies.specs.Questions.{markCount, fieldQuestions}
@@ -25,12 +25,13 @@ use Rattle.changing.specs.Laws.{added-length, added-bytes, added-fields, added-
 use Rattle.sheet.specs.Questions.{sheetCount, check, question10, indexedQuestions}
 use Rattle.sheet.specs.Laws.{indexed-numbered, indexed-iff}
 use Rattle.rollmap.specs.declared.Answer.{Answer}
-use Rattle.rollmap.specs.Jobs.{wrote, scheduledFrom, scheduled, hasRoom, schedulingQuestions, schedulingJob, ScheduledHere, addChecks, addJob, takeOutChecks, takeOutJob}
+use Rattle.rollmap.specs.Jobs.{wrote, keptParts, scheduledFrom, scheduled, scheduledSize, hasRoom, schedulingQuestions, schedulingJob, ScheduledHere, addChecks, addJob, takeOutChecks, takeOutJob}
 use Rattle.rollmap.specs.Answers.{Gives, Lent}
 use Rattle.rollmap.specs.Demand3.{Meets}
 use Rattle.rollmap.specs.Changed.{MeetsAdding}
-use Rattle.rollmap.specs.Theorems.{Pass, good, marks-bytes, scheduled-length, part1-kept, from-here, from-parts, here-accepted, scheduling-meets}
-use Rattle.rollmap.specs.Lemmas.Outcomes.{outcome-yes, all-yes, kept}
+use Rattle.rollmap.specs.Theorems.{Pass, good, marks-bytes, scheduled-length, part1-kept, others-kept, from-here, from-parts, here-accepted, scheduling-meets}
+use Rattle.rollmap.specs.Lemmas.Outcomes.{outcome-yes, all-yes, kept-bytes}
+use Rattle.rollmap.specs.Lemmas.Kept.{kept-right}
 use Rattle.rollmap.specs.Lemmas.Scheduled.{marks-long}
 use Rattle.rollmap.specs.Lemmas.Scheduling.{there-room, room-asked, checks-passed, passed}
 
@@ -69,12 +70,13 @@ module _ (s : List ℕ) (mark : Mark) where
     count : markCount (added marks mark) ≡ suc (sheetCount s)
     count = omega (arith, added-length marks (sheetCount s) long mark)
 
-    pub add-pass : Pass (added marks mark)
+    pub add-pass : Pass (added marks mark) (keptParts (split s))
     add-pass =
         record {
           good = rw count (added-good marks (sheetCount s) long mark fit (good s bytes (may .accepted)) (may .few) (may .kind) (may .radius));
           long = rw count (added-length marks (sheetCount s) long mark);
           bytes = added-bytes marks (sheetCount s) long mark (marks-bytes s bytes (may .accepted));
+          right = kept-right s (may .accepted) bytes;
         }
 
     -- as the code lends them: the sheet's marks, and the new one
@@ -116,12 +118,13 @@ module _ (s : List ℕ) (m : ℕ) where
     left-count : markCount (takenOut (marksPart (split s)) m) ≡ sheetCount s - 1
     left-count = omega (arith, left-long)
 
-    pub take-out-pass : Pass (takenOut (marksPart (split s)) m)
+    pub take-out-pass : Pass (takenOut (marksPart (split s)) m) (keptParts (split s))
     take-out-pass =
         record {
           good = rw left-count (taken-good (marksPart (split s)) (sheetCount s) (marks-long s bytes ok) m low (good s bytes ok));
           long = rw left-count left-long;
           bytes = taken-bytes (marksPart (split s)) m (marks-bytes s bytes ok);
+          right = kept-right s ok bytes;
         }
 
     -- as the code lends them
@@ -137,24 +140,30 @@ module _ (s : List ℕ) (mark : Mark) (bytes : Bytes s) (fit : FieldsFit mark) (
   abbrev held : List ℕ
   held = marksPart (split s)
 
+  abbrev others : List Part
+  others = keptParts (split s)
+
   abbrev new : List ℕ
-  new = scheduledFrom (added held mark)
+  new = scheduledFrom (added held mark) others
 
   held-long : length held ≡ 11 * n
   held-long = marks-long s bytes (add-yes s mark asked .accepted)
 
-  pass : Pass (added held mark)
+  pass : Pass (added held mark) others
   pass = add-pass s mark bytes fit asked
 
   new-marks : marksPart (split new) ≡ added held mark
-  new-marks = ap marksPart (from-parts (added held mark) pass)
+  new-marks = ap marksPart (from-parts (added held mark) others pass)
+
+  new-others : keptParts (split new) ≡ others
+  new-others = ap keptParts (from-parts (added held mark) others pass) ∙ pass .right .again
 
   -- the new mark can be taken out of the new sheet,
   new-checks : answer (takeOutChecks new n) ≡ 0
   unfolding question10
   new-checks =
       let more : sheetCount new ≡ suc n = rw new-marks (omega (arith, added-length held n held-long mark)) in
-      take-out-iff new n .1 ((here-accepted new (from-here (added held mark) pass), rw (from-parts (added held mark) pass)), omega arith)
+      take-out-iff new n .1 ((here-accepted new (from-here (added held mark) others pass), rw (from-parts (added held mark) others pass)), omega arith)
 
   -- and the others are left.
   new-left : takenOut (marksPart (split new)) n ≡ held
@@ -163,39 +172,43 @@ module _ (s : List ℕ) (mark : Mark) (bytes : Bytes s) (fit : FieldsFit mark) (
   module _ (here : ScheduledHere s) where
     open ScheduledHere here using (given-sheet as g, bytes as g-bytes, accepted as g-ok, written)
 
-    held-scheduled : scheduledFrom held ≡ s
+    held-scheduled : scheduledFrom held others ≡ s
     unfolding scheduled
-    held-scheduled = ap scheduledFrom (part1-kept s here) ∙ sym written
+    held-scheduled = ap₂ scheduledFrom (part1-kept s here) (others-kept s here) ∙ sym written
 
-    s-long : length s ≡ 32 + 27 * n
-    s-long = ap length written ∙ scheduled-length g g-bytes g-ok ∙ ap (λ (l : List ℕ). 32 + 27 * markCount l) (sym (part1-kept s here))
+    s-long : length s ≡ scheduledSize n others
+    s-long =
+        ap length written ∙ scheduled-length g g-bytes g-ok
+        ∙ ap₂ (λ (l : List ℕ) (k : List Part). scheduledSize (markCount l) k) (sym (part1-kept s here)) (sym (others-kept s here))
 
     pub add-then-take-out : (work room : ℕ) → 32 * n + 1024 ≤ work → length s ≤ room → takeOutJob new n work room ≡ wrote s
     unfolding schedulingJob
     add-then-take-out work room p q =
-        let fits : hasRoom n work room ≡ true = there-room n work room p (omega (arith, s-long)) in
-        let last : answer (schedulingQuestions [] held work room) ≡ 0 = room-asked [] tt held work room none-asked ∙ rw fits in
-        passed (takeOutChecks new n) (take-out-numbered new n) (takenOut (marksPart (split new)) n) work room new-checks
-        ∙ rw new-left (outcome-yes (schedulingQuestions [] held work room) (length (scheduledFrom held)) (scheduledFrom held) last ∙ rw held-scheduled)
+        let fits : hasRoom n others work room ≡ true = there-room n others work room p (omega (arith, s-long)) in
+        let last : answer (schedulingQuestions [] held others work room) ≡ 0 = room-asked [] tt held others work room none-asked ∙ rw fits in
+        passed (takeOutChecks new n) (take-out-numbered new n) (takenOut (marksPart (split new)) n) (keptParts (split new)) work room new-checks
+        ∙ rw (new-left, new-others)
+        (outcome-yes (schedulingQuestions [] held others work room) (length (scheduledFrom held others)) (scheduledFrom held others) last ∙ rw held-scheduled)
 
 -- ---- and so of what the calls answer and leave
 
 module _ (s : List ℕ) (mark : Mark) (bytes : Bytes s) (fit : FieldsFit mark) (work : ℕ) (before : List ℕ) {r : Answer} {out : List ℕ}
     (gives : Gives (addJob s mark work (length before)) before r out) where
-  pub add-meets : Meets (added (marksPart (split s)) mark) r out
+  pub add-meets : Meets (added (marksPart (split s)) mark) (keptParts (split s)) r out
   add-meets =
-      scheduling-meets (addChecks s mark) (add-numbered s mark) (added (marksPart (split s)) mark) (add-pass s mark bytes fit) work before gives
+      scheduling-meets (addChecks s mark) (add-numbered s mark) (added (marksPart (split s)) mark) (keptParts (split s)) (add-pass s mark bytes fit) work before gives
 
   passed-checks : r .number ≡ 0 → answer (addChecks s mark) ≡ 0
   unfolding schedulingJob
   passed-checks z =
-      checks-passed (addChecks s mark) (add-numbered s mark) (added (marksPart (split s)) mark) work (length before)
-      (all-yes (schedulingQuestions (addChecks s mark) (added (marksPart (split s)) mark) work (length before)) _ _ before gives z)
+      checks-passed (addChecks s mark) (add-numbered s mark) (added (marksPart (split s)) mark) (keptParts (split s)) work (length before)
+      (all-yes (schedulingQuestions (addChecks s mark) (added (marksPart (split s)) mark) (keptParts (split s)) work (length before)) _ _ before gives z)
 
-  written-is : r .number ≡ 0 → take (r .value) out ≡ scheduledFrom (added (marksPart (split s)) mark)
+  written-is : r .number ≡ 0 → take (r .value) out ≡ scheduledFrom (added (marksPart (split s)) mark) (keptParts (split s))
   unfolding schedulingJob
   written-is z =
-      kept (schedulingQuestions (addChecks s mark) (added (marksPart (split s)) mark) work (length before)) (scheduledFrom (added (marksPart (split s)) mark)) before gives z
+      kept-bytes (schedulingQuestions (addChecks s mark) (added (marksPart (split s)) mark) (keptParts (split s)) work (length before))
+      (scheduledFrom (added (marksPart (split s)) mark) (keptParts (split s))) before gives z
 
   pub adding-meets : MeetsAdding s mark r out
   adding-meets =
@@ -208,10 +221,10 @@ module _ (s : List ℕ) (mark : Mark) (bytes : Bytes s) (fit : FieldsFit mark) (
 
   -- what a way out gives, with all that is claimed of it
   pub add-whole : {w w′ : List ℕ} → Lent r w w′
-      → Gives (addJob s mark work (length before)) before r out × ((Lent r w w′ × Meets (added (marksPart (split s)) mark) r out) × MeetsAdding s mark r out)
+      → Gives (addJob s mark work (length before)) before r out × ((Lent r w w′ × Meets (added (marksPart (split s)) mark) (keptParts (split s)) r out) × MeetsAdding s mark r out)
   add-whole lent = (gives, ((lent, add-meets), adding-meets))
 
 pub take-out-meets : (s : List ℕ) (m : ℕ) → Bytes s → (work : ℕ) (before : List ℕ) {r : Answer} {out : List ℕ}
-    → Gives (takeOutJob s m work (length before)) before r out → Meets (takenOut (marksPart (split s)) m) r out
+    → Gives (takeOutJob s m work (length before)) before r out → Meets (takenOut (marksPart (split s)) m) (keptParts (split s)) r out
 take-out-meets s m bytes =
-    scheduling-meets (takeOutChecks s m) (take-out-numbered s m) (takenOut (marksPart (split s)) m) (take-out-pass s m bytes)
+    scheduling-meets (takeOutChecks s m) (take-out-numbered s m) (takenOut (marksPart (split s)) m) (keptParts (split s)) (take-out-pass s m bytes)

@@ -12,7 +12,7 @@ use Rattle.elimination.specs.Marks.{Marks}
 use Rattle.elimination.specs.Records.{valueAt}
 use Rattle.elimination.specs.Reel.{marksOf}
 use Rattle.elimination.specs.Rules.{FirstRule, SecondRule, AllSound}
-use Rattle.contents.specs.Contents.{split, marksPart, schedulePart}
+use Rattle.contents.specs.Contents.{Part, split, marksPart, schedulePart}
 use Rattle.contents.specs.Asking.{answer}
 use Rattle.bodies.specs.Questions.{reelOf}
 use Rattle.sheet.specs.Questions.{sheetCount, check}
@@ -25,7 +25,7 @@ use Rattle.view.specs.declared.Rectangle.{Rectangle}
 use Rattle.view.specs.Shown.{reaches}
 use Rattle.view.specs.Questions.{viewQuestions}
 use Rattle.rollmap.specs.declared.Answer.{Answer}
-use Rattle.rollmap.specs.Jobs.{after, scheduled, ScheduledHere, viewJob}
+use Rattle.rollmap.specs.Jobs.{after, keptParts, scheduled, ScheduledHere, viewJob}
 
 -- ---- a list against a sheet, `s`
 
@@ -69,14 +69,15 @@ pub record Demand3 (s : List ℕ) : Type 0 where
 
 -- ---- what the contracts cite
 
--- Of scheduling these marks, which answered r and left `out`: a success has written a sheet that is accepted and scheduled here, with these
--- marks as its part 1, "so no mark handed in is missing", of which the demand holds. It is the sheet that scheduling writes for any sheet of
--- these marks. Viewing asks for no more: see `MeetsView`.
-pub record Meets (marks : List ℕ) (r : Answer) (out : List ℕ) : Type 0 where
+-- Of scheduling these marks with parts that are kept, which answered r and left `out`: a success has written a sheet that is accepted and
+-- scheduled here, with these marks as its part 1, "so no mark handed in is missing", and with the kept parts, of which the demand holds. It is
+-- the sheet that scheduling writes for any sheet of these. Viewing asks for no more: see `MeetsView`.
+pub record Meets (marks : List ℕ) (kept : List Part) (r : Answer) (out : List ℕ) : Type 0 where
   pub accepted : r .number ≡ 0 → check (take (r .value) out) ≡ 0
   pub here : r .number ≡ 0 → ScheduledHere (take (r .value) out)
   pub part1 : r .number ≡ 0 → marksPart (split (take (r .value) out)) ≡ marks
-  pub fresh : r .number ≡ 0 → (g : List ℕ) → marksPart (split g) ≡ marks → take (r .value) out ≡ scheduled g
+  pub keeps : r .number ≡ 0 → keptParts (split (take (r .value) out)) ≡ kept
+  pub fresh : r .number ≡ 0 → (g : List ℕ) → marksPart (split g) ≡ marks → keptParts (split g) ≡ kept → take (r .value) out ≡ scheduled g
   pub demand3 : r .number ≡ 0 → Demand3 (take (r .value) out)
 
 -- Of viewing the sheet s, which answered r and left `map`.

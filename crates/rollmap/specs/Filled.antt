@@ -1,7 +1,7 @@
 -- What is claimed of filled marks. Lemmas.Filling proves it of what filling writes, and the contract of filling cites it.
 use Prim.Native.Nat.{ℕ, _+_, _<_, _≤_}
 use mathlib.Core.Path.{_≡_}
-use mathlib.Core.List.{List}
+use mathlib.Core.List.{List, [], _∷_}
 use lib.ListN.{length, take}
 use Rattle.marks.specs.Marks.{radiusAt, kindAt, usedAt}
 use Rattle.contents.specs.Asking.{answer}
@@ -21,7 +21,7 @@ pub record Filled (s w : List ℕ) : Type 0 where
   -- "Filling twice equals filling once", whatever the room.
   pub again : (room : ℕ) → fillJob w room ≡ fillJob s room
   -- "puts it together afresh": where there is room, that is answered 0.
-  pub afresh : (body2 body3 : List ℕ) (room : ℕ) → length w + 12 ≤ room → (assembleJob 1 w body2 body3 room) .number ≡ 0
+  pub afresh : (further : List (List ℕ)) (room : ℕ) → length w + 12 ≤ room → (assembleJob (1 ∷ []) (w ∷ further) room) .number ≡ 0
 
 -- Of filling the marks s, which answered r and left `out`.
 pub record MeetsFilling (s : List ℕ) (r : Answer) (out : List ℕ) : Type 0 where

@@ -12,10 +12,10 @@ use Rattle.marks.specs.Marks.{markSize}
 use Rattle.elimination.specs.Reel.{scheduleOf}
 use Rattle.scheduling.specs.Filling.{workSize}
 use Rattle.index.specs.Index.{indexOf, indexBytes}
-use Rattle.contents.specs.Contents.{Part, _holds_, split, join, marksPart, schedulePart}
-use Rattle.contents.specs.Questions.{isCount}
+use Rattle.contents.specs.Contents.{Part, _holds_, bodiesOf, find, has, split, chain, join, together, marksPart, schedulePart}
+use Rattle.contents.specs.Questions.{isCount, codesRight}
 use Rattle.contents.specs.Asking.{Question, _asks_, answer}
-use Rattle.bodies.specs.Questions.{markCount, reelFrom, fieldQuestions}
+use Rattle.bodies.specs.Questions.{markCount, editionOf, reelFrom, fieldQuestions}
 use Rattle.changing.specs.Changing.{added, takenOut}
 use Rattle.filling.specs.Filling.{filled, fillQuestions}
 use Rattle.logs.specs.Log.{logRecordSize, recordCount, marksOfLog, logOfMarks}
@@ -57,43 +57,55 @@ checkJob s = outcome (checkQuestions s) 0 []
 
 -- ---- scheduling
 
--- the parts that it writes for part 1, `s`: "a sheet of three parts, with the marks copied unchanged"
-abbrev pub newSchedule : List ℕ → List ℕ
-newSchedule s = scheduleOf (reelFrom s)
+-- the part of this code, where there is one
+abbrev pub keep : ℕ → List Part → List Part
+keep code parts = cond (has parts code) ((code holds find parts code) ∷ []) []
 
-abbrev pub newIndex : List ℕ → List ℕ
-newIndex s = indexBytes (indexOf s (newSchedule s) (markCount s))
+-- 02, request 6: "Scheduling, adding and taking out keep part 4": the parts that are kept, beside the marks
+abbrev pub keptParts : List Part → List Part
+keptParts parts = keep 4 parts
 
-abbrev pub newParts : List ℕ → List Part
-newParts s = (1 holds s) ∷ (2 holds newSchedule s) ∷ (3 holds newIndex s) ∷ []
+-- the parts that scheduling writes for these marks, with parts that are kept: "the marks copied unchanged", their schedule by the edition
+-- that is kept, their index, and what is kept
+abbrev pub newSchedule : List ℕ → List Part → List ℕ
+newSchedule marks kept = scheduleOf (reelFrom (editionOf kept) marks)
 
--- What scheduling writes for these marks.
-abbrev pub scheduledFrom : List ℕ → List ℕ
-scheduledFrom marks = join (newParts marks)
+abbrev pub newIndex : List ℕ → List Part → List ℕ
+newIndex marks kept = indexBytes (indexOf marks (newSchedule marks kept) (markCount marks))
+
+abbrev pub newParts : List ℕ → List Part → List Part
+newParts marks kept = (1 holds marks) ∷ (2 holds newSchedule marks kept) ∷ (3 holds newIndex marks kept) ∷ kept
+
+-- What scheduling writes for them.
+abbrev pub scheduledFrom : List ℕ → List Part → List ℕ
+scheduledFrom marks kept = join (newParts marks kept)
 
 -- What it writes for a sheet.
 unfoldable pub scheduled : List ℕ → List ℕ
-scheduled s = scheduledFrom (marksPart (split s))
+scheduled s = scheduledFrom (marksPart (split s)) (keptParts (split s))
 
--- "32 + 27n bytes for n marks"
-abbrev pub scheduledSize : ℕ → ℕ
-scheduledSize n = 27 * n + 32
+-- "32 + 27n bytes for n marks", and of parts that are kept "add its bytes to the length": of each 10 in the contents, and its own
+abbrev pub keptSize : List Part → ℕ
+keptSize kept = 10 * length kept + length (chain (bodiesOf kept))
+
+abbrev pub scheduledSize : ℕ → List Part → ℕ
+scheduledSize n kept = 27 * n + 32 + keptSize kept
 
 -- 13 of scheduling: the sheet, and "a work buffer of at least 32n + 1,024 bytes"
-abbrev pub hasRoom : ℕ → ℕ → ℕ → Bool
-hasRoom n work room = leb (workSize n) work && leb (scheduledSize n) room
+abbrev pub hasRoom : ℕ → List Part → ℕ → ℕ → Bool
+hasRoom n kept work room = leb (workSize n) work && leb (scheduledSize n kept) room
 
--- a job that asks `checks`, and then 13 for these marks, and writes what scheduling writes for them
-unfoldable pub schedulingQuestions : List Question → List ℕ → ℕ → ℕ → List Question
-schedulingQuestions checks marks work room = checks ++ ((13 asks hasRoom (markCount marks) work room) ∷ [])
+-- a job that asks `checks`, and then 13 for these marks and kept parts, and writes what scheduling writes for them
+unfoldable pub schedulingQuestions : List Question → List ℕ → List Part → ℕ → ℕ → List Question
+schedulingQuestions checks marks kept work room = checks ++ ((13 asks hasRoom (markCount marks) kept work room) ∷ [])
 
-unfoldable pub schedulingJob : List Question → List ℕ → ℕ → ℕ → Outcome
-schedulingJob checks marks work room =
-    outcome (schedulingQuestions checks marks work room) (length (scheduledFrom marks)) (scheduledFrom marks)
+unfoldable pub schedulingJob : List Question → List ℕ → List Part → ℕ → ℕ → Outcome
+schedulingJob checks marks kept work room =
+    outcome (schedulingQuestions checks marks kept work room) (length (scheduledFrom marks kept)) (scheduledFrom marks kept)
 
 -- "scheduling 1 to 9 and 13"
 abbrev pub scheduleJob : List ℕ → ℕ → ℕ → Outcome
-scheduleJob s work room = schedulingJob (checkQuestions s) (marksPart (split s)) work room
+scheduleJob s work room = schedulingJob (checkQuestions s) (marksPart (split s)) (keptParts (split s)) work room
 
 -- "A sheet is scheduled here if its bytes are those that scheduling, answering 0, writes for some sheet."
 pub record ScheduledHere (s : List ℕ) : Type 0 where
@@ -120,7 +132,7 @@ addChecks s mark = indexedQuestions s ++ ((18 asks ltb (sheetCount s) 4096) ∷ 
 
 -- "Add a mark .. The new sheet equals one scheduled from the new marks."
 abbrev pub addJob : List ℕ → Mark → ℕ → ℕ → Outcome
-addJob s mark work room = schedulingJob (addChecks s mark) (added (marksPart (split s)) mark) work room
+addJob s mark work room = schedulingJob (addChecks s mark) (added (marksPart (split s)) mark) (keptParts (split s)) work room
 
 -- "after 1 to 10, 17 where m isn't below n .. then 13"
 unfoldable pub takeOutChecks : List ℕ → ℕ → List Question
@@ -128,22 +140,24 @@ takeOutChecks s m = indexedQuestions s ++ ((17 asks ltb m (sheetCount s)) ∷ []
 
 -- ".. or take out mark m"
 abbrev pub takeOutJob : List ℕ → ℕ → ℕ → ℕ → Outcome
-takeOutJob s m work room = schedulingJob (takeOutChecks s m) (takenOut (marksPart (split s)) m) work room
+takeOutJob s m work room = schedulingJob (takeOutChecks s m) (takenOut (marksPart (split s)) m) (keptParts (split s)) work room
 
 -- ---- putting together
 
--- "takes the number of parts (1 to 3) and that many bodies; further bodies are ignored": parts 1, 2, .. of the first k of three bodies
-abbrev pub given : ℕ → List ℕ → List ℕ → List ℕ → List Part
-given k body1 body2 body3 = take k ((1 holds body1) ∷ (2 holds body2) ∷ (3 holds body3) ∷ [])
+-- 1, of the parts that are put together: their number is that of the codes, and there is a body for each
+abbrev pub areCounted : List ℕ → List (List ℕ) → Bool
+areCounted codes bodies = isCount (length codes) && leb (length codes) (length bodies)
 
--- "Putting together asks 1 (of the number of parts only), 4 to 9 and 13."
-unfoldable pub assembleQuestions : ℕ → List Part → ℕ → List Question
-assembleQuestions k parts room = (1 asks isCount k) ∷ partsQuestions parts room
+-- 01: "Putting together asks 1 (of the number of parts only), 4 to 9 and 13." 02, request 6: it "names its codes, asks 2 of them after 1, and takes
+-- the same combinations". "Further bodies are ignored": `together` ends with the codes.
+unfoldable pub assembleQuestions : List ℕ → List (List ℕ) → ℕ → List Question
+assembleQuestions codes bodies room =
+    (1 asks areCounted codes bodies) ∷ (2 asks codesRight codes) ∷ partsQuestions (together codes bodies) room
 
-unfoldable pub assembleJob : ℕ → List ℕ → List ℕ → List ℕ → ℕ → Outcome
-assembleJob k body1 body2 body3 room =
-    let parts = given k body1 body2 body3 in
-    outcome (assembleQuestions k parts room) (length (join parts)) (join parts)
+unfoldable pub assembleJob : List ℕ → List (List ℕ) → ℕ → Outcome
+assembleJob codes bodies room =
+    let sheet = join (together codes bodies) in
+    outcome (assembleQuestions codes bodies room) (length sheet) sheet
 
 -- ---- filling
 

@@ -1,6 +1,7 @@
 pub mod Given
 pub mod Outcomes
 pub mod Rooms
+pub mod Kept
 pub mod Filling
 pub mod Turning
 pub mod Scheduled

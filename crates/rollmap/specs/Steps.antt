@@ -6,13 +6,18 @@ use lib.ListN.{drop}
 use Rattle.elimination.specs.Reel.{Reel, scheduleOf}
 use Rattle.index.specs.Index.{indexOf, indexBytes}
 use Rattle.indexing.specs.Buffer.{indexEnd}
-use Rattle.contents.specs.Contents.{split, marksPart, schedulePart}
+use Rattle.contents.specs.Contents.{Part, _holds_, split, marksPart, schedulePart}
 use Rattle.contents.specs.Asking.{_asks_}
 use Rattle.sheet.specs.Questions.{sheetCount}
 use Rattle.view.specs.declared.Rectangle.{Rectangle}
 use Rattle.view.specs.Shown.{shown}
 use Rattle.bitmap.specs.Map.{mapSize, mapBytes, countShown}
 use Rattle.rollmap.specs.Jobs.{Outcome, outcome}
+
+-- the parts that are kept, from part 4's bytes, none where it is not there
+abbrev pub keptFrom : List ℕ → List Part
+keptFrom [] = []
+keptFrom (x ∷ body) = (4 holds (x ∷ body)) ∷ []
 
 -- the three parts of a reel at the start of a buffer
 unfoldable pub resultsOver : Reel → List ℕ → List ℕ

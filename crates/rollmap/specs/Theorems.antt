@@ -1,14 +1,16 @@
 -- Demands 2 and 3 over the bytes of sheets. Assumes nothing.
 use Prim.Native.Nat.{ℕ, zero, suc, _+_, _*_, _<_, _≤_}
 use mathlib.Core.Path.{_≡_, refl, sym, ap, _∙_}
-use mathlib.Core.Bool.{true, false≢true}
+use mathlib.Core.Bool.{true}
 use mathlib.Core.List.{List, [], _∷_, _++_}
 use mathlib.Core.Logic.{_↔_}
 use native.Mathlib.Omega.{arith}
-use borrow.Author.Tests.{lt-ltb}
-use lib.ListN.{length, take, drop, length-append}
+use borrow.Author.Tests.{leb-true, le-leb, lt-ltb}
+use lib.Dec.{leb}
+use lib.ListN.{length, take, drop, length-append, length-take, length-map}
 use lib.Seq.{take-append-seam}
 use Rattle.lists.specs.Stores.{over}
+use Rattle.lists.specs.TestLaws.{both-iff}
 use Rattle.lists.specs.Tests.{bit}
 use Rattle.numbers.specs.Little.{Bytes}
 use Rattle.fractions.specs.declared.Value.{Value}
@@ -16,10 +18,10 @@ use Rattle.fractions.specs.Order.{Equal}
 use Rattle.marks.specs.Good.{GoodMarks}
 use Rattle.elimination.specs.Reel.{scheduleOf}
 use Rattle.elimination.specs.Schedule.{schedule-iff, schedule-later}
-use Rattle.contents.specs.Contents.{Part, _holds_, countAt, split, join, marksPart, schedulePart}
+use Rattle.contents.specs.Contents.{Part, _holds_, codesOf, bodiesOf, countAt, split, join, together, marksPart, schedulePart}
 use Rattle.contents.specs.Asking.{Question, answer}
-use Rattle.contents.specs.Laws.{Numbered, asked-iff, append-iff, count-iff, split-join, join-bytes}
-use Rattle.contents.specs.Questions.{isCount}
+use Rattle.contents.specs.Laws.{Numbered, asked-iff, append-iff, count-iff, split-length, split-join, join-bytes, together-parts}
+use Rattle.contents.specs.Questions.{isCount, codesRight}
 use Rattle.bodies.specs.Questions.{markCount, reelOf}
 use Rattle.bodies.specs.Fitting.{Fitting}
 use Rattle.bodies.specs.Laws.{fitting-writable}
@@ -35,13 +37,14 @@ use Rattle.view.specs.declared.Rectangle.{Rectangle}
 use Rattle.view.specs.Shown.{shown}
 use Rattle.view.specs.Questions.{viewQuestions, isMap, walkQuestions}
 use Rattle.rollmap.specs.declared.Answer.{Answer}
-use Rattle.rollmap.specs.Jobs.{Outcome, outcome, after, newParts, scheduledFrom, scheduled, hasRoom, schedulingQuestions, schedulingJob, scheduleJob, ScheduledHere, LeftByScheduling}
-use Rattle.rollmap.specs.Jobs.{given, assembleQuestions, assembleJob, shownIn, viewJob, walksFrom, isShownJob}
+use Rattle.rollmap.specs.Jobs.{Outcome, outcome, after, keptParts, newParts, scheduledFrom, scheduled, scheduledSize, hasRoom, schedulingQuestions, schedulingJob, scheduleJob, ScheduledHere, LeftByScheduling}
+use Rattle.rollmap.specs.Jobs.{areCounted, assembleQuestions, assembleJob, shownIn, viewJob, walksFrom, isShownJob}
 use Rattle.rollmap.specs.Answers.{answerOf, Gives}
 use Rattle.rollmap.specs.Parts.{Joins}
 use Rattle.rollmap.specs.Demand3.{sheetValue, IsList, KeepsRules, shownBy, ShowsLiving, Demand3, Meets, MeetsView}
-use Rattle.rollmap.specs.Lemmas.Given.{codes-right, given-right}
-use Rattle.rollmap.specs.Lemmas.Outcomes.{outcome-yes, outcome-number, all-yes, kept}
+use Rattle.rollmap.specs.Lemmas.Given.{together-take, together-named}
+use Rattle.rollmap.specs.Lemmas.Outcomes.{outcome-yes, outcome-number, all-yes, kept-bytes}
+use Rattle.rollmap.specs.Lemmas.Kept.{KeptRight, kept-right, alone-fits}
 use Rattle.rollmap.specs.Lemmas.Walking.{map-iff, map-asked, map-taken, walks-all}
 use Rattle.rollmap.specs.Lemmas.Scheduling.{sheet-long, there-room, room-asked, checks-passed}
 use Rattle.rollmap.specs.Lemmas.Scheduled.{later-same, count-same, new-fitting, good, marks-long, marks-bytes}
@@ -52,78 +55,76 @@ pub use Rattle.rollmap.specs.Lemmas.Scheduled.{good, marks-bytes}
 -- ---- demand 2: what scheduling writes, for an accepted sheet g
 
 module _ (g : List ℕ) (bytes : Bytes g) (ok : check g ≡ 0) where
+  abbrev kept : List Part
+  kept = keptParts (split g)
+
+  right : KeptRight kept
+  right = kept-right g ok bytes
+
+  fits : Fitting (newParts (marksPart (split g)) kept)
+  fits = new-fitting (marksPart (split g)) kept (good g bytes ok) (marks-long g bytes ok) (marks-bytes g bytes ok) right
+
   -- It is accepted.
   pub scheduled-accepted : check (scheduled g) ≡ 0
   unfolding scheduled
-  scheduled-accepted = join-accepted (newParts (marksPart (split g))) (codes-right 3 refl) (new-fitting (marksPart (split g)) (good g bytes ok) (marks-long g bytes ok) (marks-bytes g bytes ok))
+  scheduled-accepted = join-accepted (newParts (marksPart (split g)) kept) (right .behind-three) fits
 
-  -- Its parts are these: part 1 is the given one, byte for byte.
-  pub scheduled-parts : split (scheduled g) ≡ newParts (marksPart (split g))
+  -- Its parts are these: part 1 is the given one, byte for byte, and so are those that are kept.
+  pub scheduled-parts : split (scheduled g) ≡ newParts (marksPart (split g)) (keptParts (split g))
   unfolding scheduled
-  scheduled-parts =
-      split-join (newParts (marksPart (split g)))
-      (fitting-writable (newParts (marksPart (split g))) (new-fitting (marksPart (split g)) (good g bytes ok) (marks-long g bytes ok) (marks-bytes g bytes ok)) (codes-right 3 refl))
+  scheduled-parts = split-join (newParts (marksPart (split g)) kept) (fitting-writable (newParts (marksPart (split g)) kept) fits (right .behind-three))
 
-  -- "32 + 27n bytes for n marks"
-  pub scheduled-length : length (scheduled g) ≡ 32 + 27 * sheetCount g
+  -- "32 + 27n bytes for n marks", and those of the parts that are kept
+  pub scheduled-length : length (scheduled g) ≡ scheduledSize (sheetCount g) (keptParts (split g))
   unfolding scheduled
-  scheduled-length =
-      omega (arith, sheet-long (marksPart (split g)) (sheetCount g) (good g bytes ok .few) (marks-long g bytes ok))
+  scheduled-length = sheet-long (marksPart (split g)) (sheetCount g) (good g bytes ok .few) (marks-long g bytes ok) kept
 
   -- Scheduling it again gives the same bytes.
   pub scheduled-again : scheduled (scheduled g) ≡ scheduled g
   unfolding scheduled
   scheduled-again =
-      let parts : split (join (newParts (marksPart (split g)))) ≡ newParts (marksPart (split g)) = scheduled-parts in
-      rw parts
+      let parts : split (join (newParts (marksPart (split g)) kept)) ≡ newParts (marksPart (split g)) kept = scheduled-parts in
+      rw (parts, right .again)
 
--- ---- marks as they stand
+-- ---- marks as they stand, with parts that are kept
 
--- Marks that pass 4 to 6.
-pub record Pass (marks : List ℕ) : Type 0 where
+-- Marks that pass 4 to 6, and parts that may be kept.
+pub record Pass (marks : List ℕ) (kept : List Part) : Type 0 where
   pub good : GoodMarks marks (markCount marks)
   pub long : length marks ≡ 11 * markCount marks
   pub bytes : Bytes marks
+  pub right : KeptRight kept
 
 -- The sheet of them alone is accepted, and scheduling it writes what it writes for them.
-module _ (marks : List ℕ) (pass : Pass marks) where
+module _ (marks : List ℕ) (kept : List Part) (pass : Pass marks kept) where
   abbrev alone : List Part
-  alone = (1 holds marks) ∷ []
+  alone = (1 holds marks) ∷ kept
 
   alone-fitting : Fitting alone
-  alone-fitting =
-      record {
-        marks = pass .good;
-        marks-long = pass .long;
-        schedule-long = λ e. absurd (false≢true e);
-        index-long = λ e. absurd (false≢true e);
-        schedule-right = λ e. absurd (false≢true e);
-        index-right = λ e. absurd (false≢true e);
-      }
+  alone-fitting = alone-fits marks kept (pass .good) (pass .long) (pass .right)
 
   pub alone-accepted : check (join alone) ≡ 0
-  alone-accepted = join-accepted alone (codes-right 1 refl) alone-fitting
+  alone-accepted = join-accepted alone (pass .right .behind-one) alone-fitting
 
   pub alone-split : split (join alone) ≡ alone
-  alone-split = split-join alone (fitting-writable alone alone-fitting (codes-right 1 refl))
+  alone-split = split-join alone (fitting-writable alone alone-fitting (pass .right .behind-one))
 
   alone-bytes : Bytes (join alone)
-  alone-bytes =
-      join-bytes alone
-      (λ i. elim i [ zero ↦ pass .bytes | suc j ↦ (λ k. omega arith) ])
+  alone-bytes = join-bytes alone (λ i. elim i [ zero ↦ pass .bytes | suc j ↦ pass .right .bytes j ])
 
-  pub alone-scheduled : scheduled (join alone) ≡ scheduledFrom marks
+  pub alone-scheduled : scheduled (join alone) ≡ scheduledFrom marks kept
   unfolding scheduled
-  alone-scheduled = ap (λ (l : List Part). scheduledFrom (marksPart l)) alone-split
+  alone-scheduled =
+      ap (λ (l : List Part). scheduledFrom (marksPart l) (keptParts l)) alone-split ∙ ap (scheduledFrom marks) (pass .right .again)
 
-  pub from-here : ScheduledHere (scheduledFrom marks)
+  pub from-here : ScheduledHere (scheduledFrom marks kept)
   from-here = record { given-sheet = join alone; bytes = alone-bytes; accepted = alone-accepted; written = sym alone-scheduled }
 
   -- its parts
-  pub from-parts : split (scheduledFrom marks) ≡ newParts marks
+  pub from-parts : split (scheduledFrom marks kept) ≡ newParts marks kept
   from-parts =
-      ap split (sym alone-scheduled) ∙ scheduled-parts (join alone) alone-bytes alone-accepted
-      ∙ ap (λ (l : List Part). newParts (marksPart l)) alone-split
+      split-join (newParts marks kept)
+      (fitting-writable (newParts marks kept) (new-fitting marks kept (pass .good) (pass .long) (pass .bytes) (pass .right)) (pass .right .behind-three))
 
 pub here-accepted : (s : List ℕ) → ScheduledHere s → check s ≡ 0
 here-accepted s here = ap check (here .written) ∙ scheduled-accepted (here .given-sheet) (here .bytes) (here .accepted)
@@ -133,7 +134,7 @@ here-accepted s here = ap check (here .written) ∙ scheduled-accepted (here .gi
 -- what scheduling leaves where it answers 0
 module _ (g : List ℕ) (work : ℕ) (held : List ℕ) (answered : (scheduleJob g work (length held)) .number ≡ 0) where
   abbrev questions : List Question
-  questions = schedulingQuestions (checkQuestions g) (marksPart (split g)) work (length held)
+  questions = schedulingQuestions (checkQuestions g) (marksPart (split g)) (keptParts (split g)) work (length held)
 
   yes-to-all : answer questions ≡ 0
   unfolding schedulingJob scheduled
@@ -141,7 +142,7 @@ module _ (g : List ℕ) (work : ℕ) (held : List ℕ) (answered : (scheduleJob 
 
   pub schedule-accepts : check g ≡ 0
   unfolding check
-  schedule-accepts = checks-passed (checkQuestions g) (check-numbered g) (marksPart (split g)) work (length held) yes-to-all
+  schedule-accepts = checks-passed (checkQuestions g) (check-numbered g) (marksPart (split g)) (keptParts (split g)) work (length held) yes-to-all
 
   pub schedule-leaves : take ((scheduleJob g work (length held)) .value) (after (scheduleJob g work (length held)) held) ≡ scheduled g
   unfolding schedulingJob scheduled after over
@@ -154,10 +155,11 @@ module _ (g : List ℕ) (bytes : Bytes g) (ok : check g ≡ 0) where
   unfolding schedulingJob scheduled check
   schedule-answers =
       let long = scheduled-length g bytes ok in
-      let room : hasRoom (sheetCount g) (32 * sheetCount g + 1024) (length (scheduled g)) ≡ true =
-      there-room (sheetCount g) (32 * sheetCount g + 1024) (length (scheduled g)) (omega arith) (omega (arith, long)) in
-      outcome-number (schedulingQuestions (checkQuestions g) (marksPart (split g)) (32 * sheetCount g + 1024) (length (scheduled g))) (length (scheduled g)) (scheduled g)
-      ∙ (room-asked (checkQuestions g) (check-numbered g) (marksPart (split g)) (32 * sheetCount g + 1024) (length (scheduled g)) ok ∙ rw room)
+      let k = keptParts (split g) in
+      let room : hasRoom (sheetCount g) k (32 * sheetCount g + 1024) (length (scheduled g)) ≡ true =
+      there-room (sheetCount g) k (32 * sheetCount g + 1024) (length (scheduled g)) (omega arith) (omega (arith, long)) in
+      outcome-number (schedulingQuestions (checkQuestions g) (marksPart (split g)) k (32 * sheetCount g + 1024) (length (scheduled g))) (length (scheduled g)) (scheduled g)
+      ∙ (room-asked (checkQuestions g) (check-numbered g) (marksPart (split g)) k (32 * sheetCount g + 1024) (length (scheduled g)) ok ∙ rw room)
 
 -- 01's words: "scheduled here if its bytes are those that scheduling, answering 0, writes for some sheet".
 pub here-iff : (s : List ℕ) → ScheduledHere s ↔ LeftByScheduling s
@@ -185,55 +187,65 @@ here-iff s = (
 
 -- ---- putting together, over the job
 
-module _ (k : ℕ) (body1 body2 body3 : List ℕ) (room : ℕ) where
+module _ (codes : List ℕ) (bodies : List (List ℕ)) (room : ℕ) where
   abbrev handed : List Part
-  handed = given k body1 body2 body3
+  handed = together codes bodies
 
   -- Number 0: what was written is accepted, and splits into what was given.
-  pub assembled-reads : (assembleJob k body1 body2 body3 room) .number ≡ 0
-      → (check ((assembleJob k body1 body2 body3 room) .written) ≡ 0) × (split ((assembleJob k body1 body2 body3 room) .written) ≡ handed)
+  pub assembled-reads : (assembleJob codes bodies room) .number ≡ 0
+      → (check ((assembleJob codes bodies room) .written) ≡ 0) × (split ((assembleJob codes bodies room) .written) ≡ handed)
   unfolding assembleJob assembleQuestions
   assembled-reads z =
-      let yes : answer (assembleQuestions k handed room) ≡ 0 = sym (outcome-number (assembleQuestions k handed room) (length (join handed)) (join handed)) ∙ z in
-      let a = asked-iff 1 (isCount k) _ (omega arith) .0 yes in
-      let fits = parts-iff handed room .0 (a .1) .0 in
-      let right = given-right k body1 body2 body3 (a .0) in
-      rw (outcome-yes (assembleQuestions k handed room) (length (join handed)) (join handed) yes)
+      let yes : answer (assembleQuestions codes bodies room) ≡ 0 = sym (outcome-number (assembleQuestions codes bodies room) (length (join handed)) (join handed)) ∙ z in
+      let a = asked-iff 1 (areCounted codes bodies) _ (omega arith) .0 yes in
+      let b = asked-iff 2 (codesRight codes) _ (omega arith) .0 (a .1) in
+      let fits = parts-iff handed room .0 (b .1) .0 in
+      let enough = both-iff (isCount (length codes)) (leb (length codes) (length bodies)) .0 (a .0) .1 in
+      let right : codesRight (codesOf handed) ≡ true = rw (together-named codes bodies (leb-true (length codes) (length bodies) enough)) (b .0) in
+      rw (outcome-yes (assembleQuestions codes bodies room) (length (join handed)) (join handed) yes)
       (join-accepted handed right fits, split-join handed (fitting-writable handed fits right))
 
   -- An accepted sheet's parts, put together with room enough: 0, its length, its bytes.
-  pub assembled-again : (s : List ℕ) → Bytes s → check s ≡ 0 → countAt s ≡ k → split s ≡ handed → length s ≤ room
-      → assembleJob k body1 body2 body3 room ≡ record { number = 0; value = length s; written = s }
+  pub assembled-again : (s : List ℕ) → Bytes s → check s ≡ 0 → codes ≡ codesOf (split s) → take (length codes) bodies ≡ bodiesOf (split s) → length s ≤ room
+      → assembleJob codes bodies room ≡ record { number = 0; value = length s; written = s }
   unfolding assembleJob assembleQuestions
-  assembled-again s bytes ok count are fits =
-      let w = accepted-iff s .0 ok .laid .whole in
-      let taken : isCount k ≡ true = rw count at (count-iff (countAt s) .1 (w .some, w .few)) in
-      let yes : answer (assembleQuestions k handed room) ≡ 0 = asked-iff 1 (isCount k) _ (omega arith) .1 (taken, rw are at (parts-again s room bytes ok fits)) in
-      let same : join handed ≡ s = rw are at (sheet-again s bytes ok) in
-      outcome-yes (assembleQuestions k handed room) (length (join handed)) (join handed) yes ∙ rw same
+  assembled-again s bytes ok named held fits =
+      let w = accepted-iff s .0 ok .laid in
+      let are : handed ≡ split s = sym (together-take codes bodies) ∙ rw (held, named) (together-parts (split s)) in
+      let count : length codes ≡ countAt s = rw named (length-map (split s) _ ∙ split-length s) in
+      let taken : isCount (length codes) ≡ true = rw count (count-iff (countAt s) .1 (w .whole .some, w .whole .few)) in
+      let enough : leb (length codes) (length bodies) ≡ true = le-leb (length codes) (length bodies) (omega (arith, ap length held, length-take (length codes) bodies, length-map (split s) (λ (p : Part). p .body), split-length s)) in
+      let right : codesRight codes ≡ true = rw named (w .codes) in
+      let yes : answer (assembleQuestions codes bodies room) ≡ 0 =
+      asked-iff 1 (areCounted codes bodies) _ (omega arith) .1 (
+        both-iff (isCount (length codes)) _ .1 (taken, enough),
+        asked-iff 2 (codesRight codes) _ (omega arith) .1 (right, rw are (parts-again s room bytes ok fits)),
+      ) in
+      let same : join handed ≡ s = rw are (sheet-again s bytes ok) in
+      outcome-yes (assembleQuestions codes bodies room) (length (join handed)) (join handed) yes ∙ rw same
 
-pub assemble-joins : (k : ℕ) (body1 body2 body3 before : List ℕ) {r : Answer} {out : List ℕ}
-    → Gives (assembleJob k body1 body2 body3 (length before)) before r out → Joins k (given k body1 body2 body3) before r out
+pub assemble-joins : (codes : List ℕ) (bodies : List (List ℕ)) (before : List ℕ) {r : Answer} {out : List ℕ}
+    → Gives (assembleJob codes bodies (length before)) before r out → Joins codes bodies before r out
 unfolding assembleJob after over
-assemble-joins k body1 body2 body3 before {r} {out} gives =
+assemble-joins codes bodies before {r} {out} gives =
     record {
-      split-again = λ z. ap split (kept questions sheet before gives z ∙ sym (written z)) ∙ assembled-reads k body1 body2 body3 (length before) (number z) .1;
-      accepted = λ z. ap check (kept questions sheet before gives z ∙ sym (written z)) ∙ assembled-reads k body1 body2 body3 (length before) (number z) .0;
-      again = λ s bytes ok count parts fits.
-          (let job = assembled-again k body1 body2 body3 (length before) s bytes ok count parts fits in
+      split-again = λ z. ap split (kept-bytes questions sheet before gives z ∙ sym (written z)) ∙ assembled-reads codes bodies (length before) (number z) .1;
+      accepted = λ z. ap check (kept-bytes questions sheet before gives z ∙ sym (written z)) ∙ assembled-reads codes bodies (length before) (number z) .0;
+      again = λ s bytes ok named held fits.
+          (let job = assembled-again codes bodies (length before) s bytes ok named held fits in
           (gives .answered ∙ ap answerOf job, gives .bytes ∙ ap (λ (o : Outcome). after o before) job));
     }
   where
     questions : List Question
-    questions = assembleQuestions k (given k body1 body2 body3) (length before)
+    questions = assembleQuestions codes bodies (length before)
 
     sheet : List ℕ
-    sheet = join (given k body1 body2 body3)
+    sheet = join (together codes bodies)
 
-    number : r .number ≡ 0 → (assembleJob k body1 body2 body3 (length before)) .number ≡ 0
+    number : r .number ≡ 0 → (assembleJob codes bodies (length before)) .number ≡ 0
     number z = ap (λ (a : Answer). a .number) (sym (gives .answered)) ∙ z
 
-    written : r .number ≡ 0 → (assembleJob k body1 body2 body3 (length before)) .written ≡ sheet
+    written : r .number ≡ 0 → (assembleJob codes bodies (length before)) .written ≡ sheet
     written z = ap (λ (o : Outcome). o .written) (outcome-yes questions (length sheet) sheet (all-yes questions (length sheet) sheet before gives z))
 
 -- ---- demand 3, of a sheet s scheduled here
@@ -241,12 +253,16 @@ assemble-joins k body1 body2 body3 before {r} {out} gives =
 module _ (s : List ℕ) (here : ScheduledHere s) where
   open ScheduledHere here using (given-sheet as g, bytes, accepted, written)
 
-  parts : split s ≡ newParts (marksPart (split g))
+  parts : split s ≡ newParts (marksPart (split g)) (keptParts (split g))
   parts = ap split written ∙ scheduled-parts g bytes accepted
 
   -- Its part 1 is the given sheet's, byte for byte, so no mark handed in is missing.
   pub part1-kept : marksPart (split s) ≡ marksPart (split g)
   part1-kept = ap marksPart parts
+
+  -- And the parts that are kept are the given sheet's.
+  pub others-kept : keptParts (split s) ≡ keptParts (split g)
+  others-kept = ap keptParts parts ∙ kept-right g accepted bytes .again
 
   part1-good : GoodMarks (marksPart (split s)) (sheetCount s)
   part1-good = rw parts (good g bytes accepted)
@@ -340,36 +356,37 @@ module _ (s : List ℕ) (e : Rectangle) (zoom : Zoom) (buffer : List ℕ) (taken
 -- ---- and so of what the calls answer and leave
 
 -- Of a job that schedules these marks, which pass 4 to 6 wherever its `checks` are passed.
-module _ (checks : List Question) (numbered : Numbered checks) (marks : List ℕ) (pass : answer checks ≡ 0 → Pass marks) where
+module _ (checks : List Question) (numbered : Numbered checks) (marks : List ℕ) (others : List Part) (pass : answer checks ≡ 0 → Pass marks others) where
   pub scheduling-meets : (work : ℕ) (before : List ℕ) {r : Answer} {out : List ℕ}
-      → Gives (schedulingJob checks marks work (length before)) before r out → Meets marks r out
+      → Gives (schedulingJob checks marks others work (length before)) before r out → Meets marks others r out
   unfolding schedulingJob scheduled
   scheduling-meets work before {r} {out} gives =
       record {
-        accepted = λ z. rw (sheet z) (here-accepted (scheduledFrom marks) (here z));
+        accepted = λ z. rw (sheet z) (here-accepted (scheduledFrom marks others) (here z));
         here = λ z. rw (sheet z) (here z);
-        part1 = λ z. rw (sheet z) (ap marksPart (from-parts marks (pass (ok z))));
-        fresh = λ z g e. rw e (sheet z);
-        demand3 = λ z. rw (sheet z) (demand3 (scheduledFrom marks) (here z));
+        part1 = λ z. rw (sheet z) (ap marksPart (from-parts marks others (pass (ok z))));
+        keeps = λ z. rw (sheet z) (ap keptParts (from-parts marks others (pass (ok z))) ∙ pass (ok z) .right .again);
+        fresh = λ z g e f. rw (e, f) (sheet z);
+        demand3 = λ z. rw (sheet z) (demand3 (scheduledFrom marks others) (here z));
       }
     where
       ok : r .number ≡ 0 → answer checks ≡ 0
       ok z =
-          checks-passed checks numbered marks work (length before)
-          (all-yes (schedulingQuestions checks marks work (length before)) (length (scheduledFrom marks)) (scheduledFrom marks) before gives z)
+          checks-passed checks numbered marks others work (length before)
+          (all-yes (schedulingQuestions checks marks others work (length before)) (length (scheduledFrom marks others)) (scheduledFrom marks others) before gives z)
 
-      here : r .number ≡ 0 → ScheduledHere (scheduledFrom marks)
-      here z = from-here marks (pass (ok z))
+      here : r .number ≡ 0 → ScheduledHere (scheduledFrom marks others)
+      here z = from-here marks others (pass (ok z))
 
-      sheet : r .number ≡ 0 → take (r .value) out ≡ scheduledFrom marks
-      sheet z = kept (schedulingQuestions checks marks work (length before)) (scheduledFrom marks) before gives z
+      sheet : r .number ≡ 0 → take (r .value) out ≡ scheduledFrom marks others
+      sheet z = kept-bytes (schedulingQuestions checks marks others work (length before)) (scheduledFrom marks others) before gives z
 
 pub schedule-meets : (g : List ℕ) (work : ℕ) (before : List ℕ) {r : Answer} {out : List ℕ} → Bytes g
-    → Gives (scheduleJob g work (length before)) before r out → Meets (marksPart (split g)) r out
+    → Gives (scheduleJob g work (length before)) before r out → Meets (marksPart (split g)) (keptParts (split g)) r out
 unfolding check
 schedule-meets g work before bytes =
-    scheduling-meets (checkQuestions g) (check-numbered g) (marksPart (split g))
-    (λ ok. record { good = good g bytes ok; long = marks-long g bytes ok; bytes = marks-bytes g bytes ok }) work before
+    scheduling-meets (checkQuestions g) (check-numbered g) (marksPart (split g)) (keptParts (split g))
+    (λ ok. record { good = good g bytes ok; long = marks-long g bytes ok; bytes = marks-bytes g bytes ok; right = kept-right g ok bytes }) work before
 
 pub view-meets : (s : List ℕ) (e : Rectangle) (zoom : Zoom) (before : List ℕ) {r : Answer} {map : List ℕ}
     → Gives (viewJob s e zoom (length before)) before r map → MeetsView s e zoom r map
@@ -388,8 +405,8 @@ pub view-whole : {s : List ℕ} {e : Rectangle} {zoom : Zoom} {before map : List
 view-whole {s} {e} {zoom} {before} gives = (gives, view-meets s e zoom before gives)
 
 -- Schedule, then view: what the first call promises of its output is all that the second asks of its input.
-pub schedule-then-view : {g out : List ℕ} {r : Answer} {e : Rectangle} {zoom : Zoom} {v : Answer} {map : List ℕ}
-    → Meets g r out → r .number ≡ 0 → MeetsView (take (r .value) out) e zoom v map → v .number ≡ 0
+pub schedule-then-view : {g : List ℕ} {others : List Part} {out : List ℕ} {r : Answer} {e : Rectangle} {zoom : Zoom} {v : Answer} {map : List ℕ}
+    → Meets g others r out → r .number ≡ 0 → MeetsView (take (r .value) out) e zoom v map → v .number ≡ 0
     → (list : ℕ → Value) → IsList (take (r .value) out) list → KeepsRules (take (r .value) out) list
     → ShowsLiving (take (r .value) out) e zoom list map (v .value)
 schedule-then-view meets scheduled-it view viewed-it = view .living (meets .here scheduled-it) viewed-it

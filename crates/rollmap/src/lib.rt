@@ -12,7 +12,9 @@ use zoom::Scale;
 use zoom::Zoom;
 ghost use mathlib.Core.Path.{_≡_};
 ghost use mathlib.Core.Bool.{true};
-ghost use mathlib.Core.List.{[], _++_};
+ghost use mathlib.Core.Bool.{_&&_};
+ghost use mathlib.Core.List.{[], _++_, map};
+ghost use lib.Dec.{leb};
 ghost use Prim.Native.Nat.{_+_, _*_, _≤_};
 ghost use lib.ListN.{length, take};
 ghost use Rattle.lists.specs.Stores.{over};
@@ -22,13 +24,14 @@ ghost use Rattle.scheduling.specs.Filling.{workSize};
 ghost use Rattle.scheduling.specs.Behind.{reelIn};
 ghost use Rattle.indexing.specs.Buffer.{indexEnd};
 ghost use Rattle.changing.specs.Changing.{added, takenOut};
-ghost use Rattle.contents.specs.Contents.{split, marksPart, join};
+ghost use Rattle.contents.specs.Contents.{split, marksPart};
+ghost use Rattle.contents.specs.Questions.{isCount};
 ghost use Rattle.contents.specs.Places.{layoutOf, placeOf, Located};
 ghost use Rattle.sheet.specs.Questions.{check, question10};
 ghost use Rattle.sheet.specs.Opened.{opened, openParts};
 ghost use Rattle.zoom.specs.declared.Zoom.the-variants.{Stop, Wheel};
 ghost use Rattle.view.specs.Questions.{question11, isMap};
-ghost use Rattle.rollmap.specs.Jobs.{checkJob, scheduledFrom, scheduledSize, hasRoom, schedulingJob, scheduleJob, addJob, takeOutJob, given, assembleJob, fillJob, logToMarksJob, marksToLogJob, viewJob, walkJob, isShownJob};
+ghost use Rattle.rollmap.specs.Jobs.{checkJob, keptParts, scheduledFrom, hasRoom, schedulingJob, scheduleJob, addJob, takeOutJob, assembleJob, fillJob, logToMarksJob, marksToLogJob, viewJob, walkJob, isShownJob};
 ghost use Rattle.rollmap.specs.Answers.{refusal, answerOf, edges, fields, Gives, Lent};
 ghost use Rattle.rollmap.specs.Parts.{Joins};
 ghost use Rattle.rollmap.specs.Demand3.{Meets, MeetsView};
@@ -36,9 +39,10 @@ ghost use Rattle.rollmap.specs.Changed.{MeetsAdding};
 ghost use Rattle.rollmap.specs.Filled.{MeetsFilling};
 ghost use Rattle.rollmap.specs.Turned.{MeetsLog, MeetsMarks};
 ghost use Rattle.rollmap.specs.Stops.{MeetsStop};
-ghost use Rattle.rollmap.specs.Steps.{resultsOver, viewAt};
+ghost use Rattle.rollmap.specs.Steps.{keptFrom, resultsOver, viewAt};
 
-// What scheduling asks for, in bytes a mark and in bytes beside them: the work buffer, and the sheet of three parts with its contents.
+// What scheduling asks for, in bytes a mark and in bytes beside them: the work buffer, and the sheet of three parts with its contents, to which
+// part 4 adds its own.
 const WORK_EACH: usize = 32;
 
 const WORK_BESIDE: usize = 1024;
@@ -46,6 +50,9 @@ const WORK_BESIDE: usize = 1024;
 const SHEET_EACH: usize = 27;
 
 const SHEET_BESIDE: usize = 32;
+
+// What part 4 takes of a sheet: its entry in the contents, and its byte.
+const EDITION_BYTES: usize = 11;
 
 // The most marks that a sheet holds.
 const MOST_MARKS: usize = 4096;
@@ -85,26 +92,33 @@ pub extern "C" fn rollmap_part(sheet: &[u8], code: u32) -> Extent
     sheet::place_of(sheet, code)
 }
 
-// Puts parts together into a sheet at the start of `out`: questions 1 (of the number of parts), 4 to 9 and 13. The sheet has these parts
-// and is accepted; an accepted sheet's own parts give that sheet.
+// 1, of the parts that are put together: is their number one that is taken, and is there a body for each code?
+fn are_counted(codes: usize, bodies: usize) -> bool
+    ensures { λ r. ⌜ r ≡ (isCount codes && leb codes bodies) ⌝ }
+{
+    contents::is_count(codes) && codes <= bodies
+}
+
+// Puts the bodies under these codes together into a sheet at the start of `out`: questions 1 (of the number of parts), 2 of the codes, 4 to 9
+// with 19, and 13. Bodies behind those that the codes name are ignored. The sheet has these parts and is accepted; an accepted sheet's own
+// parts give that sheet.
 #[no_mangle]
 pub extern "C" fn rollmap_assemble<'a>(
-    parts: u32,
-    body1: &'a [u8],
-    body2: &'a [u8],
-    body3: &'a [u8],
+    codes: &[u16],
+    bodies: &'a [&'a [u8]],
     out: &mut [u8],
 ) -> Answer
-    ensures { λ r. ⌜ Gives (assembleJob parts (now (body1 .entry)) (now (body2 .entry)) (now (body3 .entry)) (length (now (out .entry)))) (now (out .entry)) r (now (out .exit)) ⌝ }
-    ensures { λ r. ⌜ Joins parts (given parts (now (body1 .entry)) (now (body2 .entry)) (now (body3 .entry))) (now (out .entry)) r (now (out .exit)) ⌝ }
+    ensures { λ r. ⌜ Gives (assembleJob (now (codes .entry)) (map now (now (bodies .entry))) (length (now (out .entry)))) (now (out .entry)) r (now (out .exit)) ⌝ }
+    ensures { λ r. ⌜ Joins (now (codes .entry)) (map now (now (bodies .entry))) (now (out .entry)) r (now (out .exit)) ⌝ }
 {
-    let count = parts as usize;
-    if !contents::is_count(count) {
+    let count = codes.len();
+    if !are_counted(count, bodies.len()) {
         return refused(1);
     }
-    let codes: [u16; 3] = [1, 2, 3];
-    let lent = [body1, body2, body3];
-    match sheet::assemble(&codes[..count], &lent[..count], out) {
+    if !contents::codes_right(codes) {
+        return refused(2);
+    }
+    match sheet::assemble(codes, &bodies[..count], out) {
         Assembled::Refused(number) => refused(number),
         Assembled::Written(size) => Answer {
             number: 0,
@@ -115,60 +129,78 @@ pub extern "C" fn rollmap_assemble<'a>(
 
 // ---- scheduling
 
-// Writes part 2, the schedule of the n marks that `all` begins with, and part 3, their index, behind them.
-fn put_results(all: &mut [u8], work: &mut [u8], n: usize)
+// Writes part 2, the schedule of the n marks that `all` begins with, by this edition, and part 3, their index, behind them.
+fn put_results(all: &mut [u8], edition: u8, work: &mut [u8], n: usize)
     requires { ⌜ GoodMarks (take (markSize * n) (now all)) n × (workSize n ≤ length (now work)) × (indexEnd n ≤ length (now all)) ⌝ }
-    ensures { λ _. ⌜ now (all .exit) ≡ resultsOver (reelIn (now (all .entry)) n) (now (all .entry)) ⌝ }
+    ensures { λ _. ⌜ now (all .exit) ≡ resultsOver (reelIn edition (now (all .entry)) n) (now (all .entry)) ⌝ }
 {
-    scheduling::schedule_behind(all, work, n);
+    scheduling::schedule_behind(all, edition, work, n);
     indexing::build(all, work, n);
 }
 
-// Writes the scheduled sheet of n marks, those of `head` and then those of `tail`: they are put together in `out` and scheduled there.
-fn put_scheduled(head: &[u8], tail: &[u8], work: &mut [u8], out: &mut [u8], n: usize)
-    requires { ⌜ GoodMarks (now head ++ now tail) n × (length (now head ++ now tail) ≡ markSize * n) ⌝ }
-    requires { ⌜ (workSize n ≤ length (now work)) × (scheduledSize n ≤ length (now out)) ⌝ }
-    ensures { λ _. ⌜ now (out .exit) ≡ over (scheduledFrom (now (head .entry) ++ now (tail .entry))) (now (out .entry)) ⌝ }
+// How many bytes the scheduled sheet of n marks has, with the part 4 that is kept, of so many bytes.
+fn scheduled_size(n: usize, kept: usize) -> usize
+    requires { ⌜ (n ≤ 4096) × (kept ≤ 1) ⌝ }
+    ensures { λ r. ⌜ r ≡ 27 * n + 32 + 11 * kept ⌝ }
 {
-    let codes: [u16; 3] = [1, 2, 3];
-    let sizes = [MARK_SIZE * n, RECORD_SIZE * n, INDEX_ENTRY_SIZE * n];
-    let start = contents::put_contents(out, &codes, &sizes);
+    SHEET_EACH * n + SHEET_BESIDE + EDITION_BYTES * kept
+}
+
+// Writes the scheduled sheet of n marks, those of `head` and then those of `tail`, and of the part 4 that is kept: the marks are put together in
+// `out` and scheduled there.
+fn put_scheduled(head: &[u8], tail: &[u8], kept: &[u8], work: &mut [u8], out: &mut [u8], n: usize)
+    requires { ⌜ GoodMarks (now head ++ now tail) n × (length (now head ++ now tail) ≡ markSize * n) × (length (now kept) ≤ 1) ⌝ }
+    requires { ⌜ (workSize n ≤ length (now work)) × (27 * n + 32 + 11 * length (now kept) ≤ length (now out)) ⌝ }
+    ensures { λ _. ⌜ now (out .exit) ≡ over (scheduledFrom (now (head .entry) ++ now (tail .entry)) (keptFrom (now (kept .entry)))) (now (out .entry)) ⌝ }
+{
+    let codes: [u16; 4] = [1, 2, 3, 4];
+    let sizes = [MARK_SIZE * n, RECORD_SIZE * n, INDEX_ENTRY_SIZE * n, 1];
+    let count = 3 + kept.len();
+    let start = contents::put_contents(out, &codes[..count], &sizes[..count]);
     let middle = contents::put(out, start, head);
     contents::put(out, middle, tail);
-    put_results(&mut out[start..], work, n);
+    put_results(&mut out[start..], bodies::edition_of(kept), work, n);
+    contents::put(out, start + SHEET_EACH * n, kept);
 }
 
-// 13. Are the work buffer and the written one long enough for n marks?
-fn has_room(n: usize, work: usize, out: usize) -> bool
-    requires { ⌜ n ≤ 4096 ⌝ }
-    ensures { λ r. ⌜ r ≡ hasRoom n work out ⌝ }
+// 13. Are the work buffer and the written one long enough for n marks, and for the part 4 that is kept?
+fn has_room(n: usize, kept: &[u8], work: usize, out: usize) -> bool
+    requires { ⌜ (n ≤ 4096) × (length (now kept) ≤ 1) ⌝ }
+    ensures { λ r. ⌜ r ≡ hasRoom n (keptFrom (now (kept .entry))) work out ⌝ }
 {
-    WORK_EACH * n + WORK_BESIDE <= work && SHEET_EACH * n + SHEET_BESIDE <= out
+    WORK_EACH * n + WORK_BESIDE <= work && scheduled_size(n, kept.len()) <= out
 }
 
-// What is left of a job that schedules n marks, those of `head` and then those of `tail`, once its other questions are answered with yes: 13,
-// and then the sheet and its length.
-fn schedule_marks(head: &[u8], tail: &[u8], work: &mut [u8], out: &mut [u8], n: usize) -> Answer
-    requires { ⌜ GoodMarks (now head ++ now tail) n × (length (now head ++ now tail) ≡ markSize * n) ⌝ }
-    ensures { λ r. ⌜ Gives (schedulingJob [] (now (head .entry) ++ now (tail .entry)) (length (now (work .entry))) (length (now (out .entry)))) (now (out .entry)) r (now (out .exit)) ⌝ }
+// What is left of a job that schedules n marks, those of `head` and then those of `tail`, and keeps part 4, once its other questions are answered
+// with yes: 13, and then the sheet and its length.
+fn schedule_marks(
+    head: &[u8],
+    tail: &[u8],
+    kept: &[u8],
+    work: &mut [u8],
+    out: &mut [u8],
+    n: usize,
+) -> Answer
+    requires { ⌜ GoodMarks (now head ++ now tail) n × (length (now head ++ now tail) ≡ markSize * n) × (length (now kept) ≤ 1) ⌝ }
+    ensures { λ r. ⌜ Gives (schedulingJob [] (now (head .entry) ++ now (tail .entry)) (keptFrom (now (kept .entry))) (length (now (work .entry))) (length (now (out .entry)))) (now (out .entry)) r (now (out .exit)) ⌝ }
     ensures { λ r. ⌜ Lent r (now (work .entry)) (now (work .exit)) ⌝ }
 {
-    if !has_room(n, work.len(), out.len()) {
+    if !has_room(n, kept, work.len(), out.len()) {
         return refused(13);
     }
-    put_scheduled(head, tail, work, out, n);
+    put_scheduled(head, tail, kept, work, out, n);
     Answer {
         number: 0,
-        value: (SHEET_EACH * n + SHEET_BESIDE) as u32,
+        value: scheduled_size(n, kept.len()) as u32,
     }
 }
 
-// Writes the sheet of three parts that a sheet's marks give, and answers its length: questions 1 to 9 and 13. What the work buffer holds
+// Writes the sheet of three parts that a sheet's marks give, and part 4 where it is there, and answers its length: questions 1 to 9 and 13. What the work buffer holds
 // plays no part, and what it is left with after a success is not said. The written sheet meets demand 3.
 #[no_mangle]
 pub extern "C" fn rollmap_schedule(sheet: &[u8], work: &mut [u8], out: &mut [u8]) -> Answer
     ensures { λ r. ⌜ Gives (scheduleJob (now (sheet .entry)) (length (now (work .entry))) (length (now (out .entry)))) (now (out .entry)) r (now (out .exit)) ⌝ }
-    ensures { λ r. ⌜ Lent r (now (work .entry)) (now (work .exit)) × Meets (marksPart (split (now (sheet .entry)))) r (now (out .exit)) ⌝ }
+    ensures { λ r. ⌜ Lent r (now (work .entry)) (now (work .exit)) × Meets (marksPart (split (now (sheet .entry)))) (keptParts (split (now (sheet .entry)))) r (now (out .exit)) ⌝ }
 {
     let found = sheet::opened(sheet);
     let number = found.number;
@@ -177,7 +209,8 @@ pub extern "C" fn rollmap_schedule(sheet: &[u8], work: &mut [u8], out: &mut [u8]
     }
     let layout = found.layout;
     let marks = contents::part(sheet, layout, 1);
-    schedule_marks(marks, &marks[..0], work, out, marks.len() / MARK_SIZE)
+    let kept = contents::part(sheet, layout, 4);
+    schedule_marks(marks, &marks[..0], kept, work, out, marks.len() / MARK_SIZE)
 }
 
 // ---- marks that come and go
@@ -197,7 +230,7 @@ pub extern "C" fn rollmap_add(
     out: &mut [u8],
 ) -> Answer
     ensures { λ r. ⌜ Gives (addJob (now (sheet .entry)) (fields x y radius priority kind tag) (length (now (work .entry))) (length (now (out .entry)))) (now (out .entry)) r (now (out .exit)) ⌝ }
-    ensures { λ r. ⌜ Lent r (now (work .entry)) (now (work .exit)) × Meets (added (marksPart (split (now (sheet .entry)))) (fields x y radius priority kind tag)) r (now (out .exit)) ⌝ }
+    ensures { λ r. ⌜ Lent r (now (work .entry)) (now (work .exit)) × Meets (added (marksPart (split (now (sheet .entry)))) (fields x y radius priority kind tag)) (keptParts (split (now (sheet .entry)))) r (now (out .exit)) ⌝ }
     ensures { λ r. ⌜ MeetsAdding (now (sheet .entry)) (fields x y radius priority kind tag) r (now (out .exit)) ⌝ }
 {
     let found = sheet::indexed(sheet);
@@ -223,7 +256,8 @@ pub extern "C" fn rollmap_add(
         kind,
         tag,
     });
-    schedule_marks(marks, &last, work, out, n + 1)
+    let kept = contents::part(sheet, layout, 4);
+    schedule_marks(marks, &last, kept, work, out, n + 1)
 }
 
 // Schedules a sheet's marks without mark m, whereupon higher numbers drop by one: questions 1 to 10, 17 and 13. It is the sheet that scheduling
@@ -231,7 +265,7 @@ pub extern "C" fn rollmap_add(
 #[no_mangle]
 pub extern "C" fn rollmap_take_out(sheet: &[u8], m: u32, work: &mut [u8], out: &mut [u8]) -> Answer
     ensures { λ r. ⌜ Gives (takeOutJob (now (sheet .entry)) m (length (now (work .entry))) (length (now (out .entry)))) (now (out .entry)) r (now (out .exit)) ⌝ }
-    ensures { λ r. ⌜ Lent r (now (work .entry)) (now (work .exit)) × Meets (takenOut (marksPart (split (now (sheet .entry)))) m) r (now (out .exit)) ⌝ }
+    ensures { λ r. ⌜ Lent r (now (work .entry)) (now (work .exit)) × Meets (takenOut (marksPart (split (now (sheet .entry)))) m) (keptParts (split (now (sheet .entry)))) r (now (out .exit)) ⌝ }
 {
     let found = sheet::indexed(sheet);
     let number = found.number;
@@ -247,7 +281,8 @@ pub extern "C" fn rollmap_take_out(sheet: &[u8], m: u32, work: &mut [u8], out: &
     }
     let at = MARK_SIZE * gone;
     let next = at + MARK_SIZE;
-    schedule_marks(&marks[..at], &marks[next..], work, out, n - 1)
+    let kept = contents::part(sheet, layout, 4);
+    schedule_marks(&marks[..at], &marks[next..], kept, work, out, n - 1)
 }
 
 // ---- filling

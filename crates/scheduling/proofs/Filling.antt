@@ -25,25 +25,25 @@ use Rattle.scheduling.proofs.Bytes.{row-length, row-back}
 
 -- ---- keys
 
-pub keyed-none : (s : List ℕ) (n : ℕ) (w : List ℕ) → Keyed s n 0 w w
-keyed-none s n w = record { long = refl; keys = λ i h. absurd (omega arith) }
+pub keyed-none : (edition : ℕ) (s : List ℕ) (n : ℕ) (w : List ℕ) → Keyed edition s n 0 w w
+keyed-none edition s n w = record { long = refl; keys = λ i h. absurd (omega arith) }
 
-pub keyed-more : {s w₀ w w′ : List ℕ} {n p key : ℕ} → Keyed s n p w₀ w → key ≡ rankKey s p → KeyPut w w′ (keysFrom n + 8 * p) key
-    → Keyed s n (p + 1) w₀ w′
-keyed-more {s} {w₀} {w} {w′} {n} {p} g e k =
+pub keyed-more : {edition : ℕ} {s w₀ w w′ : List ℕ} {n p key : ℕ} → Keyed edition s n p w₀ w → key ≡ rankKey edition s p → KeyPut w w′ (keysFrom n + 8 * p) key
+    → Keyed edition s n (p + 1) w₀ w′
+keyed-more {edition} {s} {w₀} {w} {w′} {n} {p} g e k =
     record {
       long = k .kept .long ∙ g .long;
       keys = below-more _ p (λ i h. number-kept (k .kept) 8 (keysFrom n + 8 * i) (omega arith) ∙ g .keys i h) (k .is ∙ e);
     }
 
 -- a rank key ends in the mark's number
-key-number : (s : List ℕ) (m : ℕ) → m < 4096 → rankKey s m % 4096 ≡ m
+key-number : (edition : ℕ) (s : List ℕ) (m : ℕ) → m < 4096 → rankKey edition s m % 4096 ≡ m
 unfolding rankKey
-key-number s m h = omega arith
+key-number edition s m h = omega arith
 
-pub ranks : (s : List ℕ) {w v : List ℕ} {spare n : ℕ} → n ≤ 4096 → ((i : ℕ) → i < n → keyAt w (keysFrom n) i ≡ rankKey s i)
-    → KeysSorted w v (keysFrom n) spare n → Ranks n (rankKey s) (numberAt n v)
-ranks s few keys w = sorted-ranks w (rankKey s) 4096 keys (λ m h. key-number s m (omega arith))
+pub ranks : (edition : ℕ) (s : List ℕ) {w v : List ℕ} {spare n : ℕ} → n ≤ 4096 → ((i : ℕ) → i < n → keyAt w (keysFrom n) i ≡ rankKey edition s i)
+    → KeysSorted w v (keysFrom n) spare n → Ranks n (rankKey edition s) (numberAt n v)
+ranks edition s few keys w = sorted-ranks w (rankKey edition s) 4096 keys (λ m h. key-number edition s m (omega arith))
 
 -- ---- rows
 
@@ -75,8 +75,8 @@ rows-more {s} {n} {p} {w₀} {w} {w′} {m} b h room hm hr e g f =
 
 -- ---- the rows of the sorted keys are the marks in the order of rank
 
-pub in-rank : {s w v : List ℕ} {n : ℕ} → Ranks n (rankKey s) (numberAt n v) → RowsPut s n n v w → InRank s w n
-in-rank {s} {w} {v} {n} rs f =
+pub in-rank : {edition : ℕ} {s w v : List ℕ} {n : ℕ} → Ranks n (rankKey edition s) (numberAt n v) → RowsPut s n n v w → InRank edition s w n
+in-rank {edition} {s} {w} {v} {n} rs f =
     let number-is : (q : ℕ) → q < n → rowNumber w q ≡ numberAt n v q = λ q h. f .rows q h .number in
     record {
       ranking = record {
@@ -87,8 +87,8 @@ in-rank {s} {w} {v} {n} rs f =
       label-is = λ q h. let r = f .rows q h in rw (number-is q h, r .x-is, r .y-is, r .radius-is);
     }
 
-module _ {s w : List ℕ} {n : ℕ} (o : InRank s w n) where
-  pub ordered : n ≤ 4096 → Ordered (marksOf (record { marks = s; count = n })) (rowNumber w) w n
+module _ {edition : ℕ} {s w : List ℕ} {n : ℕ} (o : InRank edition s w n) where
+  pub ordered : n ≤ 4096 → Ordered (marksOf (record { marks = s; count = n; edition = edition })) (rowNumber w) w n
   unfolding touching
   ordered few =
       record {
@@ -104,7 +104,7 @@ module _ {s w : List ℕ} {n : ℕ} (o : InRank s w n) where
   numbered =
       record {
         inside = o .ranking .inside;
-        distinct = λ q p h k e. let z = ap (rankKey s) e in omega (arith, o .ranking .rising q p h k);
+        distinct = λ q p h k e. let z = ap (rankKey edition s) e in omega (arith, o .ranking .rising q p h k);
       }
 
   pub radii-rows : ((i : ℕ) → i < n → usedAt s i ≤ 16383) → (q : ℕ) → q < n → rowLabel w q .radius ≤ 16383

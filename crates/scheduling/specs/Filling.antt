@@ -31,9 +31,9 @@ pub record Schedulable (marks work out : List ℕ) (n : ℕ) : Type 0 where
 -- ---- keys
 
 -- the keys of the marks before p stand in w
-pub record Keyed (s : List ℕ) (n p : ℕ) (w₀ w : List ℕ) : Type 0 where
+pub record Keyed (edition : ℕ) (s : List ℕ) (n p : ℕ) (w₀ w : List ℕ) : Type 0 where
   pub long : length w ≡ length w₀
-  pub keys : (i : ℕ) → i < p → keyAt w (keysFrom n) i ≡ rankKey s i
+  pub keys : (i : ℕ) → i < p → keyAt w (keysFrom n) i ≡ rankKey edition s i
 
 -- the number that the key q ends in
 abbrev pub numberAt : ℕ → List ℕ → ℕ → ℕ
@@ -59,12 +59,12 @@ pub record RowsPut (s : List ℕ) (n p : ℕ) (w₀ w : List ℕ) : Type 0 where
   pub keys : (k : ℕ) → p ≤ k → k < n → keyAt w (keysFrom n) k ≡ keyAt w₀ (keysFrom n) k
   pub rows : (q : ℕ) → q < p → RowAt s w (rowSize * q) (numberAt n w₀ q)
 
--- the rows of w are the marks of s in the order of rank
-pub record InRank (s w : List ℕ) (n : ℕ) : Type 0 where
-  pub ranking : Ranking (marksOf (record { marks = s; count = n })) (rowNumber w)
+-- the rows of w are the marks of s in the order of rank in this edition
+pub record InRank (edition : ℕ) (s w : List ℕ) (n : ℕ) : Type 0 where
+  pub ranking : Ranking (marksOf (record { marks = s; count = n; edition = edition })) (rowNumber w)
   pub label-is : (q : ℕ) → q < n → rowLabel w q ≡ labelAt s (rowNumber w q)
 
--- w, which was w₀, begins with the rows of the n marks of s in the order of rank
-pub record Ranked (s : List ℕ) (n : ℕ) (w₀ w : List ℕ) : Type 0 where
+-- w, which was w₀, begins with the rows of the n marks of s in that order
+pub record Ranked (edition : ℕ) (s : List ℕ) (n : ℕ) (w₀ w : List ℕ) : Type 0 where
   pub long : length w ≡ length w₀
-  pub in-rank : InRank s w n
+  pub in-rank : InRank edition s w n

@@ -164,14 +164,14 @@ fn schedule_rows(w: &mut [u8], out: &mut [u8], n: usize)
 
 // ---- rows from marks
 
-// The marks' rank keys, one after the other, behind the room for the rows.
-fn put_keys(marks: &[u8], work: &mut [u8], n: usize)
-    requires { ⌜ (n ≤ 4096) × (markSize * n ≤ length (now marks)) × (workSize n ≤ length (now work)) ⌝ }
-    ensures { λ _. ⌜ Keyed (now (marks .entry)) n n (now (work .entry)) (now (work .exit)) ⌝ }
+// The marks' rank keys in this edition, one after the other, behind the room for the rows.
+fn put_keys(marks: &[u8], edition: u8, work: &mut [u8], n: usize)
+    requires { ⌜ GoodMarks (now marks) n × (workSize n ≤ length (now work)) ⌝ }
+    ensures { λ _. ⌜ Keyed edition (now (marks .entry)) n n (now (work .entry)) (now (work .exit)) ⌝ }
 {
     let mut i = 0;
     while i < n {
-        sorting::put(work, KEYS * n, i, marks::rank_key(marks, i));
+        sorting::put(work, KEYS * n, i, marks::rank_key(marks, edition, i));
         i += 1;
     }
 }
@@ -204,30 +204,30 @@ fn put_rows(marks: &[u8], work: &mut [u8], n: usize)
 
 // The rows of the n marks at the start of `marks`, in the order of rank. `work` begins with the spare places of the sort, and the keys stand
 // behind them; then it begins with the rows, and the grid stands behind these.
-fn put_ranked(marks: &[u8], work: &mut [u8], n: usize)
+fn put_ranked(marks: &[u8], edition: u8, work: &mut [u8], n: usize)
     requires { ⌜ GoodMarks (now marks) n × (workSize n ≤ length (now work)) ⌝ }
-    ensures { λ _. ⌜ Ranked (now (marks .entry)) n (now (work .entry)) (now (work .exit)) ⌝ }
+    ensures { λ _. ⌜ Ranked edition (now (marks .entry)) n (now (work .entry)) (now (work .exit)) ⌝ }
 {
-    put_keys(marks, work, n);
+    put_keys(marks, edition, work, n);
     sorting::sort(work, KEYS * n, 0, n);
     put_rows(marks, work, n);
 }
 
-// Writes part 2 for the n marks at the start of `marks`: who removes each mark, and where.
-pub fn schedule(marks: &[u8], work: &mut [u8], out: &mut [u8], n: usize)
+// Writes part 2 for the n marks at the start of `marks`, ranked by this edition: who removes each mark, and where.
+pub fn schedule(marks: &[u8], edition: u8, work: &mut [u8], out: &mut [u8], n: usize)
     requires { ⌜ Schedulable (now marks) (now work) (now out) n ⌝ }
-    ensures { λ _. ⌜ now (out .exit) ≡ scheduleOf (record { marks = now (marks .entry); count = n }) ++ drop (recordSize * n) (now (out .entry)) ⌝ }
+    ensures { λ _. ⌜ now (out .exit) ≡ scheduleOf (record { marks = now (marks .entry); count = n; edition = edition }) ++ drop (recordSize * n) (now (out .entry)) ⌝ }
 {
-    put_ranked(marks, work, n);
+    put_ranked(marks, edition, work, n);
     schedule_rows(work, out, n);
 }
 
 // The same where the marks stand in the buffer that is written, with the room for part 2 behind them: no copy of them stands elsewhere.
-pub fn schedule_behind(all: &mut [u8], work: &mut [u8], n: usize)
+pub fn schedule_behind(all: &mut [u8], edition: u8, work: &mut [u8], n: usize)
     requires { ⌜ GoodMarks (take (markSize * n) (now all)) n × (workSize n ≤ length (now work)) × (scheduleEnd n ≤ length (now all)) ⌝ }
-    ensures { λ _. ⌜ now (all .exit) ≡ withSchedule (now (all .entry)) n ⌝ }
+    ensures { λ _. ⌜ now (all .exit) ≡ withSchedule edition (now (all .entry)) n ⌝ }
 {
     let size = MARK_SIZE * n;
-    put_ranked(&all[..size], work, n);
+    put_ranked(&all[..size], edition, work, n);
     schedule_rows(work, &mut all[size..], n);
 }

@@ -10,10 +10,10 @@ use Rattle.bodies.proofs.is_schedule.Statement.{statement}
 use Rattle.bodies.proofs.is_schedule.Tie as tie
 
 abbrev Inv-loop : tie.InvT-loop
-Inv-loop marks schedule n m₀ m = (m ≤ n) × (every (recordRight (record { marks = marks; count = n }) schedule) m ≡ true)
+Inv-loop marks edition schedule n m₀ m = (m ≤ n) × (every (recordRight (record { marks = marks; count = n; edition = edition }) schedule) m ≡ true)
 
 abbrev μ-loop : tie.MeasureT-loop
-μ-loop marks schedule n m₀ m = n - m
+μ-loop marks edition schedule n m₀ m = n - m
 
 loop-holds : tie.Need-loop-holds Inv-loop μ-loop
 unfolding every

@@ -13,10 +13,10 @@ use Rattle.marks.specs.Marks.{kindAt, radiusAt, isKind, isRadius}
 use Rattle.marks.specs.Good.{GoodMark, GoodMarks}
 use Rattle.marks.specs.Laws.{kind-iff, used-bound}
 use Rattle.index.specs.Index.{isIndex}
-use Rattle.contents.specs.Contents.{Part, has, marksPart, schedulePart, indexPart}
+use Rattle.contents.specs.Contents.{Part, has, marksPart, schedulePart, indexPart, editionPart}
 use Rattle.contents.specs.Asking.{answer, ifThere}
 use Rattle.contents.specs.Laws.{none-asked, asked-iff, append-iff, turn-at, turn-of}
-use Rattle.bodies.specs.Questions.{question4, markCount, fieldQuestions, oneMark, markQuestions, part1Questions, isSchedule, countOf, reelOf, isSized, question7, question8, question9, lastQuestions, bodyQuestions}
+use Rattle.bodies.specs.Questions.{question4, markCount, fieldQuestions, oneMark, markQuestions, part1Questions, isSchedule, countOf, reelOf, isSized, question7, isEdition, question19, question8, question9, lastQuestions, bodyQuestions}
 use Rattle.bodies.specs.Fitting.{Fitting}
 use Rattle.bodies.specs.Lemmas.Numbered.{one-numbered, part1-numbered}
 
@@ -68,7 +68,12 @@ part1-iff s = (
   )),
 )
 
--- ---- 7 to 9
+-- ---- 7 to 9, and 19
+
+-- part 4 is one byte
+pub edition-long : (body : List ℕ) → isEdition body ≡ true → length body ≡ 1
+unfolding isEdition
+edition-long body e = eqb-true (length body) 1 (both-iff (eqb (length body) 1) _ .0 e .0)
 
 -- a question about a part that may not be there
 there-iff : (there test : Bool) → (ifThere there test ≡ true) ↔ (there ≡ true → test ≡ true)
@@ -93,7 +98,7 @@ sizes-iff parts =
     )
 
 pub fitting-iff : (parts : List Part) → (answer (bodyQuestions parts) ≡ 0) ↔ Fitting parts
-unfolding bodyQuestions lastQuestions question8 question9
+unfolding bodyQuestions lastQuestions question19 question8 question9
 fitting-iff parts = (there, back)
   where
     scheduled : Bool
@@ -107,13 +112,15 @@ fitting-iff parts = (there, back)
         let b = append-iff (part1Questions (marksPart parts)) _ (part1-numbered (marksPart parts)) .0 e in
         let c = asked-iff 7 (question7 parts) _ (omega arith) .0 (b .1) in
         let sizes = sizes-iff parts .0 (c .0) in
-        let d = asked-iff 8 (question8 parts) _ (omega arith) .0 (c .1) in
+        let g = asked-iff 19 (question19 parts) _ (omega arith) .0 (c .1) in
+        let d = asked-iff 8 (question8 parts) _ (omega arith) .0 (g .1) in
         let f = asked-iff 9 (question9 parts) _ (omega arith) .0 (d .1) in
         record {
           marks = part1-iff (marksPart parts) .0 (b .0) .0;
           marks-long = part1-iff (marksPart parts) .0 (b .0) .1;
           schedule-long = sizes .0;
           index-long = sizes .1;
+          edition-right = there-iff (has parts 4) (isEdition (editionPart parts)) .0 (g .0);
           schedule-right = there-iff (has parts 2) scheduled .0 (d .0);
           index-right = there-iff (has parts 3) indexed .0 (f .0);
         }
@@ -124,9 +131,12 @@ fitting-iff parts = (there, back)
           part1-iff (marksPart parts) .1 (f .marks, f .marks-long),
           asked-iff 7 (question7 parts) _ (omega arith) .1 (
             sizes-iff parts .1 (f .schedule-long, f .index-long),
-            asked-iff 8 (question8 parts) _ (omega arith) .1 (
-              there-iff (has parts 2) scheduled .1 (f .schedule-right),
-              asked-iff 9 (question9 parts) _ (omega arith) .1 (there-iff (has parts 3) indexed .1 (f .index-right), none-asked),
+            asked-iff 19 (question19 parts) _ (omega arith) .1 (
+              there-iff (has parts 4) (isEdition (editionPart parts)) .1 (f .edition-right),
+              asked-iff 8 (question8 parts) _ (omega arith) .1 (
+                there-iff (has parts 2) scheduled .1 (f .schedule-right),
+                asked-iff 9 (question9 parts) _ (omega arith) .1 (there-iff (has parts 3) indexed .1 (f .index-right), none-asked),
+              ),
             ),
           ),
         )

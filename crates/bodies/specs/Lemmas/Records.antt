@@ -21,7 +21,7 @@ use Rattle.bodies.specs.Questions.{exactly, namesRight, recordRight, isS
 -- a record that names a mark rightly
 pub record Named (r : Reel) (d : Record) (m : ℕ) : Type 0 where
   pub below : d .eliminator < r .count
-  pub higher : outranks (r .marks) (d .eliminator) m ≡ true
+  pub higher : outranks (r .edition) (r .marks) (d .eliminator) m ≡ true
   pub num-is : d .num ≡ (touching (r .marks) (d .eliminator) m) .num
   pub den-is : d .den ≡ (touching (r .marks) (d .eliminator) m) .den
 
@@ -31,7 +31,7 @@ named r d m e =
     let by = d .eliminator in
     let t = touching (r .marks) by m in
     let a = both-iff _ (exactly (fractionOf d) t) .0 e in
-    let b = both-iff (ltb by (r .count)) (outranks (r .marks) by m) .0 (a .0) in
+    let b = both-iff (ltb by (r .count)) (outranks (r .edition) (r .marks) by m) .0 (a .0) in
     let c = both-iff (eqb (d .num) (t .num)) (eqb (d .den) (t .den)) .0 (a .1) in
     record {
       below = ltb-true by (r .count) (b .0);

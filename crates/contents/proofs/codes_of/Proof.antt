@@ -6,6 +6,7 @@ use denote.Ref.{now}
 use lib.ListN.{length-map}
 use lib.Seq.{take-length}
 use Rattle.contents.specs.Contents.{codesOf, countAt, split}
+use Rattle.contents.specs.Questions.{topCode}
 use Rattle.contents.specs.Lemmas.Parts.{split-length, split-code}
 use Rattle.contents.specs.Lemmas.Writing.{fill-turn}
 use native.Mathlib.Omega.{arith}
@@ -14,7 +15,7 @@ use Rattle.contents.proofs.codes_of.Statement.{statement}
 use Rattle.contents.proofs.codes_of.Tie as tie
 
 abbrev Inv-loop : tie.InvT-loop
-Inv-loop s count codes₀ i₀ codes i = (count ≡ countAt s) × (i ≤ count) × (length codes ≡ 3) × (take i codes ≡ take i (codesOf (split s)))
+Inv-loop s count codes₀ i₀ codes i = (count ≡ countAt s) × (i ≤ count) × (length codes ≡ topCode) × (take i codes ≡ take i (codesOf (split s)))
 
 abbrev μ-loop : tie.MeasureT-loop
 μ-loop s count codes₀ i₀ codes i = count - i

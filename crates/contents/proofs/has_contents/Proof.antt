@@ -8,7 +8,7 @@ use borrow.Author.Needs.{needs}
 use borrow.Author.Tests.{le-leb, lt-leb}
 use denote.Ref.{now}
 use Rattle.contents.specs.Contents.{countAt}
-use Rattle.contents.specs.Questions.{isCount, question1}
+use Rattle.contents.specs.Questions.{topCode, isCount, question1}
 use Rattle.contents.specs.Lemmas.Laid.{count-iff}
 use Rattle.contents.proofs.has_contents.Statement.{statement}
 use Rattle.contents.proofs.has_contents.Tie as tie
@@ -24,7 +24,7 @@ is-count-requires : tie.Need-is-count-requires
 is-count-requires c κs = search needs
 
 -- a number of parts that is taken is small
-few : (c : tie.Then2) → c .before .before .count-at .result ≤ 3
+few : (c : tie.Then2) → c .before .before .count-at .result ≤ topCode
 few c = count-iff (c .before .before .count-at .result) .0 (sym (c .before .is-count .ensures) ∙ c .if2 .taken) .1
 
 mul-result : tie.Need-mul-result

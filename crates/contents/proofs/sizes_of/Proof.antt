@@ -7,6 +7,7 @@ use mathlib.Core.List.{map}
 use lib.ListN.{length-map}
 use lib.Seq.{take-length}
 use Rattle.contents.specs.Contents.{sizesOf}
+use Rattle.contents.specs.Questions.{topCode}
 use Rattle.contents.specs.Lemmas.Writing.{fill-turn, size-at}
 use native.Mathlib.Omega.{arith}
 use borrow.Author.Needs.{needs}
@@ -14,7 +15,7 @@ use Rattle.contents.proofs.sizes_of.Statement.{statement}
 use Rattle.contents.proofs.sizes_of.Tie as tie
 
 abbrev Inv-loop : tie.InvT-loop
-Inv-loop bodies sizes₀ i₀ sizes i = (i ≤ length bodies) × (length sizes ≡ 3) × (take i sizes ≡ take i (sizesOf (map now bodies)))
+Inv-loop bodies sizes₀ i₀ sizes i = (i ≤ length bodies) × (length sizes ≡ topCode) × (take i sizes ≡ take i (sizesOf (map now bodies)))
 
 abbrev μ-loop : tie.MeasureT-loop
 μ-loop bodies sizes₀ i₀ sizes i = length bodies - i

@@ -1,8 +1,10 @@
 -- Codes that are right: what question 2 says of them.
 use Prim.Native.Nat.{ℕ, zero, suc, _+_, _<_, _≤_}
-use mathlib.Core.Path.{_≡_, refl, sym, _∙_}
-use mathlib.Core.Bool.{true, false, _&&_, false≢true}
-use mathlib.Core.List.{List, [], _∷_}
+use mathlib.Core.Path.{_≡_, refl, sym, ap, _∙_}
+use mathlib.Core.Bool.{Bool, true, false, cond, _&&_, false≢true}
+use mathlib.Core.List.{List, [], _∷_, _++_, map}
+use mathlib.Core.List.{List·Memᴰ, List·Memᴰ·head, List·Memᴰ·tail, List·Memᴰ·not-nil, List·Memᴰ·cases-cons}
+use mathlib.Core.List.{Memᴰ·cast, Memᴰ·append-left, Memᴰ·append-right, Memᴰ·map}
 use mathlib.Core.Logic.{_↔_, _⊎_, inl, inr}
 use native.Mathlib.Decide.{decLt}
 use native.Mathlib.Numerals.{add-one}
@@ -12,7 +14,6 @@ use lib.ListN.{length, getD, drop, length-map, drop-of-length-le}
 use lib.Seq.{drop-cons}
 use borrow.Author.Tests.{ltb-true, leb-true, lt-ltb, le-ltb, le-leb, lt-leb, eq-eqb, ne-eqb}
 use Rattle.contents.specs.Contents.{Part, codesOf, bodiesOf, names, find}
-use Rattle.contents.specs.Asking.{ifThere}
 use Rattle.contents.specs.Questions.{topCode, rising, codesRight}
 use Rattle.lists.specs.TestLaws.{both-iff}
 
@@ -120,59 +121,58 @@ pub find-own : (parts : List Part) → codesRight (codesOf parts) ≡ true → (
     → find parts (getD (codesOf parts) i 0) ≡ getD (bodiesOf parts) i []
 find-own parts right = rising-find 0 parts (is-rising (codesOf parts) right)
 
--- ---- of three codes
+-- ---- every list of codes that is right
 
--- 1 / 1, 2 / 1, 2, 3
-abbrev pub FirstCodes : List ℕ → Type 0
-FirstCodes codes = (codes ≡ 1 ∷ []) ⊎ ((codes ≡ 1 ∷ 2 ∷ []) ⊎ (codes ≡ 1 ∷ 2 ∷ 3 ∷ []))
+-- the lists that rise within the k codes above `low`: those without the first of these codes, and those with it
+abbrev pub climbs : ℕ → ℕ → List (List ℕ)
+climbs low zero = [] ∷ []
+climbs low (suc k) = climbs (suc low) k ++ map (λ (l : List ℕ). suc low ∷ l) (climbs (suc low) k)
 
--- behind 1, 2
-third : (codes : List ℕ) → rising 2 codes ≡ true → (codes ≡ []) ⊎ (codes ≡ 3 ∷ [])
-third [] e = inl refl
-third (suc (suc (suc zero)) ∷ []) e = inr refl
-third (suc (suc (suc zero)) ∷ d ∷ l) e = absurd (omega (arith, rises 3 d l (rises 2 3 (d ∷ l) e .rest)))
-third (zero ∷ l) e = absurd (omega (arith, rises 2 0 l e .above))
-third (suc zero ∷ l) e = absurd (omega (arith, rises 2 1 l e .above))
-third (suc (suc zero) ∷ l) e = absurd (omega (arith, rises 2 2 l e .above))
-third (suc (suc (suc (suc c))) ∷ l) e = absurd (omega (arith, rises 2 (suc (suc (suc (suc c)))) l e .within))
+climbs-all : (low k : ℕ) (codes : List ℕ) → low + k ≡ topCode → rising low codes ≡ true → List·Memᴰ codes (climbs low k)
+climbs-all low zero [] e r = List·Memᴰ·head refl
+climbs-all low zero (code ∷ codes) e r = absurd (omega (arith, rises low code codes r))
+climbs-all low (suc k) [] e r = Memᴰ·append-left _ (climbs-all (suc low) k [] (omega arith) refl)
+climbs-all low (suc k) (code ∷ codes) e r =
+    let h = rises low code codes r in
+    elim (decLt (suc low) code) [
+      | yes later ↦
+          Memᴰ·append-left _
+          (climbs-all (suc low) k (code ∷ codes) (omega arith) (rw (lt-ltb (suc low) code later, le-leb code topCode (h .within)) (h .rest)))
+      | no now ↦
+          (let first : code ≡ suc low = omega arith in
+          Memᴰ·append-right (climbs (suc low) k)
+          (Memᴰ·cast (rw first) (Memᴰ·map (λ (l : List ℕ). suc low ∷ l) (climbs-all (suc low) k codes (omega arith) (rw first at (h .rest))))))
+    ]
 
--- behind 1: where 3 is named so is 2
-second : (codes : List ℕ) → rising 1 codes ≡ true → ifThere (names codes 3) (names codes 2) ≡ true
-    → (codes ≡ []) ⊎ ((codes ≡ 2 ∷ []) ⊎ (codes ≡ 2 ∷ 3 ∷ []))
-second [] e two = inl refl
-second (suc (suc zero) ∷ l) e two =
-    elim (third l (rises 1 2 l e .rest)) [ inl none ↦ inr (inl (rw none)) | inr three ↦ inr (inr (rw three)) ]
-second (suc (suc (suc zero)) ∷ []) e two = absurd (false≢true two)
-second (suc (suc (suc zero)) ∷ d ∷ l) e two = absurd (omega (arith, rises 3 d l (rises 1 3 (d ∷ l) e .rest)))
-second (zero ∷ l) e two = absurd (omega (arith, rises 1 0 l e .above))
-second (suc zero ∷ l) e two = absurd (omega (arith, rises 1 1 l e .above))
-second (suc (suc (suc (suc c))) ∷ l) e two = absurd (omega (arith, rises 1 (suc (suc (suc (suc c)))) l e .within))
+-- those of some lists that pass a test
+abbrev pub passing : (List ℕ → Bool) → List (List ℕ) → List (List ℕ)
+passing test [] = []
+passing test (l ∷ lists) = cond (test l) (l ∷ passing test lists) (passing test lists)
 
--- no code above 1 is followed by 1
-one-first : (low : ℕ) (codes : List ℕ) → 0 < low → rising low codes ≡ true → names codes 1 ≡ false
-one-first low [] h e = refl
-one-first low (c ∷ codes) h e =
-    let r = rises low c codes e in
-    rw (ne-eqb c 1 (omega (arith, r .above))) (one-first c codes (omega (arith, r .above)) (r .rest))
+module _ (test : List ℕ → Bool) (x : List ℕ) where
+  passing-of : (lists : List (List ℕ)) → List·Memᴰ x lists → test x ≡ true → List·Memᴰ x (passing test lists)
+  passing-of [] m pass = m
+  passing-of (l ∷ lists) m pass = go (test l) refl (List·Memᴰ·cases-cons m) (λ n. passing-of lists n pass)
+    where
+      go : (b : Bool) → test l ≡ b → (x ≡ l) ⊎ List·Memᴰ x lists → (List·Memᴰ x lists → List·Memᴰ x (passing test lists))
+          → List·Memᴰ x (cond b (l ∷ passing test lists) (passing test lists))
+      go true e (inl is) rest = List·Memᴰ·head is
+      go true e (inr n) rest = List·Memᴰ·tail (rest n)
+      go false e (inl is) rest = absurd (false≢true (sym e ∙ ap test (sym is) ∙ pass))
+      go false e (inr n) rest = rest n
 
-pub codes-iff : (codes : List ℕ) → (codesRight codes ≡ true) ↔ FirstCodes codes
-unfolding codesRight
-codes-iff codes = (there codes, back)
-  where
-    there : (l : List ℕ) → codesRight l ≡ true → FirstCodes l
-    there [] e = absurd (false≢true (one-there [] e))
-    there (zero ∷ l) e = absurd (omega (arith, rises 0 0 l (is-rising (0 ∷ l) e) .above))
-    there (suc zero ∷ l) e =
-        let r = rises 0 1 l (is-rising (1 ∷ l) e) in
-        let two = both-iff (names (1 ∷ l) 1) _ .0 (both-iff (rising 0 (1 ∷ l)) _ .0 e .1) .1 in
-        elim (second l (r .rest) two) [
-          | inl none ↦ inl (rw none)
-          | inr more ↦ elim more [ inl one ↦ inr (inl (rw one)) | inr both ↦ inr (inr (rw both)) ]
-        ]
-    there (suc (suc c) ∷ l) e =
-        let r = rises 0 (suc (suc c)) l (is-rising (suc (suc c) ∷ l) e) in
-        let none : names (suc (suc c) ∷ l) 1 ≡ false = rw (ne-eqb (suc (suc c)) 1 (omega arith)) (one-first (suc (suc c)) l (omega arith) (r .rest)) in
-        absurd (false≢true (sym none ∙ one-there (suc (suc c) ∷ l) e))
+  passing-at : (lists : List (List ℕ)) → List·Memᴰ x (passing test lists) → test x ≡ true
+  passing-at [] m = absurd (List·Memᴰ·not-nil m)
+  passing-at (l ∷ lists) m = go (test l) refl m (passing-at lists)
+    where
+      go : (b : Bool) → test l ≡ b → List·Memᴰ x (cond b (l ∷ passing test lists) (passing test lists))
+          → (List·Memᴰ x (passing test lists) → test x ≡ true) → test x ≡ true
+      go true e n rest = elim (List·Memᴰ·cases-cons n) [ inl is ↦ ap test is ∙ e | inr n ↦ rest n ]
+      go false e n rest = rest n
 
-    back : FirstCodes codes → codesRight codes ≡ true
-    back first = elim first [ inl one ↦ rw one | inr more ↦ elim more [ inl two ↦ rw two | inr three ↦ rw three ] ]
+-- Right are those of the lists within 1 to the top code that pass the test; Laws writes them out, as they are computed.
+pub codes-iff : (codes : List ℕ) → (codesRight codes ≡ true) ↔ List·Memᴰ codes (passing codesRight (climbs 0 topCode))
+codes-iff codes = (
+  (λ right. passing-of codesRight codes (climbs 0 topCode) (climbs-all 0 topCode codes (omega arith) (is-rising codes right)) right),
+  passing-at codesRight codes (climbs 0 topCode),
+)

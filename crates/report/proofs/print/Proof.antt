@@ -1,15 +1,15 @@
 -- `report::print` meets its contract: the first 'no' is printed, or else the schedule worked out afresh, which says what the process makes
 -- of the marks. Assumes nothing.
 use Prim.Native.Nat.{_≤_}
-use mathlib.Core.Path.{_≡_, sym, _∙_}
+use mathlib.Core.Path.{_≡_, sym, ap, _∙_}
 use native.Mathlib.Omega.{arith}
 use denote.Ref.{now}
 use borrow.Author.Needs.{needs}
 use Rattle.numbers.specs.Little.{Bytes}
-use Rattle.contents.specs.Contents.{split, marksPart}
+use Rattle.contents.specs.Contents.{split, marksPart, editionPart}
 use Rattle.contents.specs.Asking.{answer}
 use Rattle.contents.specs.Laws.{layout-part}
-use Rattle.bodies.specs.Questions.{markCount}
+use Rattle.bodies.specs.Questions.{markCount, editionIn, editionOf}
 use Rattle.report.specs.Text.{mostMarks, printQuestions}
 use Rattle.report.specs.Lemmas.Printed.{prints-refusal, taken-laid, part1-few, part1-good, taken-printable, prints-listing}
 use Rattle.report.proofs.print.Statement.{statement}
@@ -29,6 +29,15 @@ part1 c =
 
 marks-few : (c : tie.After-part) → markCount (now (c .part .result)) ≤ mostMarks
 marks-few c = part1-few _ (input-bytes (c .before .before)) (yes (c .before .before)) (part1 c)
+
+-- part 4 names the edition
+ranked : (c : tie.After-edition-of)
+    → c .edition-of .result ≡ editionOf (split (now (c .before .before .before .before .before .before .before .before .before .before .args .input)))
+ranked c =
+    let k = c .before .before .before in
+    let part4 : now (c .before .part2 .result) ≡ editionPart (split (now (k .before .before .before .before .before .before .before .args .input))) =
+    c .before .part2 .ensures ∙ rw (k .layout-of .ensures) (layout-part _ (taken-laid _ (yes (k .before))) 4) in
+    c .edition-of .ensures ∙ ap editionIn part4
 
 print-answer-requires : tie.Need-print-answer-requires
 print-answer-requires c κs = search needs
@@ -57,22 +66,27 @@ layout-of-requires c κs = taken-laid _ (yes c) .whole
 part-requires : tie.Need-part-requires
 part-requires c κs = search needs
 
+part-requires-2 : tie.Need-part-requires-2
+part-requires-2 c κs = search needs
+
+edition-of-requires : tie.Need-edition-of-requires
+edition-of-requires c κs = search needs
+
 schedule-requires : tie.Need-schedule-requires
 schedule-requires c κs =
-    let k = c .before .before in
-    let p = k .before .before .before .before .before .before .before .before .pre in
+    let k = c .before .before .before .before in
+    let p = c .before .before .before .before .before .before .before .before .before .before .before .before .pre in
     record {
-      good = part1-good _ (input-bytes (k .before .before)) (yes (k .before .before)) (part1 k);
+      good = part1-good _ (input-bytes (c .before .before .before .before .before .before)) (yes (c .before .before .before .before .before .before)) (part1 k);
       work-room = omega (arith, p .work-room, marks-few k);
       out-room = omega (arith, p .schedule-room, marks-few k);
     }
 
 put-listing-requires : tie.Need-put-listing-requires
 put-listing-requires c κs =
-    let s = c .before .before .before .before .before .before in
-    let k = s .before .before .before in
-    let p = k .before .before .before .before .before .before .before .before .pre in (
-      taken-printable _ (input-bytes (k .before .before)) (yes (k .before .before)) (part1 k) _ (s .schedule .ensures),
+    let k = c .before .before .before .before .before .before .before .before .before .before .before in
+    let p = c .before .before .before .before .before .before .before .before .before .before .before .before .before .before .before .before .before .before .before .pre in (
+      taken-printable _ (input-bytes (c .before .before .before .before .before .before .before .before .before .before .before .before .before)) (yes (c .before .before .before .before .before .before .before .before .before .before .before .before .before)) (part1 k) (ranked (c .before .before .before .before .before .before .before .before .before)) _ (c .before .before .before .before .before .before .schedule .ensures),
       omega (arith, p .out-room, marks-few k),
     )
 
@@ -87,10 +101,8 @@ same-length-4 c = search needs
 
 returns-2 : tie.Need-returns-2
 returns-2 c =
-    let s = c .before .before .before .before .before .before .before .before .before in
-    let k = s .before .before .before in
-    let p = k .before .before .before .before .before .before .before .before .pre in
-    prints-listing _ (input-bytes (k .before .before)) (yes (k .before .before)) (part1 k) _ (s .schedule .ensures) _ _ (search needs) (p .out-room) (c .before .before .put-listing .ensures)
+    let p = c .before .before .before .before .before .before .before .before .before .before .before .before .before .before .before .before .before .before .before .before .before .before .pre in
+    prints-listing _ (input-bytes (c .before .before .before .before .before .before .before .before .before .before .before .before .before .before .before .before)) (yes (c .before .before .before .before .before .before .before .before .before .before .before .before .before .before .before .before)) (part1 (c .before .before .before .before .before .before .before .before .before .before .before .before .before .before)) (ranked (c .before .before .before .before .before .before .before .before .before .before .before .before)) _ (c .before .before .before .before .before .before .before .before .before .schedule .ensures) _ _ (search needs) (p .out-room) (c .before .before .put-listing .ensures)
 
 pub print-spec : {M : Type 1} → statement M
 print-spec =
@@ -104,6 +116,8 @@ print-spec =
     returns
     layout-of-requires
     part-requires
+    part-requires-2
+    edition-of-requires
     schedule-requires
     put-listing-requires
     same-length-2

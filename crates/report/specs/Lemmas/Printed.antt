@@ -20,7 +20,7 @@ use Rattle.contents.specs.Asking.{Question, _asks_, answer}
 use Rattle.contents.specs.Laid.{Laid}
 use Rattle.contents.specs.Laws.{none-asked, asked-yes, asked-no, asked-iff}
 use Rattle.contents.specs.Laws.{append-yes, append-no, append-iff}
-use Rattle.bodies.specs.Questions.{markCount, reelFrom}
+use Rattle.bodies.specs.Questions.{markCount, editionOf, reelFrom}
 use Rattle.sheet.specs.Questions.{sheetCount, checkQuestions, check}
 use Rattle.sheet.specs.Laws.{check-numbered, accepted-iff}
 use Rattle.rollmap.specs.Theorems.{good, marks-bytes}
@@ -113,23 +113,25 @@ module _ (s : List ℕ) where
     part1-bytes : Bytes part
     part1-bytes = rw is (marks-bytes s bytes (asked yes .0))
 
-    module _ {p : List ℕ} (before : List ℕ) (schedule : p ≡ scheduleOf (reelFrom part) ++ drop (14 * markCount part) before) where
+    -- and this the edition that ranks them
+    module _ {edition : ℕ} (ranked : edition ≡ editionOf (split s)) {p : List ℕ} (before : List ℕ)
+        (schedule : p ≡ scheduleOf (reelFrom edition part) ++ drop (14 * markCount part) before) where
       rest : List ℕ
       rest = drop (14 * markCount part) before
 
       pub taken-printable : Printable p (markCount part)
       unfolding rest
-      taken-printable = rw schedule (schedule-printable (reelFrom part) rest part1-good part1-bytes)
+      taken-printable = rw schedule (schedule-printable (reelFrom edition part) rest part1-good part1-bytes)
 
       same : listing (removalAt p) (markCount part) ≡ printed s
       unfolding printed rest
       same =
-          let e = listing-same (removalAt p) (process (marksOf (reelFrom part))) (markCount part) (rw schedule (removal-process (reelFrom part) rest part1-good part1-bytes)) in
-          rw (yes, ← is) e
+          let e = listing-same (removalAt p) (process (marksOf (reelFrom edition part))) (markCount part) (rw schedule (removal-process (reelFrom edition part) rest part1-good part1-bytes)) in
+          rw (yes, ← is, ← ranked) e
 
       worked-out : p ≡ over (workedOut s) before
       unfolding workedOut over
-      worked-out = rw (yes, ← is, schedule-length (reelFrom part)) schedule
+      worked-out = rw (yes, ← is, ← ranked, schedule-length (reelFrom edition part)) schedule
 
       pub prints-listing : (work work-after : List ℕ) {out out-after : List ℕ} {r : ℕ} → length work-after ≡ length work → textRoom mostMarks ≤ length out
           → Wrote out out-after 0 (listing (removalAt p) (markCount part)) r → Prints s work before out r work-after p out-after

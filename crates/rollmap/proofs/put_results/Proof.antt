@@ -28,7 +28,7 @@ returns c =
     let a = w .before .before .before .before .before in
     let n = a .args .n in
     let held = now (a .args .all) in
-    results-are (reelIn held n) held (length-take-le (11 * n) held (omega (arith, a .pre .2))) (w .schedule-behind .ensures) (b .build .ensures)
+    results-are (reelIn (a .args .edition) held n) held (length-take-le (11 * n) held (omega (arith, a .pre .2))) (w .schedule-behind .ensures) (b .build .ensures)
 
 pub put-results-spec : {M : Type 1} → statement M
 put-results-spec =

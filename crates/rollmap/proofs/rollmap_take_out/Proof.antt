@@ -10,15 +10,17 @@ use borrow.Author.Needs.{needs}
 use denote.Ref.{now}
 use Rattle.numbers.specs.Little.{Bytes}
 use Rattle.changing.specs.Changing.{takenOut}
-use Rattle.contents.specs.Contents.{split, marksPart}
+use Rattle.contents.specs.Contents.{split, marksPart, editionPart}
 use Rattle.contents.specs.Asking.{answer}
 use Rattle.sheet.specs.Questions.{sheetCount, indexedQuestions}
 use Rattle.sheet.specs.Laws.{indexed-iff, indexed-number, indexed-layout, layout-part}
 use Rattle.rollmap.specs.declared.Answer.{Answer}
-use Rattle.rollmap.specs.Jobs.{takeOutChecks, takeOutJob}
+use Rattle.rollmap.specs.Jobs.{keptParts, takeOutChecks, takeOutJob}
 use Rattle.rollmap.specs.Answers.{Gives, Lent}
 use Rattle.rollmap.specs.Demand3.{Meets}
+use Rattle.rollmap.specs.Steps.{keptFrom}
 use Rattle.rollmap.specs.Coming.{take-out-numbered, take-out-iff, take-out-lent, take-out-meets}
+use Rattle.rollmap.specs.Lemmas.Kept.{kept-is, edition-short}
 use Rattle.rollmap.specs.Lemmas.Scheduling.{stopped, passed}
 use Rattle.rollmap.specs.Lemmas.Changing.{take-out-refused, take-out-none, lent-pieces}
 use Rattle.rollmap.proofs.rollmap_take_out.Statement.{statement}
@@ -40,9 +42,15 @@ part1 c =
 count : (c : tie.After-part) → length (now (c .part .result)) / 11 ≡ sheetCount (given (c .before .before .before .before .before .before .before))
 count c = ap (λ (l : List ℕ). length l / 11) (part1 c)
 
+-- and part 4's bytes are these
+part4 : (c : tie.After-part2) → now (c .part2 .result) ≡ editionPart (split (given (c .before .before .before .before .before .before .before .before .before)))
+part4 c =
+    let e = c .before .before .before .before in
+    c .part2 .ensures ∙ layout-part _ (indexed-iff _ .0 (indexed e) .0) (indexed-layout _ (e .before .indexed .ensures) (indexed e)) 4
+
 -- what a way out gives, with demand 3 of it
 whole : (s : List ℕ) (m work : ℕ) {before out w w′ : List ℕ} {r : Answer} → Bytes s → Gives (takeOutJob s m work (length before)) before r out
-    → Lent r w w′ → Gives (takeOutJob s m work (length before)) before r out × (Lent r w w′ × Meets (takenOut (marksPart (split s)) m) r out)
+    → Lent r w w′ → Gives (takeOutJob s m work (length before)) before r out × (Lent r w w′ × Meets (takenOut (marksPart (split s)) m) (keptParts (split s)) r out)
 whole s m work {before} bytes gives lent = (gives, (lent, take-out-meets s m bytes work before gives))
 
 indexed-requires : tie.Need-indexed-requires
@@ -55,7 +63,7 @@ returns : tie.Need-returns
 returns c =
     let b = c .before .before .before .before .before .before in
     whole (given b) (b .args .m) _ (λ i. c .before .before .before .before .before .shared-slice-known .given i .fits)
-    (stopped (takeOutChecks (given b) (b .args .m)) (take-out-numbered (given b) (b .args .m)) _ _ _
+    (stopped (takeOutChecks (given b) (b .args .m)) (take-out-numbered (given b) (b .args .m)) _ _ _ _
     (take-out-refused (given b) (b .args .m) (indexed-number _ (c .before .before .indexed .ensures)) (omega (arith, c .before .if1 .taken))) (omega (arith, c .before .if1 .taken)) (c .refused .ensures))
     (record { long = refl; refused = λ h. refl })
 
@@ -70,7 +78,7 @@ returns-2 c =
     let b = c .before .before .before .before .before .before .before .before .before in
     let none : sheetCount (given b) ≤ b .args .m = omega (arith, count (c .before .before), c .before .if2 .taken) in
     whole (given b) (b .args .m) _ (λ i. c .before .before .before .before .before .before .before .before .shared-slice-known .given i .fits)
-    (stopped (takeOutChecks (given b) (b .args .m)) (take-out-numbered (given b) (b .args .m)) _ _ _
+    (stopped (takeOutChecks (given b) (b .args .m)) (take-out-numbered (given b) (b .args .m)) _ _ _ _
     (take-out-none (given b) (b .args .m) (indexed (c .before .before .before .before)) none) (omega arith) (c .refused2 .ensures))
     (record { long = refl; refused = λ h. refl })
 
@@ -80,8 +88,11 @@ mul-at c = search needs
 add-next : tie.Need-add-next
 add-next c = search needs
 
+part-requires-2 : tie.Need-part-requires-2
+part-requires-2 c κs = search needs
+
 slice-aggregate-schedule-marks : tie.Need-slice-aggregate-schedule-marks
-slice-aggregate-schedule-marks c = sym (length-take-le (11 * c .before .before .before .before .before .before .before .before .before .args .m) (now (c .before .before .part .result)) (omega (arith, c .before .if2 .left)))
+slice-aggregate-schedule-marks c = sym (length-take-le (11 * c .before .before .before .before .before .before .before .before .before .before .args .m) (now (c .before .before .before .part .result)) (omega (arith, c .before .before .if2 .left)))
 
 sub-schedule-marks : tie.Need-sub-schedule-marks
 sub-schedule-marks c = search needs
@@ -97,11 +108,12 @@ sub-schedule-marks-2 c = search needs
 
 schedule-marks-requires : tie.Need-schedule-marks-requires
 schedule-marks-requires c κs =
-    let b = c .before .before .before .before .before .before .before .before .before .before .before .before in
+    let b = c .before .before .before .before .before .before .before .before .before .before .before .before .before in
     let m = b .args .m in
-    let low : m < sheetCount (given b) = omega (arith, count (c .before .before .before .before .before), c .before .before .before .before .if2 .left) in
-    let all : answer (takeOutChecks (given b) m) ≡ 0 = take-out-iff (given b) m .1 (indexed-iff _ .0 (indexed (c .before .before .before .before .before .before .before)), low) in
-    rw (count (c .before .before .before .before .before)) (take-out-lent (given b) m (λ i. c .before .before .before .before .before .before .before .before .before .before .before .shared-slice-known .given i .fits) all (lent-pieces (now (c .before .before .before .before .before .part .result)) m ∙ ap (λ (l : List ℕ). takenOut l m) (part1 (c .before .before .before .before .before))))
+    let low : m < sheetCount (given b) = omega (arith, count (c .before .before .before .before .before .before), c .before .before .before .before .before .if2 .left) in
+    let all : answer (takeOutChecks (given b) m) ≡ 0 = take-out-iff (given b) m .1 (indexed-iff _ .0 (indexed (c .before .before .before .before .before .before .before .before)), low) in
+    let lent = take-out-lent (given b) m (λ i. c .before .before .before .before .before .before .before .before .before .before .before .before .shared-slice-known .given i .fits) all (lent-pieces (now (c .before .before .before .before .before .before .part .result)) m ∙ ap (λ (l : List ℕ). takenOut l m) (part1 (c .before .before .before .before .before .before))) in
+    (rw (count (c .before .before .before .before .before .before)) (lent .0), rw (count (c .before .before .before .before .before .before)) (lent .1), rw (part4 (c .before .before .before .before)) (edition-short _ (indexed-iff _ .0 (indexed (c .before .before .before .before .before .before .before .before)) .0)))
 
 same-length : tie.Need-same-length
 same-length c = search needs
@@ -111,16 +123,17 @@ same-length-2 c = search needs
 
 returns-3 : tie.Need-returns-3
 returns-3 c =
-    let b = c .before .before .before .before .before .before .before .before .before .before .before .before .before .before .before .before .before in
+    let b = c .before .before .before .before .before .before .before .before .before .before .before .before .before .before .before .before .before .before in
     let m = b .args .m in
-    let low : m < sheetCount (given b) = omega (arith, count (c .before .before .before .before .before .before .before .before .before .before), c .before .before .before .before .before .before .before .before .before .if2 .left) in
-    let all : answer (takeOutChecks (given b) m) ≡ 0 = take-out-iff (given b) m .1 (indexed-iff _ .0 (indexed (c .before .before .before .before .before .before .before .before .before .before .before .before)), low) in
-    let l = now (c .before .before .before .before .before .before .before .before .before .before .part .result) in
+    let low : m < sheetCount (given b) = omega (arith, count (c .before .before .before .before .before .before .before .before .before .before .before), c .before .before .before .before .before .before .before .before .before .before .if2 .left) in
+    let all : answer (takeOutChecks (given b) m) ≡ 0 = take-out-iff (given b) m .1 (indexed-iff _ .0 (indexed (c .before .before .before .before .before .before .before .before .before .before .before .before .before)), low) in
+    let l = now (c .before .before .before .before .before .before .before .before .before .before .before .part .result) in
     let same : take (11 * m) l ++ take (length l - (11 * m + 11)) (drop (11 * m + 11) l) ≡ takenOut (marksPart (split (given b))) m =
-    lent-pieces l m ∙ ap (λ (k : List ℕ). takenOut k m) (part1 (c .before .before .before .before .before .before .before .before .before .before)) in
-    whole (given b) m _ (λ i. c .before .before .before .before .before .before .before .before .before .before .before .before .before .before .before .before .shared-slice-known .given i .fits)
-    (rw (passed (takeOutChecks (given b) m) (take-out-numbered (given b) m) (takenOut (marksPart (split (given b))) m) _ _ all)
-    (rw same at (c .before .before .before .before .schedule-marks .ensures .0))) (c .before .before .before .before .schedule-marks .ensures .1)
+    lent-pieces l m ∙ ap (λ (k : List ℕ). takenOut k m) (part1 (c .before .before .before .before .before .before .before .before .before .before .before)) in
+    let others : keptFrom (now (c .before .before .before .before .before .before .before .before .before .part2 .result)) ≡ keptParts (split (given b)) = ap keptFrom (part4 (c .before .before .before .before .before .before .before .before .before)) ∙ sym (kept-is _ (indexed-iff _ .0 (indexed (c .before .before .before .before .before .before .before .before .before .before .before .before .before)) .0)) in
+    whole (given b) m _ (λ i. c .before .before .before .before .before .before .before .before .before .before .before .before .before .before .before .before .before .shared-slice-known .given i .fits)
+    (rw (passed (takeOutChecks (given b) m) (take-out-numbered (given b) m) (takenOut (marksPart (split (given b))) m) (keptParts (split (given b))) _ _ all)
+    (rw (same, others) at (c .before .before .before .before .schedule-marks .ensures .0))) (c .before .before .before .before .schedule-marks .ensures .1)
 
 pub rollmap-take-out-spec : {M : Type 1} → statement M
 rollmap-take-out-spec =
@@ -134,6 +147,7 @@ rollmap-take-out-spec =
     returns-2
     mul-at
     add-next
+    part-requires-2
     slice-aggregate-schedule-marks
     sub-schedule-marks
     part-schedule-marks-start

@@ -1,42 +1,28 @@
 -- What filling writes is what Filled claims. Assumes nothing.
 use Prim.Native.Nat.{ℕ, _+_, _*_, _≤_}
 use mathlib.Core.Path.{_≡_, refl, sym, _∙_}
-use mathlib.Core.Bool.{false≢true}
+use mathlib.Core.Bool.{true}
 use mathlib.Core.List.{List, [], _∷_}
 use native.Mathlib.Omega.{arith}
 use lib.Dec.{leb}
+use borrow.Author.Tests.{le-leb}
 use lib.ListN.{length, length-append}
 use Rattle.contents.specs.Contents.{_holds_, chain, join}
 use Rattle.contents.specs.Asking.{Question, _asks_, answer}
+use Rattle.contents.specs.Questions.{codesRight}
 use Rattle.contents.specs.Laws.{asked-yes, append-yes, join-length}
 use Rattle.bodies.specs.Questions.{markCount, part1Questions}
-use Rattle.bodies.specs.Fitting.{Fitting}
 use Rattle.bodies.specs.Laws.{part1-numbered, part1-iff}
 use Rattle.filling.specs.Filling.{filled, fillQuestions}
 use Rattle.filling.specs.Theorems.{filled-length, filled-count, filled-accepted, filled-some, filled-used, filled-again}
 use Rattle.sheet.specs.Laws.{parts-iff}
 use Rattle.rollmap.specs.declared.Answer.{Answer}
-use Rattle.rollmap.specs.Jobs.{outcome, assembleQuestions, assembleJob, fillJob}
+use Rattle.rollmap.specs.Jobs.{outcome, areCounted, assembleQuestions, assembleJob, fillJob}
 use Rattle.rollmap.specs.Answers.{Gives}
 use Rattle.rollmap.specs.Filled.{Filled, MeetsFilling}
-use Rattle.rollmap.specs.Lemmas.Outcomes.{outcome-number}
+use Rattle.rollmap.specs.Lemmas.Outcomes.{outcome-number, outcome-same}
 use Rattle.rollmap.specs.Lemmas.Rooms.{passed, counted}
-
-outcome-same : (q q′ : List Question) (value : ℕ) (w : List ℕ) → answer q ≡ answer q′ → outcome q value w ≡ outcome q′ value w
-unfolding outcome
-outcome-same q q′ value w e = rw e
-
--- marks that pass 4 to 6 are a sheet of one part
-alone : (w : List ℕ) → answer (part1Questions w) ≡ 0 → Fitting ((1 holds w) ∷ [])
-alone w ok =
-    record {
-      marks = part1-iff w .0 ok .0;
-      marks-long = part1-iff w .0 ok .1;
-      schedule-long = λ e. absurd (false≢true e);
-      index-long = λ e. absurd (false≢true e);
-      schedule-right = λ e. absurd (false≢true e);
-      index-right = λ e. absurd (false≢true e);
-    }
+use Rattle.rollmap.specs.Lemmas.Kept.{kept-none, alone-fits}
 
 module _ (s : List ℕ) (ok : answer (part1Questions s) ≡ 0) where
   again : (room : ℕ) → fillJob (filled s) room ≡ fillJob s room
@@ -48,15 +34,17 @@ module _ (s : List ℕ) (ok : answer (part1Questions s) ≡ 0) where
       let second = append-yes (part1Questions s) rest (part1-numbered s) ok in
       rw (filled-count s ok, filled-again s ok) (outcome-same _ _ (11 * n) (filled s) (first ∙ sym second))
 
-  afresh : (body2 body3 : List ℕ) (room : ℕ) → length (filled s) + 12 ≤ room → (assembleJob 1 (filled s) body2 body3 room) .number ≡ 0
-  unfolding assembleJob assembleQuestions chain
-  afresh body2 body3 room h =
+  afresh : (further : List (List ℕ)) (room : ℕ) → length (filled s) + 12 ≤ room → (assembleJob (1 ∷ []) (filled s ∷ further) room) .number ≡ 0
+  unfolding assembleJob assembleQuestions chain codesRight
+  afresh further room h =
       let w = filled s in
       let parts = (1 holds w) ∷ [] in
       let chained : length (chain (w ∷ [])) ≡ length w = simp length-append (omega arith) in
       let long : length (join parts) ≤ room = omega (arith, join-length parts) in
-      outcome-number (assembleQuestions 1 parts room) _ _
-      ∙ asked-yes 1 _ refl ∙ parts-iff parts room .1 (alone w (filled-accepted s ok), long)
+      let good = part1-iff w .0 (filled-accepted s ok) in
+      let count : areCounted (1 ∷ []) (w ∷ further) ≡ true = le-leb 1 (length (w ∷ further)) (omega arith) in
+      outcome-number (assembleQuestions (1 ∷ []) (w ∷ further) room) _ _
+      ∙ asked-yes 1 _ count ∙ asked-yes 2 _ refl ∙ parts-iff parts room .1 (alone-fits w [] (good .0) (good .1) kept-none, long)
 
   filled-is : Filled s (filled s)
   filled-is =

@@ -1,33 +1,24 @@
--- The first k of three bodies as parts 1, 2, ..: their codes are right, and they are what the code lends.
-use Prim.Native.Nat.{ℕ, zero, suc}
-use mathlib.Core.Path.{_≡_, refl}
-use mathlib.Core.Bool.{true, false≢true}
+-- The bodies that are put together: those that the codes name, and no further ones. Assumes nothing.
+use Prim.Native.Nat.{ℕ, zero, suc, _≤_}
+use mathlib.Core.Path.{_≡_, refl, ap}
 use mathlib.Core.List.{List, [], _∷_, map}
 use native.Mathlib.Omega.{arith}
-use lib.ListN.{take}
-use Rattle.contents.specs.Contents.{codesOf, together}
-use Rattle.contents.specs.Questions.{isCount, codesRight}
-use Rattle.contents.specs.Laws.{count-iff}
-use Rattle.rollmap.specs.Jobs.{given}
+use lib.ListN.{length, take}
+use Rattle.contents.specs.Contents.{_holds_, codesOf, together}
 
--- 1, 2 and 3 are all that are taken
-count-cases : (P : ℕ → Type 0) → P 1 → P 2 → P 3 → (k : ℕ) → isCount k ≡ true → P k
-count-cases P a b c zero e = absurd (false≢true e)
-count-cases P a b c (suc zero) e = a
-count-cases P a b c (suc (suc zero)) e = b
-count-cases P a b c (suc (suc (suc zero))) e = c
-count-cases P a b c (suc (suc (suc (suc k)))) e = absurd (omega (arith, count-iff (suc (suc (suc (suc k)))) .0 e))
+-- Further bodies are ignored.
+pub together-take : (codes : List ℕ) (bodies : List (List ℕ)) → together codes (take (length codes) bodies) ≡ together codes bodies
+together-take [] bodies = refl
+together-take (code ∷ codes) [] = refl
+together-take (code ∷ codes) (body ∷ bodies) = ap (λ l. (code holds body) ∷ l) (together-take codes bodies)
 
-pub given-right : (k : ℕ) (body1 body2 body3 : List ℕ) → isCount k ≡ true → codesRight (codesOf (given k body1 body2 body3)) ≡ true
-unfolding codesRight
-given-right k body1 body2 body3 = count-cases (λ k. codesRight (codesOf (given k body1 body2 body3)) ≡ true) refl refl refl k
+pub map-take : {A B : Type 0} (f : A → B) (k : ℕ) (l : List A) → map f (take k l) ≡ take k (map f l)
+map-take f zero l = refl
+map-take f (suc k) [] = refl
+map-take f (suc k) (a ∷ l) = ap (λ m. f a ∷ m) (map-take f k l)
 
-pub codes-right : (k : ℕ) → isCount k ≡ true → codesRight (take k (1 ∷ 2 ∷ 3 ∷ [])) ≡ true
-unfolding codesRight
-codes-right = count-cases (λ k. codesRight (take k (1 ∷ 2 ∷ 3 ∷ [])) ≡ true) refl refl refl
-
--- bodies that lie behind a, b and c
-pub given-lent : {A : Type 0} (f : A → List ℕ) (a b c : A) (k : ℕ) → isCount k ≡ true
-    → together (take k (1 ∷ 2 ∷ 3 ∷ [])) (map f (take k (a ∷ b ∷ c ∷ []))) ≡ given k (f a) (f b) (f c)
-given-lent f a b c =
-    count-cases (λ k. together (take k (1 ∷ 2 ∷ 3 ∷ [])) (map f (take k (a ∷ b ∷ c ∷ []))) ≡ given k (f a) (f b) (f c)) refl refl refl
+-- Where there is a body for each code, the parts have these codes.
+pub together-named : (codes : List ℕ) (bodies : List (List ℕ)) → length codes ≤ length bodies → codesOf (together codes bodies) ≡ codes
+together-named [] bodies h = refl
+together-named (code ∷ codes) [] h = absurd (omega arith)
+together-named (code ∷ codes) (body ∷ bodies) h = ap (λ l. code ∷ l) (together-named codes bodies (omega arith))

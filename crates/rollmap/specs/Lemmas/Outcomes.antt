@@ -10,13 +10,13 @@ use lib.ListN.{length, take, drop}
 use lib.Seq.{take-append-seam}
 use Rattle.lists.specs.Stores.{over}
 use Rattle.sheet.specs.declared.Assembled.{Assembled}
-use Rattle.contents.specs.Contents.{join}
-use Rattle.contents.specs.Questions.{isCount}
+use Rattle.contents.specs.Contents.{join, together}
+use Rattle.contents.specs.Questions.{codesRight}
 use Rattle.contents.specs.Laws.{asked-yes, asked-no}
 use Rattle.contents.specs.Asking.{Question, answer}
 use Rattle.sheet.specs.Questions.{checkQuestions, check}
 use Rattle.sheet.specs.Assembled.{numberOf, lengthOf, Assembling}
-use Rattle.rollmap.specs.Jobs.{Outcome, outcome, after, checkJob, given, assembleQuestions, assembleJob}
+use Rattle.rollmap.specs.Jobs.{Outcome, outcome, after, checkJob, areCounted, assembleQuestions, assembleJob}
 use Rattle.rollmap.specs.declared.Answer.{Answer}
 use Rattle.rollmap.specs.Answers.{refusal, answerOf, Gives}
 
@@ -39,6 +39,11 @@ module _ (questions : List Question) (value : ℕ) (written : List ℕ) where
       cases true e = sym (eqb-true (answer questions) 0 e)
       cases false e = refl
 
+-- Two jobs that answer the same give the same.
+pub outcome-same : (q q′ : List Question) (value : ℕ) (w : List ℕ) → answer q ≡ answer q′ → outcome q value w ≡ outcome q′ value w
+unfolding outcome
+outcome-same q q′ value w e = rw e
+
 -- a refused call has written nothing
 pub after-none : (number : ℕ) (buffer : List ℕ) → after (record { number = number; value = 0; written = [] }) buffer ≡ buffer
 unfolding after over
@@ -58,9 +63,9 @@ module _ (questions : List Question) (value : ℕ) (written before : List ℕ) {
   bytes-are = rw (outcome-yes questions value written all-yes) at (gives .bytes)
 
 -- a call that writes and answers how much, of which a caller keeps so many bytes
-pub kept : (questions : List Question) (written before : List ℕ) {r : Answer} {left : List ℕ}
+pub kept-bytes : (questions : List Question) (written before : List ℕ) {r : Answer} {left : List ℕ}
     → Gives (outcome questions (length written) written) before r left → r .number ≡ 0 → take (r .value) left ≡ written
-kept questions written before gives zero =
+kept-bytes questions written before gives zero =
     rw (value-is questions (length written) written before gives zero, bytes-are questions (length written) written before gives zero)
     (take-append-seam written (drop (length written) before))
 
@@ -90,21 +95,21 @@ check-gives s = cases (eqb (answer (checkQuestions s)) 0) refl
     cases true e = rw (eqb-true (answer (checkQuestions s)) 0 e)
     cases false e = refl
 
--- what `sheet::assemble` answers and leaves, where the number of parts is taken, is what the job gives
-pub assemble-gives : (k : ℕ) (body1 body2 body3 before after-call : List ℕ) (r : Assembled) → isCount k ≡ true
-    → Assembling (given k body1 body2 body3) before r after-call
-    → Gives (assembleJob k body1 body2 body3 (length before)) before (record { number = numberOf r; value = lengthOf r }) after-call
+-- what `sheet::assemble` answers and leaves, where the number of parts and the codes are taken, is what the job gives
+pub assemble-gives : (codes : List ℕ) (bodies : List (List ℕ)) (before after-call : List ℕ) (r : Assembled) → areCounted codes bodies ≡ true
+    → codesRight codes ≡ true → Assembling (together codes bodies) before r after-call
+    → Gives (assembleJob codes bodies (length before)) before (record { number = numberOf r; value = lengthOf r }) after-call
 unfolding assembleJob assembleQuestions outcome after over
-assemble-gives k body1 body2 body3 before after-call r taken a = cases (eqb number 0) refl
+assemble-gives codes bodies before after-call r counted right a = cases (eqb number 0) refl
   where
     number : ℕ
-    number = answer (assembleQuestions k (given k body1 body2 body3) (length before))
+    number = answer (assembleQuestions codes bodies (length before))
 
     sheet : List ℕ
-    sheet = join (given k body1 body2 body3)
+    sheet = join (together codes bodies)
 
     same : numberOf r ≡ number
-    same = a .number ∙ sym (asked-yes 1 _ taken)
+    same = a .number ∙ sym (asked-yes 1 _ counted ∙ asked-yes 2 _ right)
 
     cases : (b : Bool) → eqb number 0 ≡ b
         → Gives (cond b (record { number = 0; value = length sheet; written = sheet }) (record { number = number; value = 0; written = [] })) before
@@ -120,10 +125,18 @@ assemble-gives k body1 body2 body3 before after-call r taken a = cases (eqb numb
         let w : after-call ≡ before = rw z at (a .bytes) in
         record { answered = rw (same, v); bytes = w }
 
--- any other number of parts gets 1
-pub assemble-refused : (k : ℕ) (body1 body2 body3 before : List ℕ) {r : Answer} → isCount k ≡ false → r ≡ refusal 1
-    → Gives (assembleJob k body1 body2 body3 (length before)) before r before
-unfolding assembleJob assembleQuestions
-assemble-refused k body1 body2 body3 before wrong is =
-    let parts = given k body1 body2 body3 in
-    refused-gives (assembleQuestions k parts (length before)) (length (join parts)) (join parts) before 1 (asked-no 1 _ wrong) (omega arith) is
+module _ (codes : List ℕ) (bodies : List (List ℕ)) (before : List ℕ) where
+  -- any other number of parts gets 1
+  pub assemble-uncounted : {r : Answer} → areCounted codes bodies ≡ false → r ≡ refusal 1 → Gives (assembleJob codes bodies (length before)) before r before
+  unfolding assembleJob assembleQuestions
+  assemble-uncounted wrong is =
+      refused-gives (assembleQuestions codes bodies (length before)) (length (join (together codes bodies))) (join (together codes bodies)) before 1
+      (asked-no 1 _ wrong) (omega arith) is
+
+  -- and other codes 2
+  pub assemble-uncoded : {r : Answer} → areCounted codes bodies ≡ true → codesRight codes ≡ false → r ≡ refusal 2
+      → Gives (assembleJob codes bodies (length before)) before r before
+  unfolding assembleJob assembleQuestions
+  assemble-uncoded counted wrong is =
+      refused-gives (assembleQuestions codes bodies (length before)) (length (join (together codes bodies))) (join (together codes bodies)) before 2
+      (asked-yes 1 _ counted ∙ asked-no 2 _ wrong) (omega arith) is

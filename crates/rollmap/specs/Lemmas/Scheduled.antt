@@ -24,14 +24,15 @@ use Rattle.elimination.specs.Sheet.{sheet-proper}
 use Rattle.elimination.specs.Theorems.{process-eliminator}
 use Rattle.elimination.specs.Schedule.{schedule-length, schedule-reads, schedule-value}
 use Rattle.index.specs.Laws.{index-long, index-iff}
-use Rattle.contents.specs.Contents.{split, marksPart}
+use Rattle.contents.specs.Contents.{Part, split, marksPart}
 use Rattle.contents.specs.Laws.{find-bytes}
-use Rattle.bodies.specs.Questions.{markCount, namesRight, recordRight, isSchedule, reelFrom}
+use Rattle.bodies.specs.Questions.{markCount, editionOf, namesRight, recordRight, isSchedule, reelFrom}
 use Rattle.bodies.specs.Fitting.{Fitting}
 use Rattle.sheet.specs.Questions.{sheetCount, check}
 use Rattle.sheet.specs.Laws.{accepted-iff}
 use Rattle.bitmap.specs.Map.{countShown}
 use Rattle.rollmap.specs.Jobs.{newSchedule, newIndex, newParts}
+use Rattle.rollmap.specs.Lemmas.Kept.{KeptRight}
 
 -- ---- tests and counts
 
@@ -50,19 +51,22 @@ unfolding countShown
 count-same p q zero h = refl
 count-same p q (suc n) h = rw (count-same p q n (λ m k. h m (omega arith)), h n (omega arith))
 
--- ---- the parts that scheduling writes for part 1, `s`
+-- ---- the parts that scheduling writes for the marks `s`, with parts that are kept
 
-module _ (s : List ℕ) (good : GoodMarks s (markCount s)) (long : length s ≡ 11 * markCount s) (bytes : Bytes s) where
+module _ (s : List ℕ) (kept : List Part) (good : GoodMarks s (markCount s)) (long : length s ≡ 11 * markCount s) (bytes : Bytes s) where
+  abbrev edition : ℕ
+  edition = editionOf kept
+
   -- each record that scheduling writes is right: question 8
-  new-right : (m : ℕ) → m < markCount s → recordRight (reelFrom s) (newSchedule s) m ≡ true
+  new-right : (m : ℕ) → m < markCount s → recordRight (reelFrom edition s) (newSchedule s kept) m ≡ true
   unfolding recordRight isNever namesRight
   new-right m h = cases (process (marksOf r) m) refl
     where
       r : Reel
-      r = reelFrom s
+      r = reelFrom edition s
 
       p : List ℕ
-      p = newSchedule s
+      p = newSchedule s kept
 
       cases : (x : Removal) → process (marksOf r) m ≡ x → recordRight r p m ≡ true
       cases stays e =
@@ -71,8 +75,8 @@ module _ (s : List ℕ) (good : GoodMarks s (markCount s)) (long : length s ≡ 
       cases (gone g f) e =
           let x = process-eliminator (marksOf r) (sheet-proper r (good .few)) m g f h e in
           let w = rw e at (schedule-reads r good bytes m h) in
-          let o : outranks s g m ≡ true =
-          outranks-key s g m bytes (omega (arith, x .inside, good .few)) (omega (arith, h, good .few)) .1 (x .outranks) in
+          let o : outranks edition s g m ≡ true =
+          outranks-key edition s g m bytes (omega (arith, x .inside, good .few)) (omega (arith, h, good .few)) (good .each g (x .inside) .used) (good .each m h .used) .1 (x .outranks) in
           let num : f .num ≡ (touching s g m) .num = ap (λ (q : Fraction). q .num) (x .exact) in
           let den : f .den ≡ (touching s g m) .den = ap (λ (q : Fraction). q .den) (x .exact) in
           let vm : valueAt p m ≡ At f = schedule-value r good bytes m h ∙ ap when e in
@@ -81,20 +85,21 @@ module _ (s : List ℕ) (good : GoodMarks s (markCount s)) (long : length s ≡ 
           or-right (isNever (markRecord p m))
           (rw (w .eliminator, w .numerator, w .denominator, lt-ltb g (markCount s) (x .inside), o, eq-eqb _ _ num, eq-eqb _ _ den, l))
 
-  new-every : isSchedule (reelFrom s) (newSchedule s) ≡ true
+  new-every : isSchedule (reelFrom edition s) (newSchedule s kept) ≡ true
   unfolding isSchedule
-  new-every = every-of (recordRight (reelFrom s) (newSchedule s)) (markCount s) new-right
+  new-every = every-of (recordRight (reelFrom edition s) (newSchedule s kept)) (markCount s) new-right
 
   -- the parts that scheduling writes fit one another: questions 4 to 9 say yes
-  pub new-fitting : Fitting (newParts s)
-  new-fitting =
+  pub new-fitting : KeptRight kept → Fitting (newParts s kept)
+  new-fitting right =
       record {
         marks = good;
         marks-long = long;
-        schedule-long = λ h. schedule-length (reelFrom s);
-        index-long = λ h. index-long s (newSchedule s) (markCount s) few;
+        schedule-long = λ h. schedule-length (reelFrom edition s);
+        index-long = λ h. index-long s (newSchedule s kept) (markCount s) few;
+        edition-right = right .edition-right;
         schedule-right = λ h. new-every;
-        index-right = λ h. index-iff s (newSchedule s) (markCount s) few (newIndex s) .1 refl;
+        index-right = λ h. index-iff s (newSchedule s kept) (markCount s) few (newIndex s kept) .1 refl;
       }
     where
       few : markCount s ≤ 65536

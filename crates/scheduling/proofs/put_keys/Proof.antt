@@ -9,24 +9,27 @@ use Rattle.scheduling.proofs.put_keys.Statement.{statement}
 use Rattle.scheduling.proofs.put_keys.Tie as tie
 
 abbrev Inv-loop : tie.InvT-loop
-Inv-loop marks work₀ n i₀ work i = (i ≤ n) × Keyed marks n i work₀ work
+Inv-loop marks edition work₀ n i₀ work i = (i ≤ n) × Keyed edition marks n i work₀ work
 
 abbrev μ-loop : tie.MeasureT-loop
-μ-loop marks work₀ n i₀ work i = n - i
+μ-loop marks edition work₀ n i₀ work i = n - i
 
 loop-holds : tie.Need-loop-holds Inv-loop μ-loop
-loop-holds c = (omega arith, keyed-none _ _ _)
+loop-holds c = (omega arith, keyed-none _ _ _ _)
 
 mul-put : tie.Need-mul-put Inv-loop μ-loop
 mul-put c = search needs
 
 rank-key-requires : tie.Need-rank-key-requires Inv-loop μ-loop
-rank-key-requires c κs = search needs
+rank-key-requires c κs =
+    let marks = c .before .before .before .before .before .pre .0 in
+    let below = c .before .loop-test .taken in
+    (omega (arith, marks .there), omega (arith, marks .few), marks .each _ below .used)
 
 put-requires : tie.Need-put-requires Inv-loop μ-loop
 put-requires c κs =
     let l = c .before .before .before in
-    omega (arith, c .before .before .loop-test .taken, l .loop .inv .1 .long, l .before .before .before .pre .2)
+    omega (arith, c .before .before .loop-test .taken, l .loop .inv .1 .long, l .before .before .before .pre .1)
 
 add-i : tie.Need-add-i Inv-loop μ-loop
 add-i c = search needs

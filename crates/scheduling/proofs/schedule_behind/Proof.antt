@@ -58,7 +58,7 @@ returns c =
     let r = s .before .before .before .before .before in
     let a = r .before .before .before .before .before in
     let held = now (a .args .all) in
-    behind held (a .args .n) (markSize * a .args .n) (length held - markSize * a .args .n) refl refl
+    behind (a .args .edition) held (a .args .n) (markSize * a .args .n) (length held - markSize * a .args .n) refl refl
     (s .schedule-rows .ensures .records-are _ _ (ordered (r .put-ranked .ensures .in-rank) (a .pre .0 .few)))
 
 pub schedule-behind-spec : {M : Type 1} → statement M

@@ -1,18 +1,18 @@
 -- `sheet::check` meets its contract: questions 1 to 3 end it, or else what is read off the sheet are its parts. Assumes nothing.
 use Prim.Native.Nat.{_≤_}
 use mathlib.Core.Path.{_≡_, sym, ap, _∙_}
-use mathlib.Core.List.{List, [], _∷_}
-use lib.ListN.{take}
+use mathlib.Core.List.{List, [], _∷_, map}
+use lib.ListN.{length, getD, take}
 use lib.Seq.{length-take-le}
 use denote.Ref.{now}
-use Rattle.contents.specs.Contents.{Part, codesOf, split}
+use Rattle.contents.specs.Contents.{Part, codesOf, bodiesOf, split}
 use Rattle.contents.specs.Questions.{topCode, codesRight}
 use Rattle.contents.specs.Asking.{answer}
 use Rattle.contents.specs.Laid.{Laid}
 use Rattle.contents.specs.Laws.{laid-iff}
 use Rattle.bodies.specs.Questions.{bodyQuestions}
 use Rattle.sheet.specs.Lemmas.Accepting.{check-refused, check-laid}
-use Rattle.sheet.specs.Lemmas.Whole.{parts-read}
+use Rattle.sheet.specs.Lemmas.Whole.{firstOf, parts-read}
 use native.Mathlib.Omega.{arith}
 use borrow.Author.Needs.{needs}
 use Rattle.sheet.proofs.check.Statement.{statement}
@@ -25,6 +25,21 @@ laid c = laid-iff _ .0 (sym (c .before .contents-answer .ensures) ∙ c .if1 .le
 -- so there are at most as many parts as codes
 few : (c : tie.After-count-at) → c .count-at .result ≤ topCode
 few c = omega (arith, c .count-at .ensures, laid (c .before) .whole .few)
+
+-- and that many are read
+read : (c : tie.After-codes-of) → length (take (c .before .count-at .result) (c .codes-of .result)) ≡ c .before .count-at .result
+read c = length-take-le (c .before .count-at .result) (c .codes-of .result) (omega (arith, c .codes-of .ensures .0, few (c .before)))
+
+-- with the bodies of the sheet, one for each code
+lent : (c : tie.After-body4) → let b = c .before .before .before in
+    map now (b .body .result ∷ c .before .before .body2 .result ∷ c .before .body3 .result ∷ c .body4 .result ∷ [])
+    ≡ firstOf (λ i. getD (bodiesOf (split (now (b .before .before .before .before .before .before .args .s)))) i []) topCode
+lent c =
+    let a = c .before .before .before .body .ensures in
+    let b = c .before .before .body2 .ensures in
+    let d = c .before .body3 .ensures in
+    let e = c .body4 .ensures in
+    cc
 
 contents-answer-requires : tie.Need-contents-answer-requires
 contents-answer-requires c κs = search needs
@@ -47,34 +62,44 @@ body-requires-2 c κs = laid (c .before .before .before)
 body-requires-3 : tie.Need-body-requires-3
 body-requires-3 c κs = laid (c .before .before .before .before)
 
+body-requires-4 : tie.Need-body-requires-4
+body-requires-4 c κs = laid (c .before .before .before .before .before)
+
 array-share-prefix-codes : tie.Need-array-share-prefix-codes
-array-share-prefix-codes c = omega (arith, c .before .before .before .codes-of .ensures .0, few (c .before .before .before .before))
+array-share-prefix-codes c =
+    let codes = c .before .before .before .before in
+    omega (arith, codes .codes-of .ensures .0, few (codes .before))
 
 slice-aggregate-bodies-answer : tie.Need-slice-aggregate-bodies-answer
-slice-aggregate-bodies-answer c = sym (length-take-le (c .before .before .before .before .before .count-at .result) (c .before .before .before .before .codes-of .result) (omega (arith, c .before .before .before .before .codes-of .ensures .0, few (c .before .before .before .before .before))))
+slice-aggregate-bodies-answer c = sym (read (c .before .before .before .before .before))
 
 array-share-prefix-lent : tie.Need-array-share-prefix-lent
-array-share-prefix-lent c = few (c .before .before .before .before .before)
+array-share-prefix-lent c = few (c .before .before .before .before .before .before)
 
 slice-aggregate-bodies-answer-2 : tie.Need-slice-aggregate-bodies-answer-2
-slice-aggregate-bodies-answer-2 c = sym (length-take-le (c .before .before .before .before .before .before .count-at .result) _ (few (c .before .before .before .before .before .before)))
+slice-aggregate-bodies-answer-2 c =
+    let k = c .before .before .before .before .before .before .before in
+    sym (length-take-le (k .count-at .result) _ (few k))
 
 bodies-answer-requires : tie.Need-bodies-answer-requires
 bodies-answer-requires c κs =
-    let k = c .before .before .before .before .before .before in
+    let b = c .before .before in
+    let codes = b .before .before .before .before in
+    let k = codes .before in
     let l = laid (k .before) in
-    let many = length-take-le (k .count-at .result) (c .before .before .before .before .before .codes-of .result) (omega (arith, c .before .before .before .before .before .codes-of .ensures .0, few k)) in
-    let lent = length-take-le (k .count-at .result) (c .before .before .before .before .body .result ∷ c .before .before .before .body2 .result ∷ c .before .before .body3 .result ∷ []) (few k) in
-    let codes : take (k .count-at .result) (c .before .before .before .before .before .codes-of .result) ≡ codesOf (split (now (k .before .before .before .before .args .s))) = rw (k .count-at .ensures) (c .before .before .before .before .before .codes-of .ensures .1) in
-    (many ∙ sym lent, omega (arith, lent, k .count-at .ensures, l .whole .some), ap codesRight codes ∙ l .codes)
+    let bodies = length-take-le (k .count-at .result) (b .before .before .before .body .result ∷ b .before .before .body2 .result ∷ b .before .body3 .result ∷ b .body4 .result ∷ []) (few k) in
+    let same : take (k .count-at .result) (codes .codes-of .result) ≡ codesOf (split (now (k .before .before .before .before .args .s))) = rw (k .count-at .ensures) (codes .codes-of .ensures .1) in
+    (read codes ∙ sym bodies, omega (arith, bodies, k .count-at .ensures, l .whole .some), ap codesRight same ∙ l .codes)
 
 returns-2 : tie.Need-returns-2
 returns-2 c =
-    let k = c .before .before .before .before .before .before .before in
-    let s = now (c .before .before .before .before .before .before .before .before .before .before .before .args .s) in
+    let b = c .before .before .before in
+    let codes = b .before .before .before .before in
+    let k = codes .before in
+    let s = now (k .before .before .before .before .args .s) in
     let l = laid (k .before) in
     c .bodies-answer .ensures
-    ∙ ap (λ (parts : List Part). answer (bodyQuestions parts)) (parts-read now s l (k .count-at .result) (c .before .before .before .before .before .before .codes-of .result) (c .before .before .before .before .before .body .result) (c .before .before .before .before .body2 .result) (c .before .before .before .body3 .result) (k .count-at .ensures) (c .before .before .before .before .before .before .codes-of .ensures .1) (c .before .before .before .before .before .body .ensures) (c .before .before .before .before .body2 .ensures) (c .before .before .before .body3 .ensures))
+    ∙ ap (λ (parts : List Part). answer (bodyQuestions parts)) (parts-read now s l (k .count-at .result) (codes .codes-of .result) _ (k .count-at .ensures) (codes .codes-of .ensures .1) (lent b))
     ∙ sym (check-laid s l)
 
 pub check-spec : {M : Type 1} → statement M
@@ -88,6 +113,7 @@ check-spec =
     body-requires
     body-requires-2
     body-requires-3
+    body-requires-4
     array-share-prefix-codes
     slice-aggregate-bodies-answer
     array-share-prefix-lent

@@ -1,0 +1,118 @@
+-- 02, request 6: "Part 4, one byte, names edition 1 or 2; without it edition 1 holds." So a sheet without part 4 and the same sheet with a part 4
+-- of edition 1 are scheduled, viewed and checked alike, but for part 4's own bytes. Assumes nothing.
+use Prim.Native.Nat.{ℕ}
+use mathlib.Core.Path.{_≡_, refl, sym, ap, _∙_}
+use mathlib.Core.Bool.{Bool, true, false, cond, _||_, true≢false}
+use mathlib.Core.List.{List, [], _∷_, _++_}
+use native.Mathlib.Omega.{arith}
+use lib.Dec.{eqb}
+use Rattle.lists.specs.TestLaws.{by-cases}
+use Rattle.numbers.specs.Little.{Bytes}
+use Rattle.contents.specs.Contents.{Part, _holds_, find, has, split, marksPart, schedulePart}
+use Rattle.contents.specs.Asking.{Question, answer}
+use Rattle.contents.specs.Laws.{find-none, asked-no, append-yes, append-no}
+use Rattle.bodies.specs.Questions.{reelOf, isEdition, question7, question8, question9, question19, lastQuestions, bodyQuestions}
+use Rattle.sheet.specs.Questions.{checkQuestions, check, question10, indexedQuestions}
+use Rattle.sheet.specs.Laws.{check-numbered, indexed-numbered, indexed-iff}
+use Rattle.zoom.specs.declared.Zoom.{Zoom}
+use Rattle.view.specs.declared.Rectangle.{Rectangle}
+use Rattle.view.specs.Questions.{viewQuestions}
+use Rattle.rollmap.specs.Jobs.{keptParts, newParts, scheduled, shownIn, viewJob}
+use Rattle.rollmap.specs.Theorems.{scheduled-parts}
+use Rattle.rollmap.specs.Lemmas.Outcomes.{outcome-same}
+
+-- the same parts, and part 4 that names edition 1
+abbrev pub withFirst : List Part → List Part
+withFirst parts = parts ++ ((4 holds (1 ∷ [])) ∷ [])
+
+-- ---- its parts
+
+find-other : (parts : List Part) (code : ℕ) → eqb 4 code ≡ false → find (withFirst parts) code ≡ find parts code
+find-other [] code e = rw e
+find-other (p ∷ parts) code e = ap (λ l. cond (eqb (p .code) code) (p .body) l) (find-other parts code e)
+
+has-other : (parts : List Part) (code : ℕ) → eqb 4 code ≡ false → has (withFirst parts) code ≡ has parts code
+has-other [] code e = rw e
+has-other (p ∷ parts) code e = ap (λ b. eqb (p .code) code || b) (has-other parts code e)
+
+module _ (parts : List Part) (none : has parts 4 ≡ false) where
+  find-four : (l : List Part) → has l 4 ≡ false → find (withFirst l) 4 ≡ 1 ∷ []
+  find-four [] e = refl
+  find-four (p ∷ l) e = go (eqb (p .code) 4) e (find-four l)
+    where
+      go : (b : Bool) → b || has l 4 ≡ false → (has l 4 ≡ false → find (withFirst l) 4 ≡ 1 ∷ []) → cond b (p .body) (find (withFirst l) 4) ≡ 1 ∷ []
+      go true f h = absurd (true≢false f)
+      go false f h = h f
+
+  has-four : (l : List Part) → has (withFirst l) 4 ≡ true
+  has-four [] = refl
+  has-four (p ∷ l) = rw (has-four l) (or-true (eqb (p .code) 4))
+    where
+      or-true : (b : Bool) → b || true ≡ true
+      or-true true = refl
+      or-true false = refl
+
+  -- The reel is the same, so that the process, question 8, the rules and demand 3 are.
+  pub same-reel : reelOf (withFirst parts) ≡ reelOf parts
+  same-reel = rw (find-other parts 1 refl, find-four parts none, find-none parts 4 none)
+
+  -- So is what is asked of the bodies,
+  pub same-questions : bodyQuestions (withFirst parts) ≡ bodyQuestions parts
+  unfolding bodyQuestions lastQuestions question7 question19 question8 question9 isEdition
+  same-questions =
+      rw (
+        has-four parts,
+        find-four parts none,
+        none,
+        find-none parts 4 none,
+        find-other parts 1 refl,
+        find-other parts 2 refl,
+        find-other parts 3 refl,
+        has-other parts 2 refl,
+        has-other parts 3 refl,
+      )
+
+  -- and what scheduling writes, with part 4 behind it.
+  pub same-scheduled : (marks : List ℕ) → newParts marks (keptParts (withFirst parts)) ≡ withFirst (newParts marks (keptParts parts))
+  same-scheduled marks = rw (has-four parts, find-four parts none, none)
+
+-- a sheet without part 2 or 3 gets 10, whatever is asked then
+gets-ten : (s : List ℕ) → check s ≡ 0 → question10 (split s) ≡ false → (rest : List Question) → answer (indexedQuestions s ++ rest) ≡ 10
+unfolding indexedQuestions check
+gets-ten s ok none rest =
+    let ten : answer (indexedQuestions s) ≡ 10 = append-yes (checkQuestions s) _ (check-numbered s) ok ∙ asked-no 10 _ none in
+    append-no (indexedQuestions s) rest (indexed-numbered s) (omega (arith, ten)) ∙ ten
+
+-- ---- over the jobs: a sheet s without part 4, and t with the same parts and a part 4 that names edition 1
+
+module _ (s t : List ℕ) (none : has (split s) 4 ≡ false) (are : split t ≡ withFirst (split s)) where
+  marks-same : marksPart (split t) ≡ marksPart (split s)
+  marks-same = rw are (find-other (split s) 1 refl)
+
+  schedule-same : schedulePart (split t) ≡ schedulePart (split s)
+  schedule-same = rw are (find-other (split s) 2 refl)
+
+  indexed-same : question10 (split t) ≡ question10 (split s)
+  unfolding question10
+  indexed-same = rw (are, has-other (split s) 2 refl, has-other (split s) 3 refl)
+
+  -- Both are scheduled to the same parts, but for part 4.
+  pub scheduled-first : Bytes s → Bytes t → check s ≡ 0 → check t ≡ 0 → split (scheduled t) ≡ withFirst (split (scheduled s))
+  scheduled-first s-bytes t-bytes s-ok t-ok =
+      scheduled-parts t t-bytes t-ok
+      ∙ rw (marks-same, are) (same-scheduled (split s) none (marksPart (split s)) ∙ ap withFirst (sym (scheduled-parts s s-bytes s-ok)))
+
+  -- Every view of both gives the same number, count and map.
+  module _ (s-ok : check s ≡ 0) (t-ok : check t ≡ 0) (e : Rectangle) (zoom : Zoom) (room : ℕ) where
+    asked-same : answer (viewQuestions t e zoom room) ≡ answer (viewQuestions s e zoom room)
+    unfolding viewQuestions
+    asked-same =
+        by-cases (question10 (split s))
+        (λ q.
+        append-yes (indexedQuestions t) _ (indexed-numbered t) (indexed-iff t .1 (t-ok, indexed-same ∙ q))
+        ∙ rw marks-same (sym (append-yes (indexedQuestions s) _ (indexed-numbered s) (indexed-iff s .1 (s-ok, q)))))
+        (λ q. gets-ten t t-ok (indexed-same ∙ q) _ ∙ sym (gets-ten s s-ok q _))
+
+    pub view-first : viewJob t e zoom room ≡ viewJob s e zoom room
+    unfolding viewJob shownIn
+    view-first = outcome-same (viewQuestions t e zoom room) (viewQuestions s e zoom room) _ _ asked-same ∙ rw (marks-same, schedule-same)
