@@ -1,5 +1,6 @@
 //! Contents and bodies of a sheet, and questions 1 to 3 (01, 'The sheet:
-//! contents, then bodies').
+//! contents, then bodies'; 02, request 6). A part goes by its code, and not by where
+//! it stands.
 
 use crate::bytes::{field, put};
 use crate::{ask, Refusal};
@@ -8,7 +9,7 @@ use crate::{ask, Refusal};
 const COUNT_BYTES: usize = 2;
 
 /// Bytes of each part's line in the contents.
-const ENTRY_BYTES: usize = 10;
+pub(crate) const ENTRY_BYTES: usize = 10;
 
 /// Where the fields of such a line stand in it.
 const CODE_AT: usize = 0;
@@ -16,7 +17,10 @@ const OFFSET_AT: usize = 2;
 const LENGTH_AT: usize = 6;
 
 /// The most parts a sheet has: one of each code.
-pub const MOST_PARTS: usize = 3;
+pub const MOST_PARTS: usize = 4;
+
+/// The code and the body of a part.
+pub type Part<'a> = (u16, &'a [u8]);
 
 /// One part's line in the contents.
 struct Entry {
@@ -51,13 +55,17 @@ impl Entry {
 pub struct Bodies<'a>([Option<&'a [u8]>; MOST_PARTS]);
 
 impl<'a> Bodies<'a> {
-    /// The bodies of part 1, 2, .. in order, 1 to 3 of them.
-    pub fn in_order(in_order: &[&'a [u8]]) -> Self {
-        let mut bodies = [None; MOST_PARTS];
-        for (place, &body) in bodies.iter_mut().zip(in_order) {
-            *place = Some(body);
-        }
-        Self(bodies)
+    /// The bodies of parts whose codes question 2 takes.
+    pub fn of(parts: &[Part<'a>]) -> Self {
+        let mut bodies = Self([None; MOST_PARTS]);
+        parts.iter().for_each(|&part| bodies.put(part));
+        bodies
+    }
+
+    /// Puts a body in the place of its code.
+    #[inline]
+    fn put(&mut self, (code, body): Part<'a>) {
+        self.0[usize::from(code) - 1] = Some(body);
     }
 
     /// The body of the part with that code, none where there is no such part.
@@ -72,9 +80,19 @@ impl<'a> Bodies<'a> {
         self.get(1).expect("part 1 is there")
     }
 
-    /// The bodies that are there, by rising code.
-    pub fn present(&self) -> Vec<&'a [u8]> {
-        self.0.into_iter().flatten().collect()
+    /// The parts that are there, by rising code.
+    pub fn present(&self) -> Vec<Part<'a>> {
+        let places = (1..).zip(self.0);
+        places
+            .filter_map(|(code, body)| Some((code, body?)))
+            .collect()
+    }
+
+    /// The parts beyond 3, which no schedule replaces.
+    pub fn beyond_3(&self) -> Vec<Part<'a>> {
+        let mut parts = self.present();
+        parts.retain(|&(code, _)| code > 3);
+        parts
     }
 }
 
@@ -88,45 +106,56 @@ pub const fn contents_bytes(parts: usize) -> usize {
 #[inline]
 pub fn split(sheet: &[u8]) -> Result<Bodies<'_>, Refusal> {
     let entries = entries(sheet).ok_or(1_u32)?;
-    ask(2, codes_are_in_order(entries))?;
+    let codes = entries.iter().map(|entry| Entry::read(entry).code);
+    ask(2, codes_fit(codes))?;
     joined_bodies(sheet, entries).ok_or(3)
 }
 
 /// Question 1: the entries, if there are the 2 bytes of the number of parts, 1 to
-/// 3 parts, and the whole contents.
+/// 4 parts, and the whole contents.
 #[inline]
 fn entries(sheet: &[u8]) -> Option<&[[u8; ENTRY_BYTES]]> {
     let (count, rest) = sheet.split_first_chunk()?;
     let parts = usize::from(u16::from_le_bytes(*count));
-    if !(1..=MOST_PARTS).contains(&parts) {
+    if !count_fits(parts) {
         return None;
     }
     rest.as_chunks().0.get(..parts)
 }
 
-/// Question 2: the codes are 1, 2, .. in order.
+/// Question 1, of the number of parts: one to as many as there are codes.
 #[inline]
-fn codes_are_in_order(entries: &[[u8; ENTRY_BYTES]]) -> bool {
-    let codes = entries.iter().map(|entry| Entry::read(entry).code);
-    codes.eq(1..=entries.len() as u16)
+pub(crate) fn count_fits(parts: usize) -> bool {
+    (1..=MOST_PARTS).contains(&parts)
+}
+
+/// Question 2: "codes rising within 1 to 4", "part 1 present and part 3 only with
+/// part 2".
+#[inline]
+pub(crate) fn codes_fit(codes: impl Iterator<Item = u16> + Clone) -> bool {
+    let holds = |wanted| codes.clone().any(|code| code == wanted);
+    let within = |code| (1..=MOST_PARTS as u16).contains(&code);
+    codes.clone().is_sorted_by(|a, b| a < b)
+        && codes.clone().all(within)
+        && holds(1)
+        && (holds(2) || !holds(3))
 }
 
 /// Question 3: the bodies, if the first starts right after the contents, each next
 /// one where the last ended, and the last ends with the sheet.
 #[inline]
 fn joined_bodies<'a>(sheet: &'a [u8], entries: &[[u8; ENTRY_BYTES]]) -> Option<Bodies<'a>> {
-    let mut bodies = [None; MOST_PARTS];
+    let mut bodies = Bodies([None; MOST_PARTS]);
     let mut end = contents_bytes(entries.len());
-    for (place, entry) in bodies.iter_mut().zip(entries) {
-        let Entry { offset, length, .. } = Entry::read(entry);
-        if offset as usize != end {
+    for entry in entries.iter().map(Entry::read) {
+        if entry.offset as usize != end {
             return None;
         }
-        let body = sheet[end..].get(..length as usize)?;
-        *place = Some(body);
+        let body = sheet[end..].get(..entry.length as usize)?;
+        bodies.put((entry.code, body));
         end += body.len();
     }
-    (end == sheet.len()).then_some(Bodies(bodies))
+    (end == sheet.len()).then_some(bodies)
 }
 
 /// Offset and length of the part with that code, as the contents have them; none
@@ -137,22 +166,22 @@ pub(crate) fn extent(sheet: &[u8], code: u32) -> Option<(u32, u32)> {
     Some((entry.offset, entry.length))
 }
 
-/// Writes the contents of a sheet with bodies of these lengths, part 1 first, to the
-/// front of a buffer.
+/// Writes the contents of a sheet with parts of these codes and lengths to the front of
+/// a buffer.
 ///
 /// # Panics
 ///
-/// Where a body's end has no 4-byte number, which questions 4 and 7 exclude, and
+/// Where a body's end has no 4-byte number, which questions 4, 7 and 19 exclude, and
 /// where the buffer is short.
 #[inline]
-pub fn write_contents(lengths: &[usize], out: &mut [u8]) {
+pub fn write_contents(parts: &[(u16, usize)], out: &mut [u8]) {
     let number = |length| u32::try_from(length).expect("the bodies are short");
-    let contents = &mut out[..contents_bytes(lengths.len())];
+    let contents = &mut out[..contents_bytes(parts.len())];
     let (count, entries) = contents.split_at_mut(COUNT_BYTES);
-    count.copy_from_slice(&(lengths.len() as u16).to_le_bytes());
+    count.copy_from_slice(&(parts.len() as u16).to_le_bytes());
     let mut offset = number(COUNT_BYTES + entries.len());
     let places = entries.as_chunks_mut().0.iter_mut();
-    for ((place, &length), code) in places.zip(lengths).zip(1..) {
+    for (place, &(code, length)) in places.zip(parts) {
         let entry = Entry {
             code,
             offset,
@@ -163,22 +192,43 @@ pub fn write_contents(lengths: &[usize], out: &mut [u8]) {
     }
 }
 
-/// Joins 1 to 3 bodies into a sheet, part 1 first.
+/// Joins parts into a sheet, in the order in which they are given.
+///
+/// # Panics
+///
+/// As [`write_contents`] does.
+pub fn join_parts(parts: &[Part]) -> Vec<u8> {
+    let lengths = parts.iter().map(|&(code, body)| (code, body.len()));
+    let mut sheet = vec![0; contents_bytes(parts.len())];
+    write_contents(&lengths.collect::<Vec<_>>(), &mut sheet);
+    parts.iter().for_each(|(_, body)| sheet.extend(*body));
+    sheet
+}
+
+/// Joins bodies into a sheet, those of parts 1, 2, .. in order.
 ///
 /// # Panics
 ///
 /// As [`write_contents`] does.
 pub fn join(bodies: &[&[u8]]) -> Vec<u8> {
-    let lengths: Vec<usize> = bodies.iter().map(|body| body.len()).collect();
-    let mut sheet = vec![0; contents_bytes(bodies.len())];
-    write_contents(&lengths, &mut sheet);
-    sheet.extend(bodies.concat());
-    sheet
+    let parts: Vec<Part> = (1..).zip(bodies.iter().copied()).collect();
+    join_parts(&parts)
 }
 
 #[cfg(test)]
 mod tests {
     use super::*;
+    use crate::sample::each_list;
+
+    /// The codes that a sheet may have.
+    const TAKEN: [&[u16]; 6] = [
+        &[1],
+        &[1, 2],
+        &[1, 4],
+        &[1, 2, 3],
+        &[1, 2, 4],
+        &[1, 2, 3, 4],
+    ];
 
     #[test]
     fn contents_stand_before_the_bodies() {
@@ -194,19 +244,38 @@ mod tests {
 
     #[test]
     fn splitting_gives_the_joined_bodies_back() {
-        let bodies: [&[u8]; 3] = [&[1, 2, 3, 4], &[], &[5; 300]];
-        for parts in 1..=3 {
-            let sheet = join(&bodies[..parts]);
-            assert_eq!(split(&sheet).unwrap().present(), bodies[..parts]);
+        let all: [Part; 4] = [(1, &[1, 2, 3, 4]), (2, &[]), (3, &[5; 300]), (4, &[6])];
+        for codes in TAKEN {
+            let of_codes = |(code, _): &Part| codes.contains(code);
+            let parts: Vec<Part> = all.into_iter().filter(of_codes).collect();
+            let sheet = join_parts(&parts);
+            let bodies = split(&sheet).unwrap();
+            assert_eq!(bodies.present(), parts);
+            assert_eq!(bodies, Bodies::of(&parts));
+            let named = codes.contains(&4).then_some(all[3]);
+            assert!(bodies.beyond_3().into_iter().eq(named));
         }
     }
 
     #[test]
     fn a_body_is_found_by_its_code() {
-        let sheet = join(&[&[7], &[]]);
+        let sheet = join_parts(&[(1, &[7]), (4, &[])]);
         let bodies = split(&sheet).unwrap();
-        let found = [0, 1, 2, 3, 4].map(|code| bodies.get(code));
-        assert_eq!(found, [None, Some(&[7][..]), Some(&[]), None, None]);
+        let found = [0, 1, 2, 3, 4, 5].map(|code| bodies.get(code));
+        assert_eq!(found, [None, Some(&[7][..]), None, None, Some(&[]), None]);
         assert_eq!(bodies.part_1(), [7]);
+        assert_eq!(extent(&sheet, 4), Some((23, 0)));
+        assert_eq!(extent(&sheet, 2), None);
+    }
+
+    #[test]
+    fn only_six_lists_of_codes_are_taken() {
+        for length in 0..=5 {
+            each_list(&[0, 1, 2, 3, 4, 5], length, &mut |codes| {
+                let taken = count_fits(codes.len()) && codes_fit(codes.iter().copied());
+                assert_eq!(taken, TAKEN.contains(&codes), "{codes:?}");
+            });
+        }
+        assert!(!codes_fit([257].into_iter()));
     }
 }

@@ -13,8 +13,9 @@
 //!
 //! A call that 01 can refuse answers `Result<_, Refusal>`; the error is the
 //! number of the first question of 01, 'Questions put in turn', whose answer is
-//! no. Buffers are not written here: a call takes the lengths of the buffers it
-//! would borrow and answers the bytes it would write.
+//! no. Where a comment says that 4 to 9 are asked, 02's question 19 is asked after 7.
+//! Buffers are not written here: a call takes the lengths of the buffers it would
+//! borrow and answers the bytes it would write.
 
 #![forbid(unsafe_code)]
 
@@ -27,6 +28,7 @@ pub mod log;
 pub mod map;
 pub mod mark;
 pub mod process;
+pub mod rank;
 pub mod record;
 pub mod report;
 pub mod rules;

@@ -1,7 +1,5 @@
-//! A mark, its radius, when two touch, and rank (01, 'A mark' and 'Touching,
-//! rank, removal').
-
-use std::cmp::Ordering;
+//! A mark, its radius, and when two touch (01, 'A mark' and 'Touching, rank,
+//! removal').
 
 use crate::bytes::{field, put};
 use crate::fraction::Fraction;
@@ -158,42 +156,6 @@ pub fn touching_value(a: &Mark, b: &Mark) -> Fraction {
     a.label().touching_value(b.label())
 }
 
-/// The rank of a mark as one number, the higher the rank the lower: higher priority
-/// first; equal priority, lower number first.
-#[derive(Clone, Copy, Debug, PartialEq, Eq, PartialOrd, Ord)]
-pub struct RankKey(u32);
-
-impl RankKey {
-    /// The rank of a mark with its number, of which a sheet has at most 4,096.
-    #[inline]
-    pub fn of(mark: &Mark, number: usize) -> Self {
-        Self(u32::from(u16::MAX - mark.priority) << 16 | number as u32)
-    }
-
-    /// The mark's number.
-    #[inline]
-    pub fn number(self) -> usize {
-        self.0 as usize & 0xffff
-    }
-}
-
-/// Rank as an order of mark numbers, highest rank first.
-pub fn rank_order(marks: &[Mark], a: usize, b: usize) -> Ordering {
-    RankKey::of(&marks[a], a).cmp(&RankKey::of(&marks[b], b))
-}
-
-/// The numbers of the marks, highest rank first.
-pub fn ranked(marks: &[Mark]) -> Vec<usize> {
-    let mut numbers: Vec<usize> = (0..marks.len()).collect();
-    numbers.sort_by(|&a, &b| rank_order(marks, a, b));
-    numbers
-}
-
-/// Whether mark number `a` ranks higher than mark number `b`.
-pub fn outranks(marks: &[Mark], a: usize, b: usize) -> bool {
-    rank_order(marks, a, b).is_lt()
-}
-
 #[cfg(test)]
 mod tests {
     use super::*;
@@ -276,17 +238,5 @@ mod tests {
         let (a, b) = (at(10, -20, 0), at(-20, 20, 300));
         assert_eq!(touching_value(&a, &b), Fraction::new(2_500, 250_000));
         assert_eq!(touching_value(&b, &a), touching_value(&a, &b));
-    }
-
-    #[test]
-    fn rank_is_by_priority_then_by_lower_number() {
-        let of = |priority| Mark { priority, ..MARK };
-        let marks = [of(5), of(9), of(5), of(65_535)];
-        assert_eq!(ranked(&marks), [3, 1, 0, 2]);
-        assert!(outranks(&marks, 0, 2));
-        assert!(!outranks(&marks, 2, 0));
-        assert!(!outranks(&marks, 2, 2));
-        let ranks = (0..4).map(|number| RankKey::of(&marks[number], number));
-        assert!(ranks.map(RankKey::number).eq(0..4));
     }
 }

@@ -1,10 +1,10 @@
 //! The process (01, 'Touching, rank, removal'), once as it is told and twice
-//! faster. The marks handed in are ones that questions 5 and 6 take.
+//! faster. Ranks are those of the reel's edition.
 
 use std::cmp::Ordering;
 
 use crate::fraction::Fraction;
-use crate::mark::{ranked, touching_value, Mark, RankKey};
+use crate::rank::{RankKey, Reel};
 use crate::record::Record;
 
 /// Two marks by their ranks, the higher one first, and their touching value.
@@ -16,10 +16,10 @@ struct Pair {
 }
 
 impl Pair {
-    fn of(marks: &[Mark], a: usize, b: usize) -> Self {
-        let (rank_a, rank_b) = (RankKey::of(&marks[a], a), RankKey::of(&marks[b], b));
+    fn of(reel: Reel, a: usize, b: usize) -> Self {
+        let (rank_a, rank_b) = (reel.rank(a), reel.rank(b));
         Self {
-            value: touching_value(&marks[a], &marks[b]),
+            value: reel.touching_value(a, b),
             higher: rank_a.min(rank_b),
             lower: rank_a.max(rank_b),
         }
@@ -41,20 +41,20 @@ impl Pair {
 }
 
 /// All pairs of the numbered marks.
-fn pairs_of<'a>(marks: &'a [Mark], numbers: &'a [usize]) -> impl Iterator<Item = Pair> + 'a {
+fn pairs_of<'a>(reel: Reel<'a>, numbers: &'a [usize]) -> impl Iterator<Item = Pair> + 'a {
     let firsts = numbers.iter().enumerate();
     firsts.flat_map(move |(at, &a)| {
         let seconds = numbers[at + 1..].iter();
-        seconds.map(move |&b| Pair::of(marks, a, b))
+        seconds.map(move |&b| Pair::of(reel, a, b))
     })
 }
 
 /// The process as 01 tells it: as long as a pair lives, the first pair in taking
 /// order is taken, and its lower mark is removed at that value by the other.
-pub fn schedule_by_process(marks: &[Mark]) -> Vec<Record> {
-    let mut living: Vec<usize> = (0..marks.len()).collect();
-    let mut records = vec![Record::NEVER; marks.len()];
-    while let Some(pair) = pairs_of(marks, &living).min_by(Pair::taking_order) {
+pub fn schedule_by_process(reel: Reel) -> Vec<Record> {
+    let mut living: Vec<usize> = (0..reel.marks.len()).collect();
+    let mut records = vec![Record::NEVER; reel.marks.len()];
+    while let Some(pair) = pairs_of(reel, &living).min_by(Pair::taking_order) {
         let removed = pair.lower.number();
         records[removed] = pair.record();
         living.retain(|&mark| mark != removed);
@@ -64,11 +64,11 @@ pub fn schedule_by_process(marks: &[Mark]) -> Vec<Record> {
 
 /// The process with all pairs sorted beforehand: a pair is taken when its turn
 /// comes and both of its marks still live.
-pub fn schedule_by_sorted_pairs(marks: &[Mark]) -> Vec<Record> {
-    let numbers: Vec<usize> = (0..marks.len()).collect();
-    let mut pairs: Vec<Pair> = pairs_of(marks, &numbers).collect();
+pub fn schedule_by_sorted_pairs(reel: Reel) -> Vec<Record> {
+    let numbers: Vec<usize> = (0..reel.marks.len()).collect();
+    let mut pairs: Vec<Pair> = pairs_of(reel, &numbers).collect();
     pairs.sort_unstable_by(Pair::taking_order);
-    let mut records = vec![Record::NEVER; marks.len()];
+    let mut records = vec![Record::NEVER; reel.marks.len()];
     for pair in pairs {
         let lives = |mark: RankKey| records[mark.number()] == Record::NEVER;
         if lives(pair.higher) && lives(pair.lower) {
@@ -82,20 +82,20 @@ pub fn schedule_by_sorted_pairs(marks: &[Mark]) -> Vec<Record> {
 /// make equal to the process: a mark goes at the least touching value it has with
 /// a higher-ranked mark that is removed later than that value; of equal values
 /// the highest-ranked such mark is the eliminator.
-pub fn schedule_in_rank_order(marks: &[Mark]) -> Vec<Record> {
-    let ranked = ranked(marks);
-    let mut records = vec![Record::NEVER; marks.len()];
+pub fn schedule_in_rank_order(reel: Reel) -> Vec<Record> {
+    let ranked = reel.ranked();
+    let mut records = vec![Record::NEVER; reel.marks.len()];
     for (place, &mark) in ranked.iter().enumerate() {
-        records[mark] = settle(marks, &records, mark, &ranked[..place]);
+        records[mark] = settle(reel, &records, mark, &ranked[..place]);
     }
     records
 }
 
 /// The record of a mark, given those of all `higher` marks, highest rank first.
-fn settle(marks: &[Mark], records: &[Record], mark: usize, higher: &[usize]) -> Record {
+fn settle(reel: Reel, records: &[Record], mark: usize, higher: &[usize]) -> Record {
     let mut best = Record::NEVER;
     for &other in higher {
-        let value = touching_value(&marks[other], &marks[mark]);
+        let value = reel.touching_value(other, mark);
         let outlives = records[other].removal().later_than(value);
         if outlives && best.removal().later_than(value) {
             best = Record::removed(other, value);

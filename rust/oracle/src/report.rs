@@ -27,7 +27,7 @@ fn lines(input: &[u8]) -> Result<Vec<String>, Refusal> {
     ask(14, input.len() <= LONGEST_INPUT)?;
     let opened = open(input)?;
     ask(14, opened.marks.len() <= MOST_PRINTED)?;
-    let records = schedule_by_sorted_pairs(&opened.marks);
+    let records = schedule_by_sorted_pairs(opened.reel());
     let mut lines = vec![format!("marks {}\n", records.len())];
     lines.extend(records.iter().enumerate().map(line));
     Ok(lines)

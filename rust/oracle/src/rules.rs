@@ -2,7 +2,7 @@
 //! rank, removal').
 
 use crate::fraction::{Fraction, Removal};
-use crate::mark::{outranks, touching_value, Mark};
+use crate::rank::Reel;
 
 /// What a list of removal values offends against.
 #[derive(Clone, Copy, Debug, PartialEq, Eq)]
@@ -16,16 +16,16 @@ pub enum Breach {
     Second(usize),
 }
 
-/// Whether a list of removal values keeps both rules for these marks, and where
-/// it does not.
-pub fn keep_both(marks: &[Mark], list: &[Removal]) -> Result<(), Breach> {
-    if list.len() != marks.len() || !list.iter().all(names_a_value) {
+/// Whether a list of removal values keeps both rules for these marks, by the ranks of
+/// their edition, and where it does not.
+pub fn keep_both(reel: Reel, list: &[Removal]) -> Result<(), Breach> {
+    if list.len() != reel.marks.len() || !list.iter().all(names_a_value) {
         return Err(Breach::NoList);
     }
-    if let Some((a, b)) = first_rule_breach(marks, list) {
+    if let Some((a, b)) = first_rule_breach(reel, list) {
         return Err(Breach::First(a, b));
     }
-    match second_rule_breach(marks, list) {
+    match second_rule_breach(reel, list) {
         Some(mark) => Err(Breach::Second(mark)),
         None => Ok(()),
     }
@@ -41,39 +41,33 @@ fn names_a_value(entry: &Removal) -> bool {
 
 /// The first rule: no pair has both marks removed later than the pair's touching
 /// value. Answers a pair that has.
-fn first_rule_breach(marks: &[Mark], list: &[Removal]) -> Option<(usize, usize)> {
-    (0..marks.len())
+fn first_rule_breach(reel: Reel, list: &[Removal]) -> Option<(usize, usize)> {
+    (0..list.len())
         .flat_map(|b| (0..b).map(move |a| (a, b)))
-        .find(|&(a, b)| outlive_touching(marks, list, a, b))
+        .find(|&(a, b)| outlive_touching(reel, list, a, b))
 }
 
 /// Whether both marks of a pair are removed later than its touching value.
-fn outlive_touching(marks: &[Mark], list: &[Removal], a: usize, b: usize) -> bool {
-    let value = touching_value(&marks[a], &marks[b]);
+fn outlive_touching(reel: Reel, list: &[Removal], a: usize, b: usize) -> bool {
+    let value = reel.touching_value(a, b);
     list[a].later_than(value) && list[b].later_than(value)
 }
 
 /// The second rule: each removal value equals the touching value with some
 /// higher-ranked mark that is removed later than that value. Answers a mark whose
 /// removal value does not. A mark that is never removed has none.
-fn second_rule_breach(marks: &[Mark], list: &[Removal]) -> Option<usize> {
-    (0..marks.len()).find(|&mark| match list[mark] {
+fn second_rule_breach(reel: Reel, list: &[Removal]) -> Option<usize> {
+    (0..list.len()).find(|&mark| match list[mark] {
         Removal::Never => false,
         Removal::At(value) => {
-            !(0..marks.len()).any(|other| accounts_for(marks, list, mark, value, other))
+            !(0..list.len()).any(|other| accounts_for(reel, list, mark, value, other))
         }
     })
 }
 
 /// Whether `other` ranks higher than `mark`, touches it at this value, and is
 /// removed later.
-fn accounts_for(
-    marks: &[Mark],
-    list: &[Removal],
-    mark: usize,
-    value: Fraction,
-    other: usize,
-) -> bool {
-    let touching = touching_value(&marks[other], &marks[mark]);
-    outranks(marks, other, mark) && touching.compare(value).is_eq() && list[other].later_than(value)
+fn accounts_for(reel: Reel, list: &[Removal], mark: usize, value: Fraction, other: usize) -> bool {
+    let touching = reel.touching_value(other, mark);
+    reel.outranks(other, mark) && touching.compare(value).is_eq() && list[other].later_than(value)
 }

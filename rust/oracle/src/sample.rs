@@ -4,8 +4,9 @@
 
 use crate::mark::{write_marks, Mark, LARGEST_RADIUS};
 use crate::process::schedule_by_process;
+use crate::rank::Edition;
 use crate::record::write_records;
-use crate::sheet::join;
+use crate::sheet::{join, join_parts};
 use crate::Refusal;
 
 /// The marks of P1 (01, 'The printed schedule').
@@ -129,15 +130,15 @@ pub fn raw_sheet(entries: &[(u16, u32, u32)], body: &[u8]) -> Vec<u8> {
     sheet
 }
 
-/// Sheets that questions 1 to 10 refuse, each with the number of the first that does. The
-/// next one would refuse it, too; but a sheet that 9 is asked of has the parts that 10
-/// asks for, so that 8 stands once before either.
+/// Sheets that questions 1 to 10 and 19 refuse, each with the number of the first that
+/// does. The next one in turn would refuse it, too; but a sheet that 9 is asked of has the
+/// parts that 10 asks for, so that 8 stands once before either.
 pub fn refused_sheets() -> Vec<(Refusal, Vec<u8>)> {
     let large = Mark::plain(0, 0, LARGEST_RADIUS + 1, 0);
     let both = write_marks(&[Mark { kind: 200, ..large }]);
     let longer = [both.as_slice(), &[0]].concat();
     let part_1 = write_marks(&P1);
-    let part_2 = write_records(&schedule_by_process(&P1));
+    let part_2 = write_records(&schedule_by_process(Edition::First.reel(&P1)));
     let (no_records, no_tree) = (vec![0; part_2.len()], [0; 8]);
     vec![
         (1, raw_sheet(&[(9, 0, 0); 8], &[])),
@@ -146,12 +147,22 @@ pub fn refused_sheets() -> Vec<(Refusal, Vec<u8>)> {
         (4, join(&[&longer])),
         (5, join(&[&both])),
         (6, join(&[&write_marks(&[large]), &[0; 3]])),
-        (7, join(&[&part_1, &no_records, &[]])),
+        (7, join(&[&part_1, &no_records, &[], &[3]])),
+        (7, join_parts(&[(1, &part_1), (2, &[]), (4, &[])])),
+        (19, join(&[&part_1, &no_records, &no_tree, &[0]])),
+        (
+            19,
+            join_parts(&[(1, &part_1), (2, &no_records), (4, &[1, 1])]),
+        ),
+        (19, join_parts(&[(1, &part_1), (4, &[])])),
+        (8, join(&[&part_1, &no_records, &no_tree, &[2]])),
         (8, join(&[&part_1, &no_records, &no_tree])),
         (8, join(&[&part_1, &no_records])),
         (9, join(&[&part_1, &part_2, &no_tree])),
         (10, join(&[&part_1, &part_2])),
+        (10, join_parts(&[(1, &part_1), (2, &part_2), (4, &[1])])),
         (10, join(&[&part_1])),
+        (10, join_parts(&[(1, &part_1), (4, &[2])])),
         (10, join(&[&[], &[]])),
         (10, join(&[&[]])),
     ]

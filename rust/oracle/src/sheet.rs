@@ -1,12 +1,13 @@
-//! The whole sheet: questions 4 to 9, and three of the five jobs, checking,
+//! The whole sheet: questions 4 to 9 and 19, and three of the five jobs, checking,
 //! scheduling and putting together (01, 'The sheet: contents, then bodies' and
-//! 'Questions put in turn').
+//! 'Questions put in turn'; 02, request 6).
 
-pub use crate::contents::{join, split};
+pub use crate::contents::{join, join_parts, split};
 
-use crate::contents::{extent, Bodies, MOST_PARTS};
-use crate::mark::{touching_value, Group, Mark, RankKey, LARGEST_RADIUS, MARK_BYTES, MOST_MARKS};
+use crate::contents::{codes_fit, count_fits, extent, Bodies, Part, ENTRY_BYTES};
+use crate::mark::{touching_value, Group, Mark, LARGEST_RADIUS, MARK_BYTES, MOST_MARKS};
 use crate::process::schedule_by_sorted_pairs;
+use crate::rank::{Edition, RankKey, Reel};
 use crate::record::{read_records, write_records, Record, RECORD_BYTES};
 use crate::tree::{self, read_tree, write_tree, INDEX_BYTES};
 use crate::{ask, Refusal};
@@ -16,37 +17,53 @@ pub const fn work_bytes(n: usize) -> usize {
     32 * n + 1_024
 }
 
-/// Bytes of the sheet that scheduling n marks writes.
+/// Bytes of the sheet that scheduling n marks writes, where no part beyond 3 is kept.
 pub const fn scheduled_bytes(n: usize) -> usize {
     32 + 27 * n
 }
 
+/// Bytes that the parts which scheduling keeps add to the sheet: an entry in the
+/// contents each, and the bodies.
+pub fn kept_bytes(bodies: &Bodies) -> usize {
+    let bytes = |(_, body): &Part| ENTRY_BYTES + body.len();
+    bodies.beyond_3().iter().map(bytes).sum()
+}
+
 /// The lengths of parts 1, 2 and 3 of n marks.
-pub const fn part_lengths(n: usize) -> [usize; MOST_PARTS] {
+pub const fn part_lengths(n: usize) -> [usize; 3] {
     [MARK_BYTES * n, RECORD_BYTES * n, INDEX_BYTES * n]
 }
 
-/// The parts of a sheet that questions 1 to 7 take, row by row as they stand in the
-/// caller's bytes: as many records and numbers of the index as marks, where they are
-/// there.
+/// The parts of a sheet that questions 1 to 7 and 19 take, row by row as they stand in
+/// the caller's bytes: as many records and numbers of the index as marks, where they are
+/// there; and the edition, where part 4 names one.
 #[derive(Clone, Copy, Debug)]
 pub struct Rows<'a> {
     pub marks: &'a [[u8; MARK_BYTES]],
     pub records: Option<&'a [[u8; RECORD_BYTES]]>,
     pub index: Option<&'a [[u8; INDEX_BYTES]]>,
+    pub named: Option<Edition>,
 }
 
 impl<'a> Rows<'a> {
-    /// The rows of a sheet's bodies. Asks 4 to 7.
+    /// The rows of a sheet's bodies. Asks 4 to 7, and 19.
     #[inline]
     pub fn of(bodies: &Bodies<'a>) -> Result<Self, Refusal> {
         let marks = mark_rows(bodies.part_1())?;
         ask(7, lengths_fit(bodies, marks.len()))?;
+        let named = named_edition(bodies)?;
         Ok(Self {
             marks,
             records: bodies.get(2).map(|body| body.as_chunks().0),
             index: bodies.get(3).map(|body| body.as_chunks().0),
+            named,
         })
+    }
+
+    /// The edition that holds.
+    #[inline]
+    pub fn edition(&self) -> Edition {
+        self.named.unwrap_or_default()
     }
 }
 
@@ -75,6 +92,13 @@ fn lengths_fit(bodies: &Bodies, n: usize) -> bool {
     fits(2, records) && fits(3, index)
 }
 
+/// The edition that part 4 names, if it is there. Asks 19: it is one byte of 1 or 2.
+#[inline]
+fn named_edition(bodies: &Bodies) -> Result<Option<Edition>, Refusal> {
+    let edition = |part_4| Edition::read(part_4).ok_or(19);
+    bodies.get(4).map(edition).transpose()
+}
+
 /// An accepted sheet, opened: its bodies as they stand in the caller's bytes, and
 /// what they mean. A part that is there may still be empty.
 #[derive(Clone, Debug, PartialEq, Eq)]
@@ -83,9 +107,15 @@ pub struct Opened<'a> {
     pub marks: Vec<Mark>,
     pub records: Option<Vec<Record>>,
     pub tree: Option<Vec<u16>>,
+    pub edition: Edition,
 }
 
 impl Opened<'_> {
+    /// What decides the schedule of the marks.
+    pub fn reel(&self) -> Reel<'_> {
+        self.edition.reel(&self.marks)
+    }
+
     /// The records of a sheet that has parts 2 and 3. Asks 10.
     pub fn indexed_records(&self) -> Result<&[Record], Refusal> {
         match (&self.records, &self.tree) {
@@ -102,10 +132,12 @@ pub fn open(sheet: &[u8]) -> Result<Opened<'_>, Refusal> {
 
 /// Opens the bodies of a sheet. Asks 4 to 9.
 fn open_bodies(bodies: Bodies<'_>) -> Result<Opened<'_>, Refusal> {
-    let marks: Vec<Mark> = Rows::of(&bodies)?.marks.iter().map(Mark::read).collect();
+    let rows = Rows::of(&bodies)?;
+    let edition = rows.edition();
+    let marks: Vec<Mark> = rows.marks.iter().map(Mark::read).collect();
     let records = bodies.get(2).map(read_records);
     if let Some(records) = &records {
-        let fits = |m| record_fits(m, marks.len(), |m| marks[m], |m| records[m]);
+        let fits = |m| record_fits(edition, m, marks.len(), |m| marks[m], |m| records[m]);
         ask(8, (0..marks.len()).all(fits))?;
     }
     let tree = bodies.get(3).map(read_tree);
@@ -117,6 +149,7 @@ fn open_bodies(bodies: Bodies<'_>) -> Result<Opened<'_>, Refusal> {
         marks,
         records,
         tree,
+        edition,
     })
 }
 
@@ -126,10 +159,11 @@ pub fn open_marks(part_1: &[u8]) -> Result<Vec<Mark>, Refusal> {
 }
 
 /// Question 8 of the record of mark m of n, by the marks and records of their numbers:
-/// it is the 'never' record; or it names a higher-ranked mark below n, with their
-/// touching value as its two unreduced numbers, and that mark is removed later.
+/// it is the 'never' record; or it names a mark below n that ranks higher in this edition,
+/// with their touching value as its two unreduced numbers, and that mark is removed later.
 #[inline]
 pub fn record_fits(
+    edition: Edition,
     m: usize,
     n: usize,
     mark: impl Fn(usize) -> Mark,
@@ -144,7 +178,7 @@ pub fn record_fits(
         return false;
     }
     let (higher, lower) = (mark(eliminator), mark(m));
-    RankKey::of(&higher, eliminator) < RankKey::of(&lower, m)
+    RankKey::of(edition, &higher, eliminator) < RankKey::of(edition, &lower, m)
         && own.value == touching_value(&higher, &lower)
         && record(eliminator).removal().later_than(own.value)
 }
@@ -167,17 +201,16 @@ pub fn part_extent(sheet: &[u8], code: u32) -> (u32, u32) {
     }
 }
 
-/// Puts the first `count` bodies together into a sheet; the further ones are
-/// ignored. Asks 1 of the count only, 4 to 9, and 13 of the buffer written to.
-pub fn assemble(
-    count: u32,
-    bodies: [&[u8]; MOST_PARTS],
-    out_length: usize,
-) -> Result<Vec<u8>, Refusal> {
-    ask(1, (1..=MOST_PARTS as u32).contains(&count))?;
-    let bodies = &bodies[..count as usize];
-    open_bodies(Bodies::in_order(bodies))?;
-    let sheet = join(bodies);
+/// Puts parts of these codes together into a sheet: the first body is that of the first
+/// code, and so on, and further bodies are ignored. Asks 1 of the number of codes and of
+/// bodies, 2 of the codes, 4 to 9, and 13 of the buffer written to.
+pub fn assemble(codes: &[u16], bodies: &[&[u8]], out_length: usize) -> Result<Vec<u8>, Refusal> {
+    ask(1, count_fits(codes.len()) && bodies.len() >= codes.len())?;
+    ask(2, codes_fit(codes.iter().copied()))?;
+    let (codes, bodies) = (codes.iter().copied(), bodies.iter().copied());
+    let parts: Vec<Part> = codes.zip(bodies).collect();
+    open_bodies(Bodies::of(&parts))?;
+    let sheet = join_parts(&parts);
     ask(13, out_length >= sheet.len())?;
     Ok(sheet)
 }
@@ -187,20 +220,20 @@ pub fn assemble(
 pub fn schedule(sheet: &[u8], work_length: usize, out_length: usize) -> Result<Vec<u8>, Refusal> {
     let opened = open(sheet)?;
     let n = opened.marks.len();
-    ask(
-        13,
-        work_length >= work_bytes(n) && out_length >= scheduled_bytes(n),
-    )?;
+    let written = scheduled_bytes(n) + kept_bytes(&opened.bodies);
+    ask(13, work_length >= work_bytes(n) && out_length >= written)?;
     Ok(scheduled(&opened))
 }
 
-/// The sheet of three parts that scheduling writes: the marks unchanged, the
-/// schedule, and its index.
+/// The sheet that scheduling writes: the marks unchanged, the schedule, its index, and
+/// the parts that are kept.
 fn scheduled(opened: &Opened) -> Vec<u8> {
-    let records = schedule_by_sorted_pairs(&opened.marks);
+    let records = schedule_by_sorted_pairs(opened.reel());
     let part_2 = write_records(&records);
     let part_3 = write_tree(&tree::build(&opened.marks, &records));
-    join(&[opened.bodies.part_1(), &part_2, &part_3])
+    let mut parts: Vec<Part> = vec![(1, opened.bodies.part_1()), (2, &part_2), (3, &part_3)];
+    parts.extend(opened.bodies.beyond_3());
+    join_parts(&parts)
 }
 
 #[cfg(test)]
@@ -212,7 +245,13 @@ mod tests {
     fn a_scheduled_sheet_is_its_contents_and_its_parts() {
         for n in [0, 1, 4, 4_096] {
             let parts: usize = part_lengths(n).iter().sum();
-            assert_eq!(scheduled_bytes(n), contents_bytes(MOST_PARTS) + parts);
+            assert_eq!(scheduled_bytes(n), contents_bytes(3) + parts);
         }
+    }
+
+    #[test]
+    fn part_4_adds_11_bytes() {
+        assert_eq!(kept_bytes(&Bodies::of(&[(1, &[0; 22]), (2, &[])])), 0);
+        assert_eq!(kept_bytes(&Bodies::of(&[(1, &[]), (4, &[2])])), 11);
     }
 }

@@ -3,10 +3,13 @@
 
 mod common;
 
-use common::{one_part, scheduled, three_parts, OUT, WORK};
+use common::{
+    one_part, scheduled, scheduled_by, three_parts, with_edition, with_part_4, EDITION, OUT, WORK,
+};
 use oracle::change::{add, take_out};
 use oracle::mark::{read_marks, Mark};
 use oracle::process::schedule_in_rank_order;
+use oracle::rank::Edition;
 use oracle::record::{read_records, Record};
 use oracle::sample::{marks, refused_sheets, Generator, Shape, P1};
 use oracle::sheet::{scheduled_bytes, split, work_bytes};
@@ -39,12 +42,12 @@ const fn with(kind: u8, radius: u16) -> Mark {
 
 /// Adds a mark in buffers that are long enough for any sheet.
 fn add_large(sheet: &[u8], mark: Mark) -> Result<Vec<u8>, u32> {
-    add(sheet, mark, WORK, OUT)
+    add(sheet, mark, WORK, OUT + EDITION)
 }
 
 /// Takes a mark out in buffers that are long enough for any sheet.
 fn take_out_large(sheet: &[u8], m: u32) -> Result<Vec<u8>, u32> {
-    take_out(sheet, m, WORK, OUT)
+    take_out(sheet, m, WORK, OUT + EDITION)
 }
 
 /// The records of a sheet of three parts.
@@ -153,6 +156,45 @@ fn a_scheduled_sheet_comes_back_byte_for_byte() {
     }
 }
 
+#[test]
+fn marks_come_and_go_by_the_sheets_own_edition() {
+    let mut generator = Generator::new(2);
+    for edition in Edition::ALL {
+        for shape in Shape::ALL {
+            for n in [0, 1, 2, 7, 20] {
+                let mut sample = marks(shape, n, 3);
+                sample.iter_mut().for_each(|mark| mark.priority &= 1);
+                let sheet = scheduled_by(edition, &sample);
+                let new = generator.choose(&marks(shape, 5, 4));
+                let longer = add_large(&sheet, new).unwrap();
+                sample.push(new);
+                assert_eq!(longer, scheduled_by(edition, &sample));
+                assert_eq!(take_out_large(&longer, n as u32), Ok(sheet));
+                sample.remove(n / 2);
+                let fewer = take_out_large(&longer, n as u32 / 2);
+                assert_eq!(fewer, Ok(scheduled_by(edition, &sample)));
+            }
+        }
+    }
+}
+
+#[test]
+fn a_larger_mark_of_equal_priority_comes_and_goes() {
+    let (small, large) = (Mark::plain(0, 0, 10, 5), Mark::plain(90, 0, 20, 5));
+    let gone = Record::new(1, 8_100, 900);
+    for (edition, expected) in [
+        (Edition::First, [Record::NEVER, Record::new(0, 8_100, 900)]),
+        (Edition::Second, [gone, Record::NEVER]),
+    ] {
+        let one = scheduled_by(edition, &[small]);
+        let two = add_large(&one, large).unwrap();
+        assert_eq!(records(&two), expected);
+        assert_eq!(take_out_large(&two, 1), Ok(one));
+        let other = take_out_large(&two, 0);
+        assert_eq!(other, Ok(scheduled_by(edition, &[large])));
+    }
+}
+
 // ---- refusals
 
 #[test]
@@ -175,6 +217,17 @@ fn question_10_before_17_and_18() {
     let full = marks(Shape::Grid, 4_096, 1);
     assert_eq!(add_large(&one_part(&full), NEW), Err(10));
     assert_eq!(take_out_large(&one_part(&full), 4_096), Err(10));
+}
+
+#[test]
+fn question_19_before_10_17_and_18() {
+    let full = marks(Shape::Grid, 4_096, 1);
+    let unnamed = with_part_4(&one_part(&full), &[0]);
+    assert_eq!(add_large(&unnamed, NEW), Err(19));
+    assert_eq!(take_out_large(&unnamed, 4_096), Err(19));
+    let unscheduled = with_edition(&one_part(&full), Edition::Second);
+    assert_eq!(add_large(&unscheduled, NEW), Err(10));
+    assert_eq!(take_out_large(&unscheduled, 4_096), Err(10));
 }
 
 #[test]
@@ -226,27 +279,36 @@ fn questions_18_5_6_and_13_in_this_order() {
 fn the_last_mark_that_is_held_comes_and_goes() {
     let most = marks(Shape::OnePlace, 4_096, 2);
     let (&last, fewer) = most.split_last().unwrap();
-    let [most, fewer] = [&most, fewer].map(|it| three_parts(it, &schedule_in_rank_order(it)));
+    let [most, fewer] =
+        [&most, fewer].map(|it| three_parts(it, &schedule_in_rank_order(Edition::First.reel(it))));
     assert_eq!(add_large(&fewer, last).as_ref(), Ok(&most));
     assert_eq!(take_out_large(&most, 4_096), Err(17));
     assert_eq!(take_out_large(&most, 4_095), Ok(fewer));
 }
 
 #[test]
-fn question_13_goes_by_the_new_number_of_marks() {
+fn question_13_goes_by_the_new_number_of_marks_and_by_part_4() {
     for n in 0..=4 {
         let sheet = scheduled(&P1[..n]);
-        let lengths = |n: usize| (work_bytes(n), scheduled_bytes(n));
-        let (work, out) = lengths(n + 1);
-        assert_eq!(add(&sheet, NEW, work, out).unwrap().len(), out);
-        assert_eq!(add(&sheet, NEW, work - 1, out), Err(13));
-        assert_eq!(add(&sheet, NEW, work, out - 1), Err(13));
-        let Some(fewer) = n.checked_sub(1) else {
-            continue;
-        };
-        let (work, out) = lengths(fewer);
-        assert_eq!(take_out(&sheet, 0, work, out).unwrap().len(), out);
-        assert_eq!(take_out(&sheet, 0, work - 1, out), Err(13));
-        assert_eq!(take_out(&sheet, 0, work, out - 1), Err(13));
+        question_13(&sheet, n, 0);
+        for edition in Edition::ALL {
+            question_13(&with_edition(&sheet, edition), n, EDITION);
+        }
     }
+}
+
+/// Asks 13 of changes of a sheet of n marks, with so many bytes more to write.
+fn question_13(sheet: &[u8], n: usize, more: usize) {
+    let lengths = |n: usize| (work_bytes(n), scheduled_bytes(n) + more);
+    let (work, out) = lengths(n + 1);
+    assert_eq!(add(sheet, NEW, work, out).unwrap().len(), out);
+    assert_eq!(add(sheet, NEW, work - 1, out), Err(13));
+    assert_eq!(add(sheet, NEW, work, out - 1), Err(13));
+    let Some(fewer) = n.checked_sub(1) else {
+        return;
+    };
+    let (work, out) = lengths(fewer);
+    assert_eq!(take_out(sheet, 0, work, out).unwrap().len(), out);
+    assert_eq!(take_out(sheet, 0, work - 1, out), Err(13));
+    assert_eq!(take_out(sheet, 0, work, out - 1), Err(13));
 }

@@ -1,13 +1,16 @@
-//! The proved examples P1 to P12 of 01, with 02's answer to P4, and its 'Plausible and
-//! false'.
+//! The proved examples P1 to P12 of 01, with 02's answer to P4, its 'Plausible and
+//! false', and both editions of request 6.
 
 mod common;
 
-use common::{one_part, scheduled, three_parts};
+use common::{
+    one_part, schedule_large, scheduled, scheduled_by, three_parts, with_edition, with_part_4,
+};
 use oracle::fraction::Fraction;
 use oracle::map::is_set;
-use oracle::mark::{outranks, rank_order, touching_value, Mark};
+use oracle::mark::{touching_value, Mark};
 use oracle::process::schedule_by_process;
+use oracle::rank::Edition::{self, First, Second};
 use oracle::record::{read_records, removals, Record};
 use oracle::report::print;
 use oracle::rules::{keep_both, Breach};
@@ -149,7 +152,7 @@ fn false_that_mark_2_of_p1_goes_at_25_by_mark_1() {
     assert_eq!(check_with(&P1, &changed), 0);
     changed[2] = Record::new(1, 10_000, 400);
     assert_eq!(changed[1].value, changed[2].value);
-    let broken = keep_both(&P1, &removals(&changed));
+    let broken = keep_both(First.reel(&P1), &removals(&changed));
     assert_eq!(broken, Err(Breach::Second(2)));
     assert_eq!(check_with(&P1, &changed), 8);
 }
@@ -158,28 +161,29 @@ fn false_that_mark_2_of_p1_goes_at_25_by_mark_1() {
 fn false_that_removal_values_may_be_rounded() {
     let mut rounded = records(&P1);
     rounded[3] = Record::new(0, 0, 225);
-    let broken = keep_both(&P1, &removals(&rounded));
+    let broken = keep_both(First.reel(&P1), &removals(&rounded));
     assert_eq!(broken, Err(Breach::Second(3)));
     assert_eq!(check_with(&P1, &rounded), 8);
     rounded[3] = Record::new(0, 225, 225);
-    let broken = keep_both(&P1, &removals(&rounded));
+    let broken = keep_both(First.reel(&P1), &removals(&rounded));
     assert_eq!(broken, Err(Breach::First(0, 3)));
     assert_eq!(check_with(&P1, &rounded), 8);
 }
 
 /// The process told with touching values compared after a division.
 fn schedule_by_quotient(marks: &[Mark], quotient: impl Fn(Fraction) -> f64) -> Vec<Record> {
+    let reel = First.reel(marks);
     let mut records = vec![Record::NEVER; marks.len()];
     let numbers = || 0..marks.len();
     loop {
         let lives = |mark: usize| records[mark] == Record::NEVER;
         let pairs = numbers().flat_map(|high| numbers().map(move |low| (high, low)));
         let living = pairs
-            .filter(|&(high, low)| outranks(marks, high, low) && lives(high) && lives(low))
+            .filter(|&(high, low)| reel.outranks(high, low) && lives(high) && lives(low))
             .map(|(high, low)| (touching_value(&marks[high], &marks[low]), high, low));
         let first = living.min_by(|a, b| {
             let by_value = quotient(a.0).total_cmp(&quotient(b.0));
-            by_value.then(rank_order(marks, a.1, b.1))
+            by_value.then(reel.rank_order(a.1, b.1))
         });
         let Some((value, high, low)) = first else {
             return records;
@@ -204,10 +208,10 @@ fn false_that_values_may_be_compared_after_whole_division() {
     assert_eq!(records(&marks)[2], Record::new(1, 4, 4));
     let divided = schedule_by_quotient(&marks, |value| in_doubles(value).floor());
     assert_eq!(divided[2], Record::new(0, 5, 4));
-    let broken = keep_both(&marks, &removals(&divided));
+    let broken = keep_both(First.reel(&marks), &removals(&divided));
     assert_eq!(broken, Err(Breach::First(1, 2)));
     let exact = schedule_by_quotient(&marks, in_doubles);
-    assert_eq!(exact, schedule_by_process(&marks));
+    assert_eq!(exact, schedule_by_process(First.reel(&marks)));
 }
 
 #[test]
@@ -224,18 +228,19 @@ fn false_that_values_may_be_compared_as_doubles() {
     assert_eq!(records(&marks)[2], by_mark_1);
     let divided = schedule_by_quotient(&marks, in_doubles);
     assert_eq!(divided[2], by_mark_0);
-    let broken = keep_both(&marks, &removals(&divided));
+    let broken = keep_both(First.reel(&marks), &removals(&divided));
     assert_eq!(broken, Err(Breach::First(1, 2)));
 }
 
 /// A schedule in which a mark goes at the least touching value with any
 /// higher-ranked mark, removed or not.
 fn schedule_with_ghosts(marks: &[Mark]) -> Vec<Record> {
+    let reel = First.reel(marks);
     let numbers = 0..marks.len();
     let ghost = |mark: usize| {
-        let higher = (0..marks.len()).filter(|&other| outranks(marks, other, mark));
+        let higher = (0..marks.len()).filter(|&other| reel.outranks(other, mark));
         let met = higher.map(|other| (other, touching_value(&marks[other], &marks[mark])));
-        let first = met.min_by(|a, b| a.1.compare(b.1).then(rank_order(marks, a.0, b.0)));
+        let first = met.min_by(|a, b| a.1.compare(b.1).then(reel.rank_order(a.0, b.0)));
         first.map_or(Record::NEVER, |(other, value)| {
             Record::removed(other, value)
         })
@@ -254,7 +259,7 @@ fn false_that_a_removed_mark_still_blocks_others() {
     assert_eq!(records(&marks)[2], Record::new(0, 22_500, 400));
     let blocked = schedule_with_ghosts(&marks);
     assert_eq!(blocked[2], Record::new(1, 10_000, 400));
-    let broken = keep_both(&marks, &removals(&blocked));
+    let broken = keep_both(First.reel(&marks), &removals(&blocked));
     assert_eq!(broken, Err(Breach::Second(2)));
     assert_eq!(check_with(&marks, &blocked), 8);
 }
@@ -333,4 +338,116 @@ fn false_that_halves_may_be_cut_by_the_rectangle_or_by_a_roots_own_radius() {
     assert_eq!(search_halves(&marks, &tree, edges, |_| 500), [1]);
     assert!(search_halves(&marks, &tree, edges, |_| 0).is_empty());
     assert!(search_halves(&marks, &tree, edges, |root| root.radius as i16).is_empty());
+}
+
+// ---- editions
+
+/// Two marks of equal priority, of which the larger one has the higher number.
+const LARGER_SECOND: [Mark; 2] = [Mark::plain(0, 0, 10, 5), Mark::plain(90, 0, 20, 5)];
+
+/// The records and the tree that scheduling these marks by an edition writes.
+fn scheduled_parts(edition: Edition, marks: &[Mark]) -> (Vec<Record>, Vec<u16>) {
+    let sheet = scheduled_by(edition, marks);
+    let opened = open(&sheet).unwrap();
+    assert_eq!(opened.edition, edition);
+    (opened.records.unwrap(), opened.tree.unwrap())
+}
+
+#[test]
+fn of_equal_priorities_the_lower_number_stays_or_the_larger_label() {
+    let gone = |by| Record::new(by, 8_100, 900);
+    let first = (vec![Record::NEVER, gone(0)], vec![0, 1]);
+    let second = (vec![gone(1), Record::NEVER], vec![1, 0]);
+    assert_eq!(records(&LARGER_SECOND), first.0);
+    assert_eq!(scheduled_parts(First, &LARGER_SECOND), first);
+    assert_eq!(scheduled_parts(Second, &LARGER_SECOND), second);
+}
+
+#[test]
+fn an_edition_is_printed() {
+    let sheet = one_part(&LARGER_SECOND);
+    let first = "marks 2\n0 -\n1 0 8100 900 192\n";
+    let second = "marks 2\n0 1 8100 900 192\n1 -\n";
+    assert_eq!(print(&sheet), first);
+    assert_eq!(print(&with_edition(&sheet, First)), first);
+    assert_eq!(print(&with_edition(&sheet, Second)), second);
+    assert_eq!(print(&with_part_4(&sheet, &[3])), "refused 19\n");
+}
+
+#[test]
+fn the_house_radius_counts() {
+    // A patch has 150 where 0 is written, and not 0, nor 120.
+    let patch = |x| Mark {
+        kind: 100,
+        ..Mark::plain(x, 0, 0, 5)
+    };
+    for (radius, staying) in [(1, 1), (121, 1), (149, 1), (150, 0), (151, 0)] {
+        let marks = [Mark::plain(0, 0, radius, 5), patch(9)];
+        let (records, _) = scheduled_parts(Second, &marks);
+        assert_eq!(records[staying], Record::NEVER, "{radius}");
+    }
+    let (records, _) = scheduled_parts(Second, &[patch(0), patch(9)]);
+    assert_eq!(records, [Record::NEVER, Record::new(0, 81, 90_000)]);
+}
+
+#[test]
+fn a_priority_counts_before_a_radius() {
+    let marks = [Mark::plain(0, 0, 1, 6), Mark::plain(9, 0, 16_383, 5)];
+    for edition in Edition::ALL {
+        let (records, _) = scheduled_parts(edition, &marks);
+        assert_eq!(records[0], Record::NEVER);
+    }
+}
+
+#[test]
+fn the_examples_are_the_same_in_both_editions() {
+    // Where their priorities are equal, so are their radii.
+    let p5 = [Mark::plain(7, 7, 1, 5), Mark::plain(7, 7, 1, 5)];
+    let p6 = [i16::MIN, i16::MAX].map(|place| Mark::plain(place, place, 1, 0));
+    let p11 = [
+        Mark::plain(60, 0, 2, 5),
+        Mark::plain(-100, 0, 10, 9),
+        Mark::plain(0, 0, 10, 1),
+    ];
+    for marks in [&P1[..], &p5, &p6, &p11, &[]] {
+        for edition in Edition::ALL {
+            let expected = with_edition(&scheduled(marks), edition);
+            assert_eq!(scheduled_by(edition, marks), expected);
+        }
+    }
+}
+
+#[test]
+fn ties_in_the_tree_go_by_number_in_both_editions() {
+    // Marks 1 and 2 go by 0 at one value, 1, 2 and 3 have one x, and 0 and 3 stay; in the
+    // second edition 3 ranks higher than 2, and 2 than 1.
+    let marks = [
+        Mark::plain(0, 0, 30, 5),
+        Mark::plain(0, 40, 10, 5),
+        Mark::plain(0, 50, 20, 5),
+        Mark::plain(0, 60, 40, 5),
+    ];
+    let records = [
+        Record::NEVER,
+        Record::new(0, 1_600, 1_600),
+        Record::new(0, 2_500, 2_500),
+        Record::NEVER,
+    ];
+    for edition in Edition::ALL {
+        let sheet = with_edition(&three_parts(&marks, &records), edition);
+        assert_eq!(check(&sheet), 0);
+        let tree = open(&sheet).unwrap().tree.unwrap();
+        assert_eq!(tree, [0, 1, 2, 3]);
+    }
+    assert_eq!(Second.reel(&marks).ranked(), [3, 0, 2, 1]);
+}
+
+#[test]
+fn an_edition_is_kept() {
+    let sheet = with_edition(&three_parts(&P1, &[Record::NEVER; 4]), Second);
+    let kept = schedule_large(&sheet).unwrap();
+    assert_eq!(kept.len(), 32 + 27 * 4 + 11);
+    assert_eq!(split(&kept).unwrap().get(4), Some(&[2][..]));
+    assert_eq!(kept[..2], [4, 0]);
+    assert_eq!(kept.last(), Some(&2));
 }

@@ -1,18 +1,26 @@
 //! The three ways to schedule agree, on sheets full of ties and at the ends of
-//! every range.
+//! every range, in both editions.
 
 use oracle::fraction::Fraction;
-use oracle::mark::{outranks, Mark};
+use oracle::mark::Mark;
 use oracle::process::{schedule_by_process, schedule_by_sorted_pairs, schedule_in_rank_order};
+use oracle::rank::Edition::{self, First, Second};
+use oracle::rank::Reel;
 use oracle::record::Record;
 use oracle::sample::{marks, small_choice, Shape};
 
 /// The schedule of the process, once the two others are seen to give it too.
-fn schedule(marks: &[Mark]) -> Vec<Record> {
-    let records = schedule_by_process(marks);
-    assert_eq!(schedule_by_sorted_pairs(marks), records, "{marks:?}");
-    assert_eq!(schedule_in_rank_order(marks), records, "{marks:?}");
+fn schedule_reel(reel: Reel) -> Vec<Record> {
+    let records = schedule_by_process(reel);
+    assert_eq!(schedule_by_sorted_pairs(reel), records, "{reel:?}");
+    assert_eq!(schedule_in_rank_order(reel), records, "{reel:?}");
     records
+}
+
+/// The schedule in the first edition, once all ways are seen to agree in the second, too.
+fn schedule(marks: &[Mark]) -> Vec<Record> {
+    schedule_reel(Second.reel(marks));
+    schedule_reel(First.reel(marks))
 }
 
 /// Whether two marks are removed at one value.
@@ -59,10 +67,9 @@ fn all_agree_on_middling_samples() {
 fn the_two_faster_ones_agree_on_larger_samples() {
     for shape in Shape::ALL {
         let marks = marks(shape, 250, 3);
-        assert_eq!(
-            schedule_by_sorted_pairs(&marks),
-            schedule_in_rank_order(&marks)
-        );
+        for reel in Edition::ALL.map(|edition| edition.reel(&marks)) {
+            assert_eq!(schedule_by_sorted_pairs(reel), schedule_in_rank_order(reel));
+        }
     }
 }
 
@@ -70,13 +77,11 @@ fn the_two_faster_ones_agree_on_larger_samples() {
 fn exactly_the_highest_ranked_mark_is_never_removed() {
     for shape in Shape::ALL {
         let marks = marks(shape, 30, 11);
-        let records = schedule(&marks);
-        let kept: Vec<usize> = (0..marks.len())
-            .filter(|&mark| records[mark] == Record::NEVER)
-            .collect();
-        assert_eq!(kept.len(), 1);
-        let outranked = |mark| (0..marks.len()).any(|other| outranks(&marks, other, mark));
-        assert!(!outranked(kept[0]));
+        for reel in Edition::ALL.map(|edition| edition.reel(&marks)) {
+            let records = schedule_reel(reel);
+            let kept = (0..marks.len()).filter(|&mark| records[mark] == Record::NEVER);
+            assert!(kept.eq([reel.ranked()[0]]));
+        }
     }
 }
 
@@ -97,6 +102,21 @@ fn equal_values_with_equal_priorities_go_to_the_lower_number() {
     let records = schedule(&marks);
     assert_eq!(records[2], Record::removed(0, Fraction::new(10_000, 400)));
     assert_eq!(records[1], Record::removed(0, Fraction::new(40_000, 400)));
+}
+
+#[test]
+fn equal_values_with_equal_priorities_go_to_the_larger_radius_in_the_second_edition() {
+    // Mark 2 touches 0 and 1 at 25, long before these two touch each other.
+    let marks = [
+        Mark::plain(-100, 0, 10, 5),
+        Mark::plain(150, 0, 20, 5),
+        Mark::plain(0, 0, 10, 5),
+    ];
+    let [first, second] = Edition::ALL.map(|edition| schedule_reel(edition.reel(&marks)));
+    assert_eq!(first[2], Record::new(0, 10_000, 400));
+    assert_eq!(first[1], Record::new(0, 62_500, 900));
+    assert_eq!(second[2], Record::new(1, 22_500, 900));
+    assert_eq!(second[0], Record::new(1, 62_500, 900));
 }
 
 #[test]

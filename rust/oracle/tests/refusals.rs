@@ -3,13 +3,17 @@
 
 mod common;
 
-use common::{one_part, three_parts, with_tree, OUT, WORK};
+use common::{
+    one_part, schedule_large, three_parts, with_edition, with_part_4, with_tree, EDITION, OUT, WORK,
+};
+use oracle::contents::Part;
 use oracle::map::walk;
 use oracle::mark::{write_marks, Mark};
+use oracle::rank::Edition;
 use oracle::record::{write_records, Record};
 use oracle::report::print;
-use oracle::sample::{marks, raw_sheet, refused_sheets, Shape, P1};
-use oracle::sheet::{assemble, check, join, schedule};
+use oracle::sample::{each_list, marks, raw_sheet, refused_sheets, Shape, P1};
+use oracle::sheet::{assemble, check, join, join_parts, schedule};
 use oracle::tree;
 use oracle::view::{view, Edges};
 use oracle::zoom::Zoom;
@@ -58,9 +62,10 @@ fn question_1_two_bytes_and_a_number_of_parts() {
     assert_eq!(check(&[]), 1);
     assert_eq!(check(&[1]), 1);
     assert_eq!(check(&raw(&[], 0)), 1);
-    let four = [(1, 42, 0), (2, 42, 0), (3, 42, 0), (4, 42, 0)];
-    assert_eq!(check(&raw(&four, 0)), 1);
-    assert_eq!(check(&raw(&[(9, 0, 0); 4], 0)), 1);
+    let [a, b, c, d, e] = [1, 2, 3, 4, 5].map(|code| (code, 52, 0));
+    assert_eq!(check(&raw(&[a, b, c, d, e], 0)), 1);
+    assert_eq!(check(&raw(&[(9, 0, 0); 5], 0)), 1);
+    assert_eq!(check(&raw(&[(9, 0, 0); 4], 0)), 2);
     // 257 parts, by both bytes of the number, with all of its contents.
     assert_eq!(check(&raw(&[(1, 12, 0); 257], 0)), 1);
 }
@@ -71,26 +76,85 @@ fn question_1_the_whole_contents() {
         raw(&[(1, 12, 0)], 0),
         raw(&[(1, 22, 0), (2, 22, 0)], 0),
         raw(&[(1, 32, 0), (2, 32, 0), (3, 32, 0)], 0),
+        join_parts(&[(1, &[]), (4, &[1])]),
+        join(&[&[], &[], &[], &[2]]),
     ];
     for sheet in sheets {
         assert_eq!(check(&sheet), 0);
-        for length in 0..sheet.len() {
+        let contents = 2 + 10 * usize::from(sheet[0]);
+        for length in 0..contents {
             assert_eq!(check(&sheet[..length]), 1, "{length}");
+        }
+        for length in contents..sheet.len() {
+            assert_eq!(check(&sheet[..length]), 3, "{length}");
         }
     }
     assert_eq!(check(&raw(&[(7, 0, 0), (7, 0, 0)], 0)[..21]), 1);
 }
 
+/// The number that questions 1 and 2 refuse a list of codes by, or 0, as 02 words it:
+/// "questions 1 and 2 allow four parts with codes rising within 1 to 4 [..], part 1
+/// present and part 3 only with part 2".
+fn refusal_of_codes(codes: &[u16]) -> u32 {
+    let rising = codes.windows(2).all(|pair| pair[0] < pair[1]);
+    let within = codes.iter().all(|code| [1, 2, 3, 4].contains(code));
+    let third_with_second = !codes.contains(&3) || codes.contains(&2);
+    match codes.len() {
+        0 | 5.. => 1,
+        _ if rising && within && codes.contains(&1) && third_with_second => 0,
+        _ => 2,
+    }
+}
+
+/// An empty reel's body of a part.
+fn empty_body(code: u16) -> &'static [u8] {
+    match code {
+        4 => &[2],
+        _ => &[],
+    }
+}
+
 #[test]
-fn question_2_codes_in_order() {
+fn questions_1_and_2_of_every_list_of_codes() {
+    let mut taken = Vec::new();
+    for length in 0..=5 {
+        each_list(&[0, 1, 2, 3, 4, 5], length, &mut |codes| {
+            let expected = refusal_of_codes(codes);
+            let bodies: Vec<&[u8]> = codes.iter().map(|&code| empty_body(code)).collect();
+            let parts: Vec<(u16, &[u8])> = codes.iter().copied().zip(bodies.clone()).collect();
+            let sheet = join_parts(&parts);
+            assert_eq!(check(&sheet), expected, "{codes:?}");
+            let assembled = assemble(codes, &bodies, 99);
+            match expected {
+                0 => assert_eq!(assembled, Ok(sheet)),
+                _ => assert_eq!(assembled, Err(expected), "{codes:?}"),
+            }
+            if expected == 0 {
+                taken.push(codes.to_vec());
+            }
+        });
+    }
+    let expected = [
+        &[1][..],
+        &[1, 2],
+        &[1, 4],
+        &[1, 2, 3],
+        &[1, 2, 4],
+        &[1, 2, 3, 4],
+    ];
+    assert_eq!(taken, expected);
+}
+
+#[test]
+fn question_2_codes_have_two_bytes() {
     for code in [0, 2, 257, 65_535] {
         assert_eq!(check(&raw(&[(code, 12, 0)], 0)), 2, "{code}");
+        assert_eq!(assemble(&[code], &[&[]], 99), Err(2));
     }
-    assert_eq!(check(&raw(&[(1, 22, 0), (1, 22, 0)], 0)), 2);
-    assert_eq!(check(&raw(&[(1, 22, 0), (3, 22, 0)], 0)), 2);
-    assert_eq!(check(&raw(&[(2, 22, 0), (1, 22, 0)], 0)), 2);
-    let third = [(1, 32, 0), (2, 32, 0), (4, 32, 0)];
-    assert_eq!(check(&raw(&third, 0)), 2);
+    for code in [258, 260, 1_028, 65_535] {
+        assert_eq!(check(&raw(&[(1, 22, 0), (code, 22, 0)], 0)), 2, "{code}");
+        assert_eq!(assemble(&[1, code], &[&[], &[1]], 99), Err(2));
+    }
 }
 
 #[test]
@@ -205,6 +269,85 @@ fn question_7_comes_after_6_and_before_8() {
     assert_eq!(check(&join(&[&write_marks(&P1), &part_2, &[0; 8]])), 8);
     let part_1 = write_marks(&[P1[0], LARGE_RADIUS]);
     assert_eq!(check(&join(&[&part_1, &[0; 3]])), 6);
+}
+
+/// Bodies of part 4 that question 19 refuses.
+const NO_EDITIONS: [&[u8]; 8] = [&[], &[0], &[3], &[255], &[1, 0], &[1, 1], &[2, 2], &[0; 14]];
+
+#[test]
+fn question_19_one_byte_of_1_or_2() {
+    let (part_1, part_2) = (write_marks(&P1), write_records(&p1_records()));
+    let sheets = [
+        join(&[&part_1]),
+        join(&[&part_1, &part_2]),
+        three_parts(&P1, &p1_records()),
+        join(&[&[]]),
+        join(&[&[], &[], &[]]),
+    ];
+    for sheet in sheets {
+        for byte in 0..=255 {
+            let expected = if byte == 1 || byte == 2 { 0 } else { 19 };
+            assert_eq!(check(&with_part_4(&sheet, &[byte])), expected, "{byte}");
+        }
+        for part_4 in NO_EDITIONS {
+            let named = with_part_4(&sheet, part_4);
+            assert_eq!(check(&named), 19, "{part_4:?}");
+            assert_eq!(schedule_large(&named), Err(19));
+            assert_eq!(view_all(&named), Err(19));
+            assert_eq!(print(&named), "refused 19\n");
+        }
+    }
+}
+
+#[test]
+fn question_19_comes_after_7() {
+    let part_1 = write_marks(&P1);
+    for part_4 in NO_EDITIONS {
+        let number =
+            |part_2: &[u8], part_3: &[u8]| check(&join(&[&part_1, part_2, part_3, part_4]));
+        assert_eq!(number(&[0; 55], &[0; 8]), 7);
+        assert_eq!(number(&[0; 56], &[0; 7]), 7);
+        assert_eq!(number(&[0; 56], &[0; 8]), 19);
+        let without_index =
+            |part_2: &[u8]| check(&join_parts(&[(1, &part_1), (2, part_2), (4, part_4)]));
+        assert_eq!(without_index(&[0; 57]), 7);
+        assert_eq!(without_index(&[0; 56]), 19);
+        assert_eq!(check(&with_part_4(&one_part(&[LARGE_RADIUS]), part_4)), 6);
+    }
+}
+
+#[test]
+fn question_19_comes_before_8_and_9() {
+    let (part_1, part_2) = (write_marks(&P1), write_records(&p1_records()));
+    for (records, tree, number) in [
+        (&[0; 56][..], &[0; 8][..], 8),
+        (&part_2, &[0; 8], 9),
+        (&part_2, &[0, 0, 1, 0, 3, 0, 2, 0], 0),
+    ] {
+        for part_4 in NO_EDITIONS {
+            assert_eq!(check(&join(&[&part_1, records, tree, part_4])), 19);
+        }
+        for edition in Edition::ALL {
+            let sheet = join(&[&part_1, records, tree, &edition.write()]);
+            assert_eq!(check(&sheet), number);
+        }
+    }
+}
+
+#[test]
+fn question_8_goes_by_the_edition() {
+    // Of equal priority, and the larger one has the higher number.
+    let marks = [Mark::plain(0, 0, 10, 5), Mark::plain(90, 0, 20, 5)];
+    let lower_stays = [Record::NEVER, Record::new(0, 8_100, 900)];
+    let larger_stays = [Record::new(1, 8_100, 900), Record::NEVER];
+    let numbers = |records: &[Record]| {
+        let sheet = three_parts(&marks, records);
+        let [first, second] = Edition::ALL.map(|edition| check(&with_edition(&sheet, edition)));
+        [check(&sheet), first, second]
+    };
+    assert_eq!(numbers(&lower_stays), [0, 0, 8]);
+    assert_eq!(numbers(&larger_stays), [8, 8, 0]);
+    assert_eq!(numbers(&[Record::NEVER; 2]), [0, 0, 0]);
 }
 
 #[test]
@@ -421,9 +564,12 @@ fn question_13_of_scheduling() {
     for n in [0, 1, 4] {
         let sheet = one_part(&P1[..n]);
         let (work, out) = (32 * n + 1_024, 32 + 27 * n);
-        assert_eq!(schedule(&sheet, work, out).unwrap().len(), out);
-        assert_eq!(schedule(&sheet, work - 1, out), Err(13));
-        assert_eq!(schedule(&sheet, work, out - 1), Err(13));
+        let named = with_edition(&sheet, Edition::Second);
+        for (sheet, out) in [(&sheet, out), (&named, out + EDITION)] {
+            assert_eq!(schedule(sheet, work, out).unwrap().len(), out);
+            assert_eq!(schedule(sheet, work - 1, out), Err(13));
+            assert_eq!(schedule(sheet, work, out - 1), Err(13));
+        }
     }
     assert_eq!(schedule(&one_part(&[UNKNOWN_KIND]), 0, 0), Err(5));
 }
@@ -442,46 +588,86 @@ fn scheduling_does_not_heal_a_bad_part_2_or_3() {
 }
 
 #[test]
-fn question_1_of_putting_together_is_about_the_number_only() {
-    for count in [0, 4, 257, u32::MAX] {
-        assert_eq!(assemble(count, [&[], &[], &[]], OUT), Err(1), "{count}");
-    }
-    for count in 1..=3 {
-        let sheet = assemble(count, [&[], &[], &[]], OUT).unwrap();
-        assert_eq!(sheet.len(), 2 + 10 * count as usize);
+fn question_1_of_putting_together_is_of_codes_and_bodies() {
+    let codes: [u16; 6] = [1, 2, 3, 4, 5, 6];
+    let bodies: [&[u8]; 6] = [&[], &[], &[], &[1], &[], &[]];
+    for count in 0..=6 {
+        for given in 0..=6 {
+            let assembled = assemble(&codes[..count], &bodies[..given], OUT);
+            let taken = (1..=4).contains(&count) && given >= count;
+            assert_eq!(assembled, taken.then(|| join(&bodies[..count])).ok_or(1));
+        }
     }
 }
 
 #[test]
-fn putting_together_asks_4_to_9_and_then_13() {
+fn question_1_of_putting_together_comes_before_2() {
+    for codes in [&[][..], &[0, 0, 0, 0, 0], &[4, 3, 2, 1, 0]] {
+        assert_eq!(assemble(codes, &[&[0][..]; 5], 0), Err(1));
+    }
+    assert_eq!(assemble(&[2, 1], &[&[0]], 0), Err(1));
+    assert_eq!(assemble(&[2, 1], &[&[0], &[0]], 0), Err(2));
+}
+
+#[test]
+fn putting_together_asks_2_before_4_and_4_to_9_before_13() {
     let part_1 = write_marks(&P1);
     let part_2 = write_records(&p1_records());
     let part_3 = tree::write_tree(&[0, 1, 3, 2]);
     let unknown = write_marks(&[UNKNOWN_KIND]);
     let large = write_marks(&[LARGE_RADIUS]);
-    let cases: [(u32, [&[u8]; 3], u32); 6] = [
-        (1, [&part_1[1..], &[], &[]], 4),
-        (1, [&unknown, &[], &[]], 5),
-        (1, [&large, &[], &[]], 6),
-        (3, [&part_1, &part_2, &part_3[1..]], 7),
-        (3, [&part_1, &[0; 56], &part_3], 8),
-        (3, [&part_1, &part_2, &[0; 8]], 9),
+    let (short_index, no_records) = (&part_3[1..], [0; 56]);
+    let cases: [(u32, &[Part]); 9] = [
+        (2, &[(2, &part_1[1..])]),
+        (4, &[(1, &part_1[1..])]),
+        (5, &[(1, &unknown)]),
+        (6, &[(1, &large), (4, &[0])]),
+        (
+            7,
+            &[(1, &part_1), (2, &part_2), (3, short_index), (4, &[0])],
+        ),
+        (
+            19,
+            &[(1, &part_1), (2, &no_records), (3, &part_3), (4, &[0])],
+        ),
+        (8, &[(1, &part_1), (2, &no_records), (4, &[1])]),
+        (8, &[(1, &part_1), (2, &no_records), (3, &[0; 8])]),
+        (9, &[(1, &part_1), (2, &part_2), (3, &[0; 8]), (4, &[2])]),
     ];
-    for (count, bodies, number) in cases {
-        assert_eq!(assemble(count, bodies, 0), Err(number));
+    for (number, parts) in cases {
+        let (codes, bodies): (Vec<u16>, Vec<&[u8]>) = parts.iter().copied().unzip();
+        for out in [0, OUT] {
+            assert_eq!(assemble(&codes, &bodies, out), Err(number), "{codes:?}");
+        }
     }
-    let bodies: [&[u8]; 3] = [&part_1, &part_2, &part_3];
-    assert_eq!(assemble(3, bodies, 139), Err(13));
-    assert_eq!(assemble(3, bodies, 140).unwrap(), join(&bodies));
+    let bodies: [&[u8]; 4] = [&part_1, &part_2, &part_3, &[2]];
+    for (count, length) in [(1, 56), (2, 122), (3, 140), (4, 151)] {
+        let codes = &[1, 2, 3, 4][..count];
+        assert_eq!(assemble(codes, &bodies, length - 1), Err(13));
+        assert_eq!(assemble(codes, &bodies, length), Ok(join(&bodies[..count])));
+    }
+}
+
+#[test]
+fn putting_together_takes_bodies_in_the_order_of_the_codes() {
+    let part_1 = write_marks(&P1);
+    let sheet = assemble(&[1, 4], &[&part_1, &[2]], 67).unwrap();
+    assert_eq!(sheet, with_edition(&one_part(&P1), Edition::Second));
+    assert_eq!(assemble(&[4, 1], &[&[2], &part_1], 67), Err(2));
+    // Part 4 is no part 2 though it stands second.
+    assert_eq!(assemble(&[1, 2], &[&part_1, &[2]], 67), Err(7));
 }
 
 #[test]
 fn putting_together_ignores_further_bodies() {
     let part_1 = write_marks(&P1);
-    let junk = [0xff; 5];
-    let one = assemble(1, [&part_1, &junk, &junk], 56).unwrap();
-    assert_eq!(one, one_part(&P1));
-    assert_eq!(assemble(2, [&part_1, &junk, &junk], OUT), Err(7));
+    let junk: &[u8] = &[0xff; 5];
+    for further in 0..9 {
+        let bodies = [vec![part_1.as_slice()], vec![junk; further]].concat();
+        assert_eq!(assemble(&[1], &bodies, 56), Ok(one_part(&P1)));
+    }
+    assert_eq!(assemble(&[1, 2], &[&part_1, junk, junk], OUT), Err(7));
+    assert_eq!(assemble(&[1, 4], &[&part_1, junk, junk], OUT), Err(19));
 }
 
 #[test]

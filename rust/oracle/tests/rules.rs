@@ -3,13 +3,20 @@
 use oracle::fraction::{Fraction, Removal};
 use oracle::mark::{touching_value, Mark};
 use oracle::process::schedule_by_process;
+use oracle::rank::Edition::{self, First, Second};
+use oracle::rank::Reel;
 use oracle::record::removals;
 use oracle::rules::{keep_both, Breach};
 use oracle::sample::{each_list, marks, Shape, P1};
 
 /// The removal values the process gives.
-fn list_of(marks: &[Mark]) -> Vec<Removal> {
-    removals(&schedule_by_process(marks))
+fn list_of(reel: Reel) -> Vec<Removal> {
+    removals(&schedule_by_process(reel))
+}
+
+/// The marks in both editions.
+fn reels(marks: &[Mark]) -> [Reel<'_>; 2] {
+    Edition::ALL.map(|edition| edition.reel(marks))
 }
 
 fn at(numerator: u64, denominator: u32) -> Removal {
@@ -28,7 +35,9 @@ fn the_process_keeps_both_rules() {
     for shape in Shape::ALL {
         for seed in 0..100 {
             let marks = marks(shape, seed as usize % 15, seed);
-            assert_eq!(keep_both(&marks, &list_of(&marks)), Ok(()), "{marks:?}");
+            for reel in reels(&marks) {
+                assert_eq!(keep_both(reel, &list_of(reel)), Ok(()), "{reel:?}");
+            }
         }
     }
 }
@@ -36,10 +45,13 @@ fn the_process_keeps_both_rules() {
 #[test]
 fn the_rules_are_about_values_and_not_about_how_they_are_written() {
     let written_otherwise = [Removal::Never, at(25, 1), at(700, 7), at(1, 25)];
-    assert_eq!(keep_both(&P1, &written_otherwise), Ok(()));
+    assert_eq!(keep_both(First.reel(&P1), &written_otherwise), Ok(()));
     let hair = u64::MAX / u64::from(u32::MAX) * 25;
     let nearly = [Removal::Never, at(hair, u32::MAX), at(100, 1), at(1, 25)];
-    assert_eq!(keep_both(&P1, &nearly), Err(Breach::First(0, 1)));
+    assert_eq!(
+        keep_both(First.reel(&P1), &nearly),
+        Err(Breach::First(0, 1))
+    );
 }
 
 #[test]
@@ -47,13 +59,15 @@ fn a_list_with_one_changed_value_breaks_a_rule() {
     for shape in Shape::ALL {
         for seed in 0..20 {
             let marks = marks(shape, 2 + seed as usize % 5, seed);
-            let ours = list_of(&marks);
-            for mark in 0..marks.len() {
-                for other in candidates(&marks) {
-                    let mut list = ours.clone();
-                    list[mark] = other;
-                    let kept = keep_both(&marks, &list).is_ok();
-                    assert_eq!(kept, other.equals(ours[mark]), "{marks:?} {list:?}");
+            for reel in reels(&marks) {
+                let ours = list_of(reel);
+                for mark in 0..marks.len() {
+                    for other in candidates(&marks) {
+                        let mut list = ours.clone();
+                        list[mark] = other;
+                        let kept = keep_both(reel, &list).is_ok();
+                        assert_eq!(kept, other.equals(ours[mark]), "{reel:?} {list:?}");
+                    }
                 }
             }
         }
@@ -64,7 +78,8 @@ fn a_list_with_one_changed_value_breaks_a_rule() {
 fn a_value_a_hair_earlier_or_later_breaks_a_rule() {
     for seed in 0..50 {
         let marks = marks(Shape::Uniform, 6, seed);
-        let ours = list_of(&marks);
+        let reel = First.reel(&marks);
+        let ours = list_of(reel);
         for mark in 0..marks.len() {
             let Removal::At(value) = ours[mark] else {
                 continue;
@@ -72,9 +87,9 @@ fn a_value_a_hair_earlier_or_later_breaks_a_rule() {
             let (twice, denominator) = (2 * value.numerator, 2 * value.denominator);
             let mut list = ours.clone();
             list[mark] = at(twice + 1, denominator);
-            assert!(matches!(keep_both(&marks, &list), Err(Breach::First(..))));
+            assert!(matches!(keep_both(reel, &list), Err(Breach::First(..))));
             list[mark] = at(twice - 1, denominator);
-            assert_eq!(keep_both(&marks, &list), Err(Breach::Second(mark)));
+            assert_eq!(keep_both(reel, &list), Err(Breach::Second(mark)));
         }
     }
 }
@@ -84,11 +99,13 @@ fn only_lists_equal_to_ours_keep_both_rules() {
     for shape in [Shape::Grid, Shape::Uniform, Shape::Extreme, Shape::OnePlace] {
         for seed in 0..6 {
             let marks = marks(shape, 4, seed);
-            let ours = list_of(&marks);
-            each_list(&candidates(&marks), 4, &mut |list| {
-                let equal = list.iter().zip(&ours).all(|(one, own)| one.equals(*own));
-                assert_eq!(keep_both(&marks, list).is_ok(), equal, "{marks:?} {list:?}");
-            });
+            for reel in reels(&marks) {
+                let ours = list_of(reel);
+                each_list(&candidates(&marks), 4, &mut |list| {
+                    let equal = list.iter().zip(&ours).all(|(one, own)| one.equals(*own));
+                    assert_eq!(keep_both(reel, list).is_ok(), equal, "{reel:?} {list:?}");
+                });
+            }
         }
     }
 }
@@ -96,21 +113,36 @@ fn only_lists_equal_to_ours_keep_both_rules() {
 #[test]
 fn hollow_lists_break_the_rule_that_shuts_them_out() {
     let nobody = [Removal::Never; 4];
-    assert_eq!(keep_both(&P1, &nobody), Err(Breach::First(0, 1)));
+    assert_eq!(
+        keep_both(First.reel(&P1), &nobody),
+        Err(Breach::First(0, 1))
+    );
     let all_at_0 = [at(0, 1); 4];
-    assert_eq!(keep_both(&P1, &all_at_0), Err(Breach::Second(0)));
+    assert_eq!(
+        keep_both(First.reel(&P1), &all_at_0),
+        Err(Breach::Second(0))
+    );
     let all_but_one_at_0 = [Removal::Never, at(0, 1), at(0, 1), at(0, 1)];
-    assert_eq!(keep_both(&P1, &all_but_one_at_0), Err(Breach::Second(1)));
+    assert_eq!(
+        keep_both(First.reel(&P1), &all_but_one_at_0),
+        Err(Breach::Second(1))
+    );
     let swept_once = [Removal::Never, Removal::Never, Removal::Never, at(9, 225)];
-    assert_eq!(keep_both(&P1, &swept_once), Err(Breach::First(0, 1)));
+    assert_eq!(
+        keep_both(First.reel(&P1), &swept_once),
+        Err(Breach::First(0, 1))
+    );
 }
 
 #[test]
 fn later_in_the_first_rule_is_strict() {
     let two = [Mark::plain(0, 0, 1, 5), Mark::plain(2, 0, 1, 5)];
-    assert_eq!(keep_both(&two, &[Removal::Never, at(1, 1)]), Ok(()));
     assert_eq!(
-        keep_both(&two, &[Removal::Never, at(5, 4)]),
+        keep_both(First.reel(&two), &[Removal::Never, at(1, 1)]),
+        Ok(())
+    );
+    assert_eq!(
+        keep_both(First.reel(&two), &[Removal::Never, at(5, 4)]),
         Err(Breach::First(0, 1))
     );
 }
@@ -119,26 +151,43 @@ fn later_in_the_first_rule_is_strict() {
 fn the_second_rule_asks_for_a_higher_ranked_mark() {
     let two = [Mark::plain(0, 0, 1, 5), Mark::plain(2, 0, 1, 5)];
     assert_eq!(
-        keep_both(&two, &[at(1, 1), Removal::Never]),
+        keep_both(First.reel(&two), &[at(1, 1), Removal::Never]),
         Err(Breach::Second(0))
     );
 }
 
 #[test]
+fn a_list_is_held_to_the_ranks_of_the_edition() {
+    // Of equal priority, and the larger one has the higher number.
+    let two = [Mark::plain(0, 0, 1, 5), Mark::plain(6, 0, 2, 5)];
+    let [lower_stays, larger_stays] = [[Removal::Never, at(4, 1)], [at(4, 1), Removal::Never]];
+    assert_eq!(keep_both(First.reel(&two), &lower_stays), Ok(()));
+    assert_eq!(keep_both(Second.reel(&two), &larger_stays), Ok(()));
+    assert_eq!(
+        keep_both(First.reel(&two), &larger_stays),
+        Err(Breach::Second(0))
+    );
+    assert_eq!(
+        keep_both(Second.reel(&two), &lower_stays),
+        Err(Breach::Second(1))
+    );
+}
+
+#[test]
 fn never_is_not_a_removal_at_some_large_value() {
-    let mut list = list_of(&P1);
+    let mut list = list_of(First.reel(&P1));
     list[0] = at(u64::MAX, 1);
-    assert_eq!(keep_both(&P1, &list), Err(Breach::Second(0)));
+    assert_eq!(keep_both(First.reel(&P1), &list), Err(Breach::Second(0)));
 }
 
 #[test]
 fn a_list_has_one_entry_a_mark_and_no_denominator_0() {
-    let ours = list_of(&P1);
-    assert_eq!(keep_both(&P1, &ours[..3]), Err(Breach::NoList));
+    let ours = list_of(First.reel(&P1));
+    assert_eq!(keep_both(First.reel(&P1), &ours[..3]), Err(Breach::NoList));
     let longer = [ours.clone(), vec![Removal::Never]].concat();
-    assert_eq!(keep_both(&P1, &longer), Err(Breach::NoList));
+    assert_eq!(keep_both(First.reel(&P1), &longer), Err(Breach::NoList));
     let mut zero = ours;
     zero[3] = at(9, 0);
-    assert_eq!(keep_both(&P1, &zero), Err(Breach::NoList));
-    assert_eq!(keep_both(&[], &[]), Ok(()));
+    assert_eq!(keep_both(First.reel(&P1), &zero), Err(Breach::NoList));
+    assert_eq!(keep_both(First.reel(&[]), &[]), Ok(()));
 }

@@ -4,15 +4,19 @@ mod common;
 
 use std::collections::BTreeSet;
 
-use common::{one_part, scheduled, three_parts, OUT, WORK};
+use common::{
+    one_part, schedule_large, scheduled, scheduled_by, three_parts, with_edition, EDITION, OUT,
+    WORK,
+};
 use oracle::map::{is_set, walk, NO_MARK};
 use oracle::mark::{write_marks, Mark};
 use oracle::process::schedule_by_process;
+use oracle::rank::Edition;
 use oracle::record::{removals, Record};
 use oracle::report::print;
 use oracle::rules::keep_both;
 use oracle::sample::{marks, Generator, Shape};
-use oracle::sheet::{assemble, check, join, open, part_extent, schedule, split};
+use oracle::sheet::{assemble, check, join, join_parts, open, part_extent, schedule, split};
 use oracle::tree;
 use oracle::view::{reaches, view, Edges};
 use oracle::zoom::{lives, zoom_in_64ths, Zoom};
@@ -29,9 +33,14 @@ fn each_sample(mut visit: impl FnMut(&[Mark])) {
     }
 }
 
-/// Schedules with buffers that are long enough for any sheet.
-fn schedule_large(sheet: &[u8]) -> Result<Vec<u8>, u32> {
-    schedule(sheet, WORK, OUT)
+/// A sample with many equal priorities and radii, written or of the house.
+fn with_ties(marks: &[Mark]) -> Vec<Mark> {
+    let tied = |mark: &Mark| Mark {
+        priority: mark.priority & 1,
+        radius: mark.radius & 64,
+        ..*mark
+    };
+    marks.iter().map(tied).collect()
 }
 
 #[test]
@@ -42,8 +51,9 @@ fn scheduling_writes_an_accepted_sheet_with_the_marks_unchanged() {
         let opened = open(&sheet).unwrap();
         assert_eq!(opened.bodies.get(1), Some(write_marks(marks).as_slice()));
         let records = opened.records.unwrap();
-        assert_eq!(records, schedule_by_process(marks));
-        assert_eq!(keep_both(marks, &removals(&records)), Ok(()));
+        let reel = Edition::First.reel(marks);
+        assert_eq!(records, schedule_by_process(reel));
+        assert_eq!(keep_both(reel, &removals(&records)), Ok(()));
     });
 }
 
@@ -54,25 +64,71 @@ fn scheduling_replaces_what_schedule_there_is() {
         assert_eq!(schedule_large(&sheet).unwrap(), sheet);
         let records = vec![Record::NEVER; marks.len()];
         let foreign = three_parts(marks, &records);
-        let bodies = split(&foreign).unwrap().present();
-        assert_eq!(schedule_large(&join(&bodies[..2])).unwrap(), sheet);
+        let parts = split(&foreign).unwrap().present();
+        assert_eq!(schedule_large(&join_parts(&parts[..2])).unwrap(), sheet);
         assert_eq!(schedule_large(&foreign).unwrap(), sheet);
         assert_eq!(print(&foreign), print(&sheet));
     });
 }
 
 #[test]
+fn scheduling_goes_by_the_edition_of_part_4_and_keeps_it() {
+    each_sample(|marks| {
+        let marks = with_ties(marks);
+        for edition in Edition::ALL {
+            let sheet = scheduled_by(edition, &marks);
+            assert_eq!(sheet.len(), 32 + 27 * marks.len() + 11);
+            let opened = open(&sheet).unwrap();
+            let codes = opened.bodies.present().into_iter().map(|(code, _)| code);
+            assert!(codes.eq([1, 2, 3, 4]));
+            assert_eq!(opened.edition, edition);
+            let (reel, records) = (opened.reel(), opened.records.as_deref().unwrap());
+            assert_eq!(records, schedule_by_process(reel));
+            assert_eq!(keep_both(reel, &removals(records)), Ok(()));
+            assert_eq!(schedule_large(&sheet), Ok(sheet));
+        }
+    });
+}
+
+#[test]
+fn without_part_4_all_is_as_in_the_first_edition() {
+    each_sample(|marks| {
+        let marks = with_ties(marks);
+        let (bare, named) = (
+            one_part(&marks),
+            with_edition(&one_part(&marks), Edition::First),
+        );
+        let [three, four] = [&bare, &named].map(|sheet| schedule_large(sheet).unwrap());
+        assert_eq!(four, with_edition(&three, Edition::First));
+        assert_eq!(print(&bare), print(&named));
+        for stop in 0..=16 {
+            let view = |sheet| view(sheet, Edges::WHOLE, Zoom::Stop(stop), 512);
+            assert_eq!(view(&three), view(&four));
+        }
+    });
+}
+
+#[test]
 fn putting_the_bodies_of_a_sheet_together_gives_the_sheet() {
     each_sample(|marks| {
-        let sheet = scheduled(marks);
-        let bodies: [&[u8]; 3] = split(&sheet).unwrap().present().try_into().unwrap();
-        for count in 1..=3_usize {
-            let expected = join(&bodies[..count]);
+        let sheet = scheduled_by(Edition::First, marks);
+        let bodies = split(&sheet).unwrap();
+        for codes in [
+            &[1][..],
+            &[1, 2],
+            &[1, 4],
+            &[1, 2, 3],
+            &[1, 2, 4],
+            &[1, 2, 3, 4],
+        ] {
+            let parts = codes.iter().map(|&code| bodies.get(code.into()).unwrap());
+            let parts: Vec<&[u8]> = parts.collect();
+            let expected =
+                join_parts(&codes.iter().copied().zip(parts.clone()).collect::<Vec<_>>());
             let length = expected.len();
-            assert_eq!(assemble(count as u32, bodies, length), Ok(expected));
-            assert_eq!(assemble(count as u32, bodies, length - 1), Err(13));
+            assert_eq!(assemble(codes, &parts, length), Ok(expected));
+            assert_eq!(assemble(codes, &parts, length - 1), Err(13));
         }
-        assert_eq!(join(&bodies), sheet);
     });
 }
 
@@ -164,30 +220,41 @@ fn a_view_uses_the_schedule_as_the_sheet_has_it() {
 #[test]
 fn parts_are_found_in_accepted_sheets_only() {
     let mut sheet = scheduled(&marks(Shape::Grid, 4, 1));
-    let extents = |sheet: &[u8]| [0, 1, 2, 3, 4].map(|code| part_extent(sheet, code));
-    let all = [(0, 0), (32, 44), (76, 56), (132, 8), (0, 0)];
+    let extents = |sheet: &[u8]| [0, 1, 2, 3, 4, 5].map(|code| part_extent(sheet, code));
+    let all = [(0, 0), (32, 44), (76, 56), (132, 8), (0, 0), (0, 0)];
     assert_eq!(extents(&sheet), all);
     assert_eq!(part_extent(&sheet, 65_537), (0, 0));
-    let empty = [(0, 0), (22, 0), (22, 0), (0, 0), (0, 0)];
+    let named = with_edition(&sheet, Edition::Second);
+    let all = [(0, 0), (42, 44), (86, 56), (142, 8), (150, 1), (0, 0)];
+    assert_eq!(extents(&named), all);
+    assert_eq!(part_extent(&named, 65_540), (0, 0));
+    let empty = [(0, 0), (22, 0), (22, 0), (0, 0), (0, 0), (0, 0)];
     assert_eq!(extents(&join(&[&[], &[]])), empty);
+    let no_schedule = [(0, 0), (22, 0), (0, 0), (0, 0), (22, 1), (0, 0)];
+    assert_eq!(extents(&join_parts(&[(1, &[]), (4, &[1])])), no_schedule);
     sheet.push(0);
-    assert_eq!(extents(&sheet), [(0, 0); 5]);
+    assert_eq!(extents(&sheet), [(0, 0); 6]);
 }
 
-/// A sheet of up to three parts with a byte too many in a body, some bytes
+/// A sheet of up to four parts with a byte too many in a body, some bytes
 /// changed, some missing at the end, or as it should be.
 fn changed_sheet(generator: &mut Generator) -> Vec<u8> {
     let shape = generator.choose(&Shape::ALL);
     let n = generator.below(6) as usize;
-    let whole = scheduled(&marks(shape, n, generator.draw()));
-    let mut bodies = split(&whole).unwrap().present();
-    bodies.truncate(1 + generator.below(3) as usize);
-    let longer = [generator.choose(&bodies), &[0]].concat();
-    if generator.below(10) == 0 {
-        let at = generator.below(bodies.len() as u32) as usize;
-        bodies[at] = &longer;
+    let edition = generator.choose(&Edition::ALL);
+    let whole = scheduled_by(edition, &marks(shape, n, generator.draw()));
+    let mut parts = split(&whole).unwrap().present();
+    for code in [4, 3, 2] {
+        if generator.below(3) == 0 {
+            parts.retain(|&(other, _)| other != code && (code != 2 || other != 3));
+        }
     }
-    let mut sheet = join(&bodies);
+    let at = generator.below(parts.len() as u32) as usize;
+    let longer = [parts[at].1, &[0]].concat();
+    if generator.below(10) == 0 {
+        parts[at].1 = &longer;
+    }
+    let mut sheet = join_parts(&parts);
     for _ in 0..generator.below(3) {
         let at = generator.below(sheet.len() as u32) as usize;
         sheet[at] = generator.choose(&[0, 1, 2, 3, 200, 255]);
@@ -200,17 +267,16 @@ fn changed_sheet(generator: &mut Generator) -> Vec<u8> {
 
 /// Puts the bodies of a sheet that passes questions 1 to 3 together again.
 fn assemble_again(sheet: &[u8]) -> Result<Vec<u8>, u32> {
-    let bodies = split(sheet).unwrap().present();
-    let mut all: [&[u8]; 3] = [&[], &[], &[]];
-    all[..bodies.len()].copy_from_slice(&bodies);
-    assemble(bodies.len() as u32, all, sheet.len())
+    let parts = split(sheet).unwrap().present();
+    let (codes, bodies): (Vec<u16>, Vec<&[u8]>) = parts.into_iter().unzip();
+    assemble(&codes, &bodies, sheet.len())
 }
 
 #[test]
 fn all_jobs_refuse_a_changed_sheet_by_the_number_that_checking_gives() {
     let mut generator = Generator::new(1);
     let mut numbers = BTreeSet::new();
-    for _ in 0..4_000 {
+    for _ in 0..6_000 {
         let sheet = changed_sheet(&mut generator);
         let number = check(&sheet);
         numbers.insert(number);
@@ -227,7 +293,7 @@ fn all_jobs_refuse_a_changed_sheet_by_the_number_that_checking_gives() {
             assert_eq!(assemble_again(&sheet), Err(number));
         }
     }
-    assert_eq!(numbers, BTreeSet::from_iter(0..=9));
+    assert_eq!(numbers, BTreeSet::from_iter((0..=9).chain([19])));
 }
 
 #[test]
@@ -237,6 +303,9 @@ fn the_largest_sheet_is_scheduled() {
     assert_eq!(sheet.len(), 110_624);
     let (_, count) = view(&sheet, Edges::WHOLE, Zoom::Stop(0), 512).unwrap();
     assert_eq!(count, 1);
+    let named = with_edition(&sheet, Edition::First);
+    assert_eq!(schedule(&named, WORK, OUT + EDITION), Ok(named.clone()));
+    assert_eq!(schedule(&named, WORK, OUT + EDITION - 1), Err(13));
 }
 
 #[test]
