@@ -5,30 +5,39 @@
  * memset. All calls answer by value; nothing is allocated or kept, there is no state, and
  * any thread may call at any time. A call takes less than 8 KiB of stack.
  *
- * A sheet is bytes: contents, then up to three parts, as docs/FORMAT.md has them. Part 1
+ * A sheet is bytes: contents, then up to four parts, as docs/FORMAT.md has them. Part 1
  * has 11 bytes a mark, so that the number n of a sheet's marks is the length of part 1
  * over 11 (rollmap_part tells it).
+ *
+ * A mark ranks higher than another if its priority is higher. Between equal priorities the
+ * edition of the marking handbook decides, which part 4 names: in the first, the lower
+ * number ranks higher; in the second, the larger radius, that of the kind where 0 is
+ * written, and then the lower number. Without part 4 the first edition holds. Whatever goes
+ * by rank goes by the sheet's own edition.
  *
  * A buffer is a pointer and its length in bytes. It needs no alignment. What the caller
  * answers for, since no call can see it:
  *   - There are that many bytes at the pointer, and those of a buffer that is only read
- *     are initialised. The pointer is not null, not even where the length is 0; only a
- *     body that rollmap_assemble ignores may be a null pointer with length 0.
+ *     are initialised. The pointer is not null, not even where the length is 0.
  *   - A buffer that is written (work, out, map) overlaps no other buffer of the call.
  *   - While a call runs, no other thread writes any of its buffers, and none reads those
  *     that are written. Any number of calls may read the same bytes at a time.
+ *   - All this holds of the codes, rows and bodies that rollmap_assemble reads, too; codes
+ *     and rows are aligned as their types ask, and their lengths count elements.
  *
  * Every call puts its questions in turn. The first that is answered with no gives its
  * number, and then the call has written nothing: look at the number before the value.
  *
- *    1  there are 2 bytes, 1 to 3 parts, and the whole contents
- *    2  the codes are 1, 2, .. in order
+ *    1  there are 2 bytes, 1 to 4 parts, and the whole contents
+ *    2  the codes rise within 1 to 4, part 1 is there, and part 3 only with part 2
  *    3  the first body starts right after the contents, each next one where the last
  *       ended, and the last ends with the sheet
  *    4  part 1 is a multiple of 11 and at most 45,056 bytes (4,096 marks)
  *    5  mark by mark, before its radius: the kind is below 200
  *    6  the radius is at most 16,383
  *    7  parts 2 and 3, if present, are 14n and 2n bytes for n marks
+ *   19  part 4, if present, is one byte of 1 or 2; this is asked between 7 and 8, wherever
+ *       these are
  *    8  each schedule record is the 'never' record, or names a higher-ranked mark with
  *       their touching value as its two unreduced numbers, and that one is removed later
  *    9  part 3 is the tree that parts 1 and 2 give
@@ -78,6 +87,17 @@ extern "C" {
 #define ROLLMAP_REFUSED_PLACE 16u
 #define ROLLMAP_REFUSED_MISSING 17u
 #define ROLLMAP_REFUSED_FULL 18u
+#define ROLLMAP_REFUSED_EDITION 19u
+
+/* The codes of a sheet's parts. More may come. */
+#define ROLLMAP_CODE_MARKS 1u
+#define ROLLMAP_CODE_SCHEDULE 2u
+#define ROLLMAP_CODE_INDEX 3u
+#define ROLLMAP_CODE_EDITION 4u
+
+/* What the one byte of part 4 says. */
+#define ROLLMAP_EDITION_FIRST 1u
+#define ROLLMAP_EDITION_SECOND 2u
 
 /* The most marks of a sheet. */
 #define ROLLMAP_MOST_MARKS 4096u
@@ -97,10 +117,13 @@ extern "C" {
    where its mark is never removed. */
 #define ROLLMAP_NO_MARK 65535u
 
-/* Bytes that scheduling n marks needs: of work, and of out. Adding a mark and taking one
-   out need those of the new number of marks. */
+/* Bytes that scheduling n marks needs: of work, and of out, which has more where the sheet
+   has a part 4. Adding a mark and taking one out need those of the new number of marks. */
 #define ROLLMAP_WORK_BYTES(n) ((size_t)32 * (n) + 1024)
 #define ROLLMAP_SCHEDULED_BYTES(n) ((size_t)27 * (n) + 32)
+
+/* Bytes that part 4 adds to a sheet: 10 of contents, and its body. */
+#define ROLLMAP_EDITION_BYTES 11u
 
 /* Bytes of the map of n marks. */
 #define ROLLMAP_MAP_BYTES(n) (((size_t)(n) + 7) / 8)
@@ -118,27 +141,34 @@ struct rollmap_extent {
     uint32_t length;
 };
 
+/* The body of a part, as a row that rollmap_assemble reads. */
+struct rollmap_body {
+    const uint8_t *bytes;
+    size_t length;
+};
+
 /* Checks a sheet. The value is 0. Asks 1 to 9. */
 struct rollmap_answer rollmap_check(const uint8_t *sheet, size_t sheet_length);
 
-/* Schedules a sheet of n marks afresh, whatever schedule it has: writes the sheet of
-   three parts to out, and leaves what follows there as it is. The value is the number of
-   bytes written, 32 + 27n. work has at least 32n + 1,024 bytes, which hold anything
-   before the call and anything after a success. Asks 1 to 9, and 13 of work and out. */
+/* Schedules a sheet of n marks afresh by its own edition, whatever schedule it has: writes
+   the sheet of parts 1 to 3, and of part 4 as it was where it is there, to out, and leaves
+   what follows there as it is. The value is the number of bytes written, 32 + 27n, and 11
+   more with part 4. work has at least 32n + 1,024 bytes, which hold anything before the
+   call and anything after a success. Asks 1 to 9, and 13 of work and out. */
 struct rollmap_answer rollmap_schedule(const uint8_t *sheet, size_t sheet_length,
                                        uint8_t *work, size_t work_length,
                                        uint8_t *out, size_t out_length);
 
-/* Adds a mark to a sheet of three parts, or takes mark m out of it, and schedules the new
-   marks afresh, whatever schedule the sheet has. A new mark is given by its six fields, as
-   part 1 has them, and stands at the end: its number is the old number of marks. Where mark
-   m is taken out, higher numbers drop by one; the only mark of a sheet may go, too. What is
-   written to out is the sheet that rollmap_schedule writes for the new marks, and what
-   follows there stays as it is. The value is the number of bytes written, 32 + 27n for the
-   new number n of marks. work has at least 32n + 1,024 bytes for that n, which hold anything
-   before the call and anything after a success. Where a mark is added to a sheet that
-   rollmap_schedule or one of these calls wrote, and that mark is taken out again, the old
-   bytes come back.
+/* Adds a mark to a sheet with parts 2 and 3, or takes mark m out of it, and schedules the
+   new marks afresh, whatever schedule the sheet has. A new mark is given by its six fields,
+   as part 1 has them, and stands at the end: its number is the old number of marks. Where
+   mark m is taken out, higher numbers drop by one; the only mark of a sheet may go, too.
+   What is written to out is the sheet that rollmap_schedule writes for the new marks and
+   the old part 4, if it is there, and what follows there stays as it is. The value is the
+   number of bytes written, 32 + 27n for the new number n of marks, and 11 more with part 4.
+   work has at least 32n + 1,024 bytes for that n, which hold anything before the call and
+   anything after a success. Where a mark is added to a sheet that rollmap_schedule or one
+   of these calls wrote, and that mark is taken out again, the old bytes come back.
 
    Adding asks 1 to 10 of the sheet, 18, 5 and 6 of the new mark, and 13 of work and out.
    Taking out asks 1 to 10 of the sheet, 17 of m, of which all 32 bits count, and 13 of work
@@ -152,14 +182,19 @@ struct rollmap_answer rollmap_take_out(const uint8_t *sheet, size_t sheet_length
                                        uint8_t *work, size_t work_length,
                                        uint8_t *out, size_t out_length);
 
-/* Puts the first `parts` bodies (1 the marks, 2 the schedule, 3 the index) together into
-   a sheet in out, and leaves what follows there as it is. Further bodies are ignored, and
-   may be null with length 0. The value is the number of bytes written: 2, 10 for each
-   part, and the bodies. Asks 1 (of the number of parts only), 4 to 9, and 13 of out. */
-struct rollmap_answer rollmap_assemble(uint32_t parts,
-                                       const uint8_t *body1, size_t body1_length,
-                                       const uint8_t *body2, size_t body2_length,
-                                       const uint8_t *body3, size_t body3_length,
+/* Puts parts together into a sheet in out, and leaves what follows there as it is: the
+   first row is the body of the part of the first code, and so on. Further rows than codes
+   are ignored, whatever their bodies hold. Both lengths count elements. The value is the
+   number of bytes written: 2, 10 for each part, and the bodies.
+
+   No pointer is null, those in the rows included, also in the ignored ones and where a
+   length is 0. out overlaps neither the bodies nor the rows nor the codes, and none of
+   these changes while the call runs.
+
+   Asks 1 (there are 1 to 4 codes, and not fewer rows than codes), 2 of the codes, 4 to 9 of
+   the bodies, and 13 of out. */
+struct rollmap_answer rollmap_assemble(const uint16_t *codes, size_t codes_length,
+                                       const struct rollmap_body *bodies, size_t bodies_length,
                                        uint8_t *out, size_t out_length);
 
 /* Fills marks (11 bytes each, as in part 1): writes the same marks to out, each radius 0
@@ -172,7 +207,7 @@ struct rollmap_answer rollmap_assemble(uint32_t parts,
    A sheet that was scheduled when patches had 120 may now be refused by 8, and then has
    no parts. Its owner takes part 1 by the contents (offset and length are the numbers of
    4 bytes at 4 and 8 of the sheet, once 1 to 3 are answered with yes), fills it and puts
-   it together afresh: rollmap_assemble of one part. */
+   it together afresh: rollmap_assemble of code 1 alone. */
 struct rollmap_answer rollmap_fill(const uint8_t *marks, size_t marks_length,
                                    uint8_t *out, size_t out_length);
 
@@ -223,8 +258,8 @@ struct rollmap_answer rollmap_walk(const uint8_t *map, size_t map_length,
 struct rollmap_answer rollmap_is_shown(const uint8_t *map, size_t map_length,
                                        uint32_t n, uint32_t m);
 
-/* Where the part of that code (1 the marks, 2 the schedule, 3 the index) stands in an
-   accepted sheet. Both numbers are 0 where there is no such part or the sheet is refused;
+/* Where the part of that code (1 the marks, 2 the schedule, 3 the index, 4 the edition)
+   stands in an accepted sheet. Both numbers are 0 where there is no such part or the sheet is refused;
    a part that is there has an offset above 0, and may be empty. */
 struct rollmap_extent rollmap_part(const uint8_t *sheet, size_t sheet_length, uint32_t code);
 

@@ -5,9 +5,10 @@ use crate::{ffi, mark_count, Mark, Refusal, Work};
 
 /// Adds a mark at the end of a sheet's marks, where its number is the old number of
 /// marks, and schedules the new marks afresh into `out`: the sheet written is the one
-/// that [`schedule`](crate::schedule) writes for them. Answers the number of bytes
-/// written, [`scheduled_bytes`](crate::scheduled_bytes) of the new number of marks; bytes
-/// past these stay as they are. `work` is as long as scheduling that many marks asks for.
+/// that [`schedule`](crate::schedule) writes for them, with the sheet's part 4, if it has
+/// one. Answers the number of bytes written, which goes by the new number of marks as it
+/// does there; bytes past these stay as they are. `work` is as long as scheduling that many
+/// marks asks for.
 ///
 /// # Errors
 ///
@@ -32,9 +33,10 @@ pub fn add_to_vec(sheet: &[u8], mark: Mark) -> Result<Vec<u8>, Refusal> {
 
 /// Takes mark `m` out of a sheet's marks, so that each higher number becomes one less, and
 /// schedules the others afresh into `out`: the sheet written is the one that
-/// [`schedule`](crate::schedule) writes for them. Answers the number of bytes written,
-/// [`scheduled_bytes`](crate::scheduled_bytes) of the new number of marks; bytes past
-/// these stay as they are. `work` is as long as scheduling that many marks asks for.
+/// [`schedule`](crate::schedule) writes for them, with the sheet's part 4, if it has one.
+/// Answers the number of bytes written, which goes by the new number of marks as it does
+/// there; bytes past these stay as they are. `work` is as long as scheduling that many
+/// marks asks for.
 ///
 /// Where a mark is added to a sheet that this library scheduled, and that mark is taken
 /// out again, the old bytes come back.

@@ -9,7 +9,7 @@
 
 #![allow(unsafe_code)]
 
-use crate::{Mark, View, Zoom};
+use crate::{Code, Mark, View, Zoom};
 
 /// What a call answers: 0 or the refusing question's number, and a value.
 #[derive(Clone, Copy)]
@@ -25,6 +25,23 @@ pub(crate) struct Answer {
 pub(crate) struct Extent {
     pub(crate) offset: u32,
     pub(crate) length: u32,
+}
+
+/// The body of a part: where it is, and its length.
+#[derive(Clone, Copy)]
+#[repr(C)]
+struct Body {
+    bytes: *const u8,
+    length: usize,
+}
+
+impl Body {
+    const fn of(body: &[u8]) -> Self {
+        Self {
+            bytes: body.as_ptr(),
+            length: body.len(),
+        }
+    }
 }
 
 extern "C" {
@@ -65,13 +82,10 @@ extern "C" {
     ) -> Answer;
 
     fn rollmap_assemble(
-        parts: u32,
-        body1: *const u8,
-        body1_length: usize,
-        body2: *const u8,
-        body2_length: usize,
-        body3: *const u8,
-        body3_length: usize,
+        codes: *const u16,
+        codes_length: usize,
+        bodies: *const Body,
+        bodies_length: usize,
         out: *mut u8,
         out_length: usize,
     ) -> Answer;
@@ -182,18 +196,25 @@ pub(crate) fn take_out(sheet: &[u8], m: u32, work: &mut [u8], out: &mut [u8]) ->
     }
 }
 
-pub(crate) fn assemble(parts: u32, bodies: [&[u8]; 3], out: &mut [u8]) -> Answer {
-    let [body1, body2, body3] = bodies;
-    // SAFETY: pointers and lengths are slices' (see the top of this file).
+/// Rows for one more part than a sheet has: so many are refused as any more would be.
+const ROWS: usize = Code::ALL.len() + 1;
+
+pub(crate) fn assemble(parts: &[(Code, &[u8])], out: &mut [u8]) -> Answer {
+    let mut codes = [0; ROWS];
+    let mut bodies = [Body::of(&[]); ROWS];
+    let count = parts.len().min(ROWS);
+    for (row, &(code, body)) in parts[..count].iter().enumerate() {
+        codes[row] = code.number();
+        bodies[row] = Body::of(body);
+    }
+    // SAFETY: pointers and lengths are slices', those in the first `count` rows too (see
+    // the top of this file); there are as many codes and rows, on this stack.
     unsafe {
         rollmap_assemble(
-            parts,
-            body1.as_ptr(),
-            body1.len(),
-            body2.as_ptr(),
-            body2.len(),
-            body3.as_ptr(),
-            body3.len(),
+            codes.as_ptr(),
+            count,
+            bodies.as_ptr(),
+            count,
             out.as_mut_ptr(),
             out.len(),
         )

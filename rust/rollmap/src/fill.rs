@@ -1,8 +1,8 @@
 //! Filling marks, and rescuing a sheet that was scheduled by the old house radii.
 
-use crate::{assemble, check, contents_bytes, ffi, Refusal};
+use crate::{assemble_to_vec, check, ffi, Code, Refusal};
 
-/// Where the contents have the offset and the length of part 1.
+/// Where the contents have the offset and the length of part 1, which is the first.
 const OFFSET_AT: usize = 4;
 const LENGTH_AT: usize = 8;
 
@@ -35,17 +35,16 @@ pub fn fill_to_vec(marks: &[u8]) -> Result<Vec<u8>, Refusal> {
 /// Rescues a sheet that was scheduled when the house radius of moisture patches was
 /// 120, and now meets [`Refusal::Schedule`]: cuts its part 1 out by the contents,
 /// fills it, and puts it together afresh. The sheet that it answers has one part
-/// and is accepted; scheduling it gives the old removal values.
+/// and is accepted; scheduling it gives the old removal values. Such a sheet is older
+/// than the second edition, and names none.
 ///
 /// # Errors
 ///
-/// Asks [1 to 3](Refusal) of the sheet, and 4 to 6 of its marks. Its parts 2 and 3 are
-/// not looked at.
+/// Asks [1 to 3](Refusal) of the sheet, and 4 to 6 of its marks. Its other parts are not
+/// looked at.
 pub fn rescue(sheet: &[u8]) -> Result<Vec<u8>, Refusal> {
     let filled = fill_to_vec(cut_marks(sheet)?)?;
-    let mut out = vec![0; contents_bytes(1) + filled.len()];
-    assemble(1, [&filled, &[], &[]], &mut out)?;
-    Ok(out)
+    assemble_to_vec(&[(Code::Marks, &filled)])
 }
 
 /// Part 1, cut out by the contents. Asks 1 to 3: a refusal by a later question says

@@ -2,22 +2,22 @@
 //!
 //! These are safe bindings to the proved library, the static library `rollmap`.
 //! A sheet is a run of bytes that has the marks in part 1 and, once it is scheduled,
-//! the schedule in part 2 and the index in part 3. Nothing is copied or kept: a call
-//! borrows its buffers and answers.
+//! the schedule in part 2 and the index in part 3; part 4 may name the [`Edition`] that
+//! ranks the marks. Nothing is copied or kept: a call borrows its buffers and answers.
 //!
 //! A call asks the questions that its comment names, in turn; the first no is its
-//! [`Refusal`], and then no buffer is written.
+//! [`Refusal`], and then no buffer is written. Where these are 4 to 9, question
+//! [19](Refusal::Edition) is asked after 7.
 //!
 //! ```
-//! use rollmap::{assemble, contents_bytes, marks_to_vec, records, schedule_to_vec, view_to_map};
-//! use rollmap::{Mark, Record, View, Zoom};
+//! use rollmap::{assemble_to_vec, marks_to_vec, records, schedule_to_vec, view_to_map};
+//! use rollmap::{Code, Mark, Record, View, Zoom};
 //!
 //! // Two marks at (0, 0) and (100, 0); the first has the higher priority. They touch at
 //! // zoom 5.
 //! let mark = |x, priority| Mark { x, y: 0, radius: 10, priority, kind: 0, tag: 0 };
 //! let marks = marks_to_vec(&[mark(0, 9), mark(100, 5)]);
-//! let mut sheet = vec![0; contents_bytes(1) + marks.len()];
-//! assemble(1, [&marks, &[], &[]], &mut sheet)?;
+//! let sheet = assemble_to_vec(&[(Code::Marks, &marks)])?;
 //! let scheduled = schedule_to_vec(&sheet)?;
 //!
 //! let at = |wheel| View { x0: 0, x1: 200, y0: 0, y1: 0, zoom: Zoom::Wheel(wheel) };
@@ -34,10 +34,12 @@
 #![deny(unsafe_code, missing_docs)]
 
 mod change;
+mod edition;
 mod ffi;
 mod fill;
 mod log;
 mod mark;
+mod part;
 mod record;
 mod refusal;
 mod sheet;
@@ -45,14 +47,16 @@ mod view;
 mod walk;
 
 pub use change::{add, add_to_vec, take_out, take_out_to_vec};
+pub use edition::{edition, Edition, EDITION_BYTES};
 pub use fill::{fill, fill_to_vec, rescue};
 pub use log::{log_to_marks, log_to_marks_vec, marks_to_log, marks_to_log_vec, LOG_RECORD_BYTES};
 pub use mark::{marks, marks_to_vec, Mark, MARK_BYTES};
+pub use part::{part, Code};
 pub use record::{records, Record, RECORD_BYTES};
 pub use refusal::Refusal;
 pub use sheet::{
-    assemble, check, contents_bytes, mark_count, part, schedule, schedule_to_vec, scheduled_bytes,
-    work_bytes, Work, MOST_MARKS,
+    assemble, assemble_to_vec, check, contents_bytes, mark_count, schedule, schedule_to_vec,
+    scheduled_bytes, work_bytes, Work, MOST_MARKS,
 };
 pub use view::{map_bytes, view, view_to_map, Map, View, Zoom};
 pub use walk::{is_shown, shown, walk, Shown};

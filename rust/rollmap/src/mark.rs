@@ -1,6 +1,6 @@
 //! Marks as a sheet's part 1 has them.
 
-use crate::part;
+use crate::{part, Code};
 
 /// Bytes a mark takes in part 1.
 pub const MARK_BYTES: usize = 11;
@@ -14,7 +14,8 @@ pub struct Mark {
     pub y: i16,
     /// Screen pixels, at most 16,383; 0 means the house radius of the kind.
     pub radius: u16,
-    /// Higher is more important. Of equal ones the lower number ranks higher.
+    /// Higher is more important. Between equal ones the [`Edition`](crate::Edition) of the
+    /// sheet decides.
     pub priority: u16,
     /// Below 200.
     pub kind: u8,
@@ -51,7 +52,7 @@ impl Mark {
 pub fn marks(
     sheet: &[u8],
 ) -> Option<impl DoubleEndedIterator<Item = Mark> + ExactSizeIterator + '_> {
-    let (marks, _) = part(sheet, 1)?.as_chunks::<MARK_BYTES>();
+    let (marks, _) = part(sheet, Code::Marks)?.as_chunks::<MARK_BYTES>();
     Some(marks.iter().copied().map(Mark::from_bytes))
 }
 

@@ -1,6 +1,6 @@
 //! Records as a sheet's part 2 has them.
 
-use crate::part;
+use crate::{part, Code};
 
 /// Bytes a record takes in part 2.
 pub const RECORD_BYTES: usize = 14;
@@ -49,7 +49,7 @@ impl Record {
 pub fn records(
     sheet: &[u8],
 ) -> Option<impl DoubleEndedIterator<Item = Record> + ExactSizeIterator + '_> {
-    let (records, _) = part(sheet, 2)?.as_chunks::<RECORD_BYTES>();
+    let (records, _) = part(sheet, Code::Schedule)?.as_chunks::<RECORD_BYTES>();
     Some(records.iter().copied().map(Record::from_bytes))
 }
 

@@ -47,6 +47,8 @@ pub enum Refusal {
     Missing = 17,
     /// 18: a mark to be added to as many as a sheet has at most.
     Full = 18,
+    /// 19: the edition in part 4.
+    Edition = 19,
 }
 
 impl Refusal {
@@ -70,6 +72,7 @@ impl Refusal {
         Self::Place,
         Self::Missing,
         Self::Full,
+        Self::Edition,
     ];
 
     /// The question's number.
@@ -86,8 +89,10 @@ impl Refusal {
     /// The question in words.
     pub const fn question(self) -> &'static str {
         match self {
-            Self::Contents => "are there 2 bytes, 1 to 3 parts, and the whole contents?",
-            Self::Codes => "are the codes 1, 2, .. in order?",
+            Self::Contents => "are there 2 bytes, 1 to 4 parts, and the whole contents?",
+            Self::Codes => {
+                "do the codes rise within 1 to 4, is part 1 there, and part 3 only with part 2?"
+            }
             Self::Bodies => {
                 "does the first body start right after the contents, each next one where the \
                  last ended, and does the last end with the sheet?"
@@ -123,6 +128,7 @@ impl Refusal {
             Self::Place => "are x and y of each record of the log from -32,768 to 32,767?",
             Self::Missing => "is the number of the mark to be taken out below n?",
             Self::Full => "are fewer than 4,096 marks held already?",
+            Self::Edition => "is part 4, if present, one byte of 1 or 2?",
         }
     }
 }
@@ -157,14 +163,14 @@ mod tests {
     use super::*;
 
     #[test]
-    fn numbers_are_1_to_18_in_order() {
+    fn numbers_are_1_to_19_in_order() {
         let numbers = Refusal::ALL.iter().map(|refusal| refusal.number());
-        assert!(numbers.eq(1..=18));
+        assert!(numbers.eq(1..=19));
         for &refusal in Refusal::ALL {
             assert_eq!(Refusal::from_number(refusal.number()), Some(refusal));
         }
         assert_eq!(Refusal::from_number(0), None);
-        assert_eq!(Refusal::from_number(19), None);
+        assert_eq!(Refusal::from_number(20), None);
     }
 
     #[test]

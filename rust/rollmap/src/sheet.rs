@@ -1,6 +1,6 @@
 //! Checking, scheduling and putting together a sheet, and reading its parts.
 
-use crate::{ffi, Refusal, MARK_BYTES};
+use crate::{ffi, part, Code, Refusal, EDITION_BYTES, MARK_BYTES};
 
 /// The most marks a sheet has.
 pub const MOST_MARKS: usize = 4_096;
@@ -15,7 +15,8 @@ pub const fn work_bytes(n: usize) -> usize {
     32 * n + 1_024
 }
 
-/// Bytes of the sheet that scheduling n marks writes.
+/// Bytes of the sheet that scheduling n marks writes, where no part 4 is kept;
+/// [`EDITION_BYTES`] more where one is.
 pub const fn scheduled_bytes(n: usize) -> usize {
     32 + 27 * n
 }
@@ -37,9 +38,10 @@ pub fn check(sheet: &[u8]) -> Result<(), Refusal> {
     Ok(())
 }
 
-/// Schedules a sheet afresh into `out`, with its index, whatever schedule it has,
-/// and answers the number of bytes written, [`scheduled_bytes`] of its marks.
-/// Bytes past these stay as they are.
+/// Schedules a sheet afresh into `out`, by its own [`Edition`](crate::Edition), with its
+/// index, whatever schedule it has, and answers the number of bytes written,
+/// [`scheduled_bytes`] of its marks, and [`EDITION_BYTES`] where it has a part 4, which is
+/// kept. Bytes past these stay as they are.
 ///
 /// # Errors
 ///
@@ -60,44 +62,45 @@ pub fn schedule_to_vec(sheet: &[u8]) -> Result<Vec<u8>, Refusal> {
     scheduled_to_vec(n, |work, out| schedule(sheet, work, out))
 }
 
-/// What a call writes that schedules n marks, in buffers of its own.
+/// What a call writes that schedules n marks, in buffers of its own, with room for a part
+/// 4 that is kept.
 pub(crate) fn scheduled_to_vec(
     n: usize,
     call: impl FnOnce(Work<'_>, &mut [u8]) -> Result<usize, Refusal>,
 ) -> Result<Vec<u8>, Refusal> {
     let mut work = vec![0; work_bytes(n)];
-    let mut out = vec![0; scheduled_bytes(n)];
+    let mut out = vec![0; scheduled_bytes(n) + EDITION_BYTES];
     let written = call(Work(&mut work), &mut out)?;
     out.truncate(written);
     Ok(out)
 }
 
-/// Puts the first `parts` bodies together into a sheet in `out`, and answers the
-/// number of bytes written: [`contents_bytes`] of the parts, and the bodies. Further
-/// bodies are ignored, and bytes past the sheet stay as they are.
+/// Puts parts together into a sheet in `out`, and answers the number of bytes written:
+/// [`contents_bytes`] of the parts, and their bodies. Bytes past the sheet stay as they are.
 ///
 /// # Errors
 ///
-/// Asks [1](Refusal::Contents) of `parts`, [4 to 9](Refusal) of the bodies, and
-/// [13](Refusal::Buffer) of `out`. A refused call writes nothing.
-pub fn assemble(parts: u32, bodies: [&[u8]; 3], out: &mut [u8]) -> Result<usize, Refusal> {
-    let written = ffi::assemble(parts, bodies, out).settle(0)?;
+/// Asks [1](Refusal::Contents) of the number of parts, [2](Refusal::Codes) of their codes,
+/// [4 to 9](Refusal) of the bodies, and [13](Refusal::Buffer) of `out`. A refused call
+/// writes nothing.
+pub fn assemble(parts: &[(Code, &[u8])], out: &mut [u8]) -> Result<usize, Refusal> {
+    let written = ffi::assemble(parts, out).settle(0)?;
     Ok(written as usize)
 }
 
-/// The body of the part with that code, as it stands in an accepted sheet: 1 the
-/// marks, 2 the schedule, 3 the index. None where there is no such part or the
-/// sheet is refused; a part that is there may be empty.
-pub fn part(sheet: &[u8], code: u32) -> Option<&[u8]> {
-    let extent = ffi::part(sheet, code);
-    let (offset, length) = (extent.offset as usize, extent.length as usize);
-    if (offset, length) == (0, 0) {
-        return None;
-    }
-    Some(&sheet[offset..offset + length])
+/// Puts parts together in a buffer of its own, and answers the sheet.
+///
+/// # Errors
+///
+/// Asks what [`assemble`] asks of the parts.
+pub fn assemble_to_vec(parts: &[(Code, &[u8])]) -> Result<Vec<u8>, Refusal> {
+    let bodies: usize = parts.iter().map(|(_, body)| body.len()).sum();
+    let mut out = vec![0; contents_bytes(parts.len()) + bodies];
+    assemble(parts, &mut out)?;
+    Ok(out)
 }
 
 /// The number of marks of an accepted sheet, none of a refused one.
 pub fn mark_count(sheet: &[u8]) -> Option<usize> {
-    part(sheet, 1).map(|marks| marks.len() / MARK_BYTES)
+    part(sheet, Code::Marks).map(|marks| marks.len() / MARK_BYTES)
 }

@@ -1,99 +1,122 @@
-//! Putting together and reading parts, compared with the oracle.
+//! Putting together and reading parts, compared with the oracle. Codes that have no name,
+//! and other numbers of bodies than of codes, are tried through C.
 
 mod common;
 
-use common::{bodies_of, scheduled, some_room, some_sheet, Lent, SomeBodies, Tally};
+use common::{
+    bodies_of, code, our_records, scheduled_with, some_room, some_sheet, Lent, SomeBodies, Tally,
+    NAMED, TAKEN,
+};
+use oracle::contents::Part;
 use oracle::mark::write_marks;
-use oracle::process::schedule_in_rank_order;
-use oracle::sample::{marks, Generator, Shape, P1};
-use oracle::sheet::{join, part_extent, split};
+use oracle::rank::Edition::{First, Second};
+use oracle::sample::{each_list, marks, Generator, Shape, P1};
+use oracle::sheet::{join, join_parts, part_extent, split};
+use rollmap::Code;
 
-/// Codes that are asked for: those of parts, and others that have their low bytes.
-const CODES: [u32; 10] = [0, 1, 2, 3, 4, 257, 258, 65_537, 65_539, u32::MAX];
-
-/// Puts bodies together in a buffer of so many bytes, and sees that the answer and
-/// every byte are the oracle's. Answers the number.
-fn assemble(parts: u32, bodies: [&[u8]; 3], out_length: usize, seed: u64) -> u32 {
+/// Puts parts together in a buffer of so many bytes, and sees that the answer and every
+/// byte are the oracle's. Answers the number.
+fn assemble(parts: &[Part], out_length: usize, seed: u64) -> u32 {
     let mut out = Lent::new(out_length, seed);
-    let mut lent = bodies.map(|body| Lent::holding(body, seed >> 3));
-    let [body1, body2, body3] = &mut lent;
-    let bodies_lent: [&[u8]; 3] = [body1.slice(), body2.slice(), body3.slice()];
-    let answer = rollmap::assemble(parts, bodies_lent, out.slice());
+    let lent = parts.iter().map(|(_, body)| Lent::holding(body, seed >> 3));
+    let mut lent: Vec<Lent> = lent.collect();
+    let bodies = lent.iter_mut().map(|lent| &*lent.slice());
+    let codes = parts.iter().map(|&(number, _)| code(number));
+    let named: Vec<(Code, &[u8])> = codes.zip(bodies).collect();
+    let answer = rollmap::assemble(&named, out.slice());
     lent.iter().for_each(Lent::assert_untouched);
-    let expected = oracle::sheet::assemble(parts, bodies, out_length);
+    let (codes, bodies): (Vec<u16>, Vec<&[u8]>) = parts.iter().copied().unzip();
+    let expected = oracle::sheet::assemble(&codes, &bodies, out_length);
     out.assert_answered(&answer, &expected)
 }
 
-/// The three bodies as slices.
-fn slices(bodies: &[Vec<u8>; 3]) -> [&[u8]; 3] {
-    [&bodies[0], &bodies[1], &bodies[2]]
+/// The bodies of P1, scheduled, by code, with an edition in which they are the same.
+fn p1_bodies() -> [Vec<u8>; 4] {
+    let [part_1, part_2, part_3] = bodies_of(&P1, &our_records(&P1));
+    [part_1, part_2, part_3, Second.write().to_vec()]
+}
+
+/// The parts of these codes.
+fn parts_of<'a>(codes: &[u16], bodies: &'a [Vec<u8>; 4]) -> Vec<Part<'a>> {
+    let body = |code: u16| bodies[usize::from(code) - 1].as_slice();
+    codes.iter().map(|&code| (code, body(code))).collect()
 }
 
 #[test]
-fn only_1_to_3_parts_are_taken() {
-    let bodies = bodies_of(&P1, &schedule_in_rank_order(&P1));
-    for parts in [
-        0,
-        1,
-        2,
-        3,
-        4,
-        5,
-        255,
-        256,
-        257,
-        258,
-        65_537,
-        65_539,
-        1 << 31,
-        u32::MAX,
-    ] {
-        for (bodies, length) in [(slices(&bodies), 140), ([&[], &[], &[]], 32)] {
-            let expected = if (1..=3).contains(&parts) { 0 } else { 1 };
-            assert_eq!(assemble(parts, bodies, length, 1), expected, "{parts}");
-        }
-        // The number is asked for before all else.
-        let expected = if (1..=3).contains(&parts) { 4 } else { 1 };
-        assert_eq!(assemble(parts, [&[0], &[0], &[0]], 0, 2), expected);
+fn every_list_of_codes() {
+    let empty = [vec![], vec![], vec![], vec![1]];
+    let faulty = [(); 4].map(|()| vec![0]);
+    for length in 0..=6 {
+        each_list(&[1, 2, 3, 4], length, &mut |codes| {
+            let expected = match codes.len() {
+                0 | 5.. => 1,
+                _ if TAKEN.contains(&codes) => 0,
+                _ => 2,
+            };
+            for bodies in [&p1_bodies(), &empty] {
+                let number = assemble(&parts_of(codes, bodies), 200, 1);
+                assert_eq!(number, expected, "{codes:?}");
+            }
+            // The codes are asked for before the bodies and the buffer.
+            let expected = if expected == 0 { 4 } else { expected };
+            let number = assemble(&parts_of(codes, &faulty), 0, 2);
+            assert_eq!(number, expected, "{codes:?}");
+        });
     }
 }
 
 #[test]
 fn every_length_of_the_written_buffer() {
-    let bodies = bodies_of(&P1, &schedule_in_rank_order(&P1));
-    let empty: [&[u8]; 3] = [&[], &[], &[]];
-    for (bodies, sheet_bytes) in [(slices(&bodies), [56, 122, 140]), (empty, [12, 22, 32])] {
-        for parts in 1..=3 {
-            let needed = sheet_bytes[parts as usize - 1];
+    let empty = [vec![], vec![], vec![], vec![2]];
+    for bodies in [&p1_bodies(), &empty] {
+        for codes in TAKEN {
+            let parts = parts_of(codes, bodies);
+            let needed = join_parts(&parts).len();
             for length in 0..needed + 40 {
                 let expected = if length < needed { 13 } else { 0 };
-                let seed = length as u64;
-                assert_eq!(assemble(parts, bodies, length, seed), expected);
+                assert_eq!(assemble(&parts, length, length as u64), expected);
             }
         }
     }
 }
 
 #[test]
-fn further_bodies_are_ignored() {
-    let bodies = bodies_of(&P1, &schedule_in_rank_order(&P1));
-    for junk in [vec![], vec![0xff; 5], vec![0; 56], vec![200; 45_067]] {
-        assert_eq!(assemble(1, [&bodies[0], &junk, &junk], 56, 1), 0);
-        assert_eq!(assemble(2, [&bodies[0], &bodies[1], &junk], 122, 2), 0);
+fn a_part_goes_by_its_code_and_not_by_its_place() {
+    let bodies = p1_bodies();
+    let [part_1, part_2, _, part_4] = bodies.each_ref().map(Vec::as_slice);
+    assert_eq!(assemble(&[(1, part_1), (4, part_4)], 67, 1), 0);
+    assert_eq!(assemble(&[(1, part_1), (2, part_4)], 67, 2), 7);
+    assert_eq!(assemble(&[(1, part_1), (4, part_2)], 200, 3), 19);
+    assert_eq!(
+        assemble(&[(1, part_1), (2, part_2), (4, part_4)], 133, 4),
+        0
+    );
+}
+
+#[test]
+fn damaged_editions() {
+    let mut bodies = p1_bodies();
+    for part_4 in [&[][..], &[0], &[3], &[255], &[1, 1], &[2, 0], &[1, 2]] {
+        bodies[3] = part_4.to_vec();
+        for codes in TAKEN {
+            let expected = if codes.contains(&4) { 19 } else { 0 };
+            assert_eq!(assemble(&parts_of(codes, &bodies), 200, 1), expected);
+            let short = if codes.contains(&4) { 19 } else { 13 };
+            assert_eq!(assemble(&parts_of(codes, &bodies), 0, 1), short);
+        }
     }
-    assert_eq!(assemble(2, [&bodies[0], &[0; 5], &bodies[2]], 200, 3), 7);
 }
 
 #[test]
 fn every_byte_of_the_bodies_with_some_values() {
-    let mut bodies = bodies_of(&P1, &schedule_in_rank_order(&P1));
-    for body in 0..3 {
+    let mut bodies = p1_bodies();
+    for body in 0..4 {
         for at in 0..bodies[body].len() {
             let own = bodies[body][at];
             for value in [0, 1, 2, 3, 10, 64, 199, 200, 255, own ^ 1, own ^ 128] {
                 bodies[body][at] = value;
-                for parts in 1..=3 {
-                    assemble(parts, slices(&bodies), 140, u64::from(value));
+                for codes in TAKEN {
+                    assemble(&parts_of(codes, &bodies), 151, u64::from(value));
                 }
             }
             bodies[body][at] = own;
@@ -105,60 +128,97 @@ fn every_byte_of_the_bodies_with_some_values() {
 fn many_bodies_with_a_few_faults() {
     let mut generator = Generator::new(6);
     let mut numbers = Tally::default();
-    for seed in 0..40_000 {
-        let SomeBodies { bodies, .. } = SomeBodies::draw(&mut generator);
-        let parts = generator.choose(&[1, 2, 3, 3, 3, 4]);
-        let taken = &bodies[..bodies.len().min(parts as usize)];
-        let needed = 2 + 10 * taken.len() + taken.iter().map(Vec::len).sum::<usize>();
+    for seed in 0..60_000 {
+        let drawn = SomeBodies::draw(&mut generator);
+        let mut parts = drawn.parts();
+        if generator.below(20) == 0 {
+            let at = generator.below(parts.len() as u32) as usize;
+            parts[at].0 = generator.choose(&[1, 2, 3, 4]);
+        }
+        if generator.below(40) == 0 {
+            parts.resize(generator.choose(&[0, 5, 6]), (4, &[1]));
+        }
+        let needed = join_parts(&parts).len();
         let length = some_room(&mut generator, needed);
-        let number = assemble(parts, slices(&bodies), length, seed);
-        numbers.add(number);
+        numbers.add(assemble(&parts, length, seed));
     }
-    numbers.assert_reached([0, 1, 4, 5, 6, 7, 8, 9, 13], 100);
+    numbers.assert_reached([0, 1, 2, 4, 5, 6, 7, 8, 9, 13, 19], 100);
 }
 
 #[test]
 fn the_longest_bodies() {
     let mut generator = Generator::new(7);
     let sample = marks(Shape::Clustered, 4_096, 2);
-    let bodies = bodies_of(&sample, &common::foreign_records(&mut generator, &sample));
-    for (parts, needed) in [(1, 12 + 45_056), (2, 22 + 102_400), (3, 32 + 110_592)] {
-        assert_eq!(assemble(parts, slices(&bodies), needed, 1), 0);
-        assert_eq!(assemble(parts, slices(&bodies), needed - 1, 2), 13);
+    let records = common::foreign_records(&mut generator, First.reel(&sample));
+    let [part_1, part_2, part_3] = bodies_of(&sample, &records);
+    let bodies = [part_1, part_2, part_3, First.write().to_vec()];
+    for (codes, needed) in TAKEN.into_iter().zip([
+        12 + 45_056,
+        22 + 102_400,
+        22 + 45_057,
+        32 + 110_592,
+        32 + 102_401,
+        42 + 110_593,
+    ]) {
+        assert_eq!(assemble(&parts_of(codes, &bodies), needed, 1), 0);
+        assert_eq!(assemble(&parts_of(codes, &bodies), needed - 1, 2), 13);
     }
     let longer = [bodies[0].as_slice(), &[0; 11]].concat();
-    assert_eq!(assemble(1, [&longer, &[], &[]], 1 << 17, 3), 4);
+    assert_eq!(assemble(&[(1, &longer)], 1 << 17, 3), 4);
 }
+
+#[test]
+fn the_buffer_of_its_own_is_long_enough() {
+    let mut generator = Generator::new(9);
+    let mut numbers = Tally::default();
+    for _ in 0..4_000 {
+        let drawn = SomeBodies::draw(&mut generator);
+        let parts = drawn.parts();
+        let named: Vec<(Code, &[u8])> = parts.iter().map(|&(it, body)| (code(it), body)).collect();
+        let assembled = rollmap::assemble_to_vec(&named);
+        let bodies: Vec<&[u8]> = parts.iter().map(|&(_, body)| body).collect();
+        let expected = oracle::sheet::assemble(drawn.codes, &bodies, usize::MAX);
+        let number = common::number(&assembled);
+        assert_eq!(assembled.map_err(|refusal| refusal.number()), expected);
+        numbers.add(number);
+    }
+    numbers.assert_reached([0, 4, 5, 6, 7, 8, 9, 19], 10);
+}
+
+// ---- reading parts
 
 /// The part of that code, once it is seen to be the oracle's, in the very bytes of
 /// the sheet.
-fn part(sheet: &[u8], code: u32) -> Option<&[u8]> {
+fn part(sheet: &[u8], code: Code) -> Option<&[u8]> {
     let part = rollmap::part(sheet, code);
     let place = |part: &[u8]| {
         let offset = part.as_ptr() as usize - sheet.as_ptr() as usize;
         (offset as u32, part.len() as u32)
     };
     let extent = part.map_or((0, 0), place);
-    assert_eq!(extent, part_extent(sheet, code), "{code} {sheet:02x?}");
+    let expected = part_extent(sheet, code.number().into());
+    assert_eq!(extent, expected, "{code:?} {sheet:02x?}");
     part
+}
+
+/// All parts, once they are seen to be the oracle's.
+fn parts(sheet: &[u8]) -> Vec<Option<&[u8]>> {
+    Code::ALL.iter().map(|&code| part(sheet, code)).collect()
 }
 
 #[test]
 fn parts_of_accepted_sheets() {
     for shape in Shape::ALL {
         for n in [0, 1, 2, 9, 40] {
-            let sample = marks(shape, n, n as u64);
-            let whole = scheduled(&sample);
-            let bodies = split(&whole).unwrap().present();
-            for parts in 1..=3 {
-                let sheet = join(&bodies[..parts]);
-                let found = CODES.map(|code| part(&sheet, code));
-                assert_eq!(found[0], None);
-                for (code, body) in bodies.iter().enumerate() {
-                    let expected = (code < parts).then_some(*body);
-                    assert_eq!(found[1 + code], expected);
-                }
-                assert!(found[4..].iter().all(Option::is_none));
+            let whole = scheduled_with(Some(First), &marks(shape, n, n as u64));
+            let present = split(&whole).unwrap().present();
+            for codes in TAKEN {
+                let mut own = present.clone();
+                own.retain(|(code, _)| codes.contains(code));
+                let sheet = join_parts(&own);
+                let body = |code: &Code| own.iter().find(|(own, _)| *own == code.number());
+                let expected = Code::ALL.iter().map(|code| body(code).map(|part| part.1));
+                assert!(parts(&sheet).into_iter().eq(expected));
                 assert_eq!(rollmap::mark_count(&sheet), Some(n));
             }
         }
@@ -167,19 +227,20 @@ fn parts_of_accepted_sheets() {
 
 #[test]
 fn parts_of_every_sheet_with_a_byte_changed() {
-    let mut sheet = scheduled(&P1);
-    let bytes = sheet.len();
-    for at in 0..bytes {
-        for bit in 0..8 {
-            sheet[at] ^= 1 << bit;
-            CODES.iter().for_each(|&code| _ = part(&sheet, code));
-            sheet[at] ^= 1 << bit;
+    for named in NAMED {
+        let mut sheet = scheduled_with(named, &P1);
+        for at in 0..sheet.len() {
+            for bit in 0..8 {
+                sheet[at] ^= 1 << bit;
+                parts(&sheet);
+                sheet[at] ^= 1 << bit;
+            }
+            parts(&sheet[..at]);
         }
-        CODES.iter().for_each(|&code| _ = part(&sheet[..at], code));
+        sheet.push(0);
+        assert_eq!(parts(&sheet), [None; 4]);
     }
-    assert_eq!(part(&[], 1), None);
-    sheet.push(0);
-    assert_eq!(part(&sheet, 1), None);
+    assert_eq!(parts(&[]), [None; 4]);
 }
 
 #[test]
@@ -188,7 +249,7 @@ fn parts_of_many_sheets_with_a_few_faults() {
     let mut found = [0; 2];
     for _ in 0..40_000 {
         let sheet = some_sheet(&mut generator);
-        let code = generator.choose(&[1, 1, 2, 3, 3, 4]);
+        let code = generator.choose(Code::ALL);
         found[usize::from(part(&sheet, code).is_some())] += 1;
     }
     assert!(found.iter().all(|&times| times > 5_000), "{found:?}");
@@ -197,15 +258,18 @@ fn parts_of_many_sheets_with_a_few_faults() {
 #[test]
 fn putting_the_parts_of_a_sheet_together_gives_the_sheet() {
     for shape in Shape::ALL {
-        let sheet = scheduled(&marks(shape, 33, 9));
-        let bodies = [1, 2, 3].map(|code| part(&sheet, code).unwrap());
-        let mut out = vec![0; sheet.len()];
-        let written = rollmap::assemble(3, bodies, &mut out);
-        assert_eq!(written, Ok(sheet.len()));
-        assert_eq!(out, sheet);
+        for named in NAMED {
+            let sheet = scheduled_with(named, &marks(shape, 33, 9));
+            let own = Code::ALL
+                .iter()
+                .map(|&code| Some((code, part(&sheet, code)?)));
+            let own: Vec<(Code, &[u8])> = own.flatten().collect();
+            assert_eq!(rollmap::assemble_to_vec(&own).as_ref(), Ok(&sheet));
+        }
     }
     let marks = write_marks(&P1);
     let mut out = vec![0; 56];
-    assert_eq!(rollmap::assemble(1, [&marks, &[], &[]], &mut out), Ok(56));
+    let written = rollmap::assemble(&[(Code::Marks, &marks)], &mut out);
+    assert_eq!(written, Ok(56));
     assert_eq!(out, join(&[&marks]));
 }

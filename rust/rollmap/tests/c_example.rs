@@ -8,13 +8,13 @@ use std::io::Write;
 use std::path::{Path, PathBuf};
 use std::process::{Command, Stdio};
 
-use common::{one_part, scheduled, some_sheet};
+use common::{one_part, scheduled, scheduled_with, some_room, some_sheet, SomeBodies, NAMED};
 use oracle::map::map_bytes;
-use oracle::sample::{marks, Generator, Shape};
+use oracle::sample::{each_list, marks, Generator, Shape, P1};
 use oracle::view::{view, Edges};
 use oracle::zoom::Zoom;
 
-use rollmap::Refusal;
+use rollmap::{Code, Edition, Refusal};
 
 /// The archive that this crate was built with.
 const ARCHIVE: &str = env!("ROLLMAP_ARCHIVE");
@@ -47,9 +47,14 @@ take it out: 0 140, the same 1, then ee
 take out 4 of 4: 17 0
 take out 65536: 17 0, the same 1
 take out 0: 0 113, 1: 0 10000 400
-no bodies 2 and 3: 0 56
-no body 3: 0 122
+part 1 of three: 0 56
+parts 1, 2 and 4: 0 133
+two rows for three codes: 1 0
+no part 1: 2 0
 no parts: 1 0
+edition 1: 0 67, in a short buffer 13 0, scheduled 0 151, then ee, part 4 at 150: 1, 1 by 0, 2 by 1
+edition 2: 0 67, in a short buffer 13 0, scheduled 0 151, then ee, part 4 at 150: 2, 1 by 2, 2 by 0
+edition 3: 19 0
 short fill: 13 0, then ee
 fill: 0 11, radius 120, tag 7, then ee
 marks to log: 0 13, x 12 34 5d, then ee
@@ -127,12 +132,27 @@ fn the_header_names_every_refusal_of_a_call() {
 }
 
 #[test]
+fn the_header_names_every_code_and_every_edition() {
+    let codes = Code::ALL.iter();
+    let own = codes.map(|code| (format!("{code:?}").to_uppercase(), code.number().into()));
+    let named = defined("#define ROLLMAP_CODE_").into_iter();
+    assert!(named
+        .map(|(name, number)| (name.to_owned(), number))
+        .eq(own));
+    for (name, edition) in [("FIRST", Edition::First), ("SECOND", Edition::Second)] {
+        let [number] = edition.to_bytes();
+        assert!(defined("#define ROLLMAP_EDITION_").contains(&(name, number.into())));
+    }
+}
+
+#[test]
 fn the_header_has_the_sizes_and_the_version_of_this_crate() {
     let sizes = [
         ("MOST_MARKS", rollmap::MOST_MARKS),
         ("MARK_BYTES", rollmap::MARK_BYTES),
         ("RECORD_BYTES", rollmap::RECORD_BYTES),
         ("LOG_RECORD_BYTES", rollmap::LOG_RECORD_BYTES),
+        ("EDITION_BYTES", rollmap::EDITION_BYTES),
     ];
     for (name, size) in sizes {
         assert!(
@@ -215,4 +235,107 @@ fn every_stop_is_its_wheel_value_through_c() {
     let differing = lines.into_iter().find(|(_, (ours, theirs))| ours != theirs);
     assert_eq!(differing, None);
     assert_eq!(printed.len(), expected.len());
+}
+
+/// A number as the program `parts.c` reads it.
+fn four(number: usize) -> [u8; 4] {
+    u32::to_ne_bytes(number as u32)
+}
+
+/// Putting together as the program `parts.c` reads it, and what it is to print: the
+/// oracle's answer, with a byte behind the written buffer that nobody writes.
+fn assemble_case(codes: &[u16], bodies: &[&[u8]], out_length: usize) -> (Vec<u8>, String) {
+    let numbers = [0, codes.len(), bodies.len(), out_length].map(four);
+    let code_bytes: Vec<[u8; 2]> = codes.iter().map(|code| code.to_ne_bytes()).collect();
+    let mut input = [numbers.as_flattened(), code_bytes.as_flattened()].concat();
+    for body in bodies {
+        input.extend(four(body.len()));
+        input.extend(*body);
+    }
+    let (number, written) = match oracle::sheet::assemble(codes, bodies, out_length) {
+        Ok(sheet) => (0, sheet),
+        Err(number) => (number, Vec::new()),
+    };
+    let mut out = vec![0xee; out_length + 1];
+    out[..written.len()].copy_from_slice(&written);
+    let hex: String = out.iter().map(|byte| format!("{byte:02x}")).collect();
+    (input, format!("{number} {} {hex}\n", written.len()))
+}
+
+/// Reading a part as the program `parts.c` reads it, and what it is to print.
+fn part_case(sheet: &[u8], code: u32) -> (Vec<u8>, String) {
+    let numbers = [1, sheet.len(), code as usize].map(four);
+    let (offset, length) = oracle::sheet::part_extent(sheet, code);
+    let input = [numbers.as_flattened(), sheet].concat();
+    (input, format!("{offset} {length}\n"))
+}
+
+/// Sees that the program `parts.c` prints what is expected for each case.
+fn assert_printed(name: &str, cases: Vec<(Vec<u8>, String)>) {
+    let (inputs, expected): (Vec<_>, Vec<_>) = cases.into_iter().unzip();
+    let program = compile("parts.c", name, "cc", &["-std=c99"]);
+    let printed = run(&mut Command::new(program), &inputs.concat());
+    let lines = printed.split_inclusive('\n').zip(&expected).enumerate();
+    let differing = lines.into_iter().find(|(_, (ours, theirs))| ours != theirs);
+    assert_eq!(differing, None);
+    assert_eq!(printed.lines().count(), expected.len());
+}
+
+#[test]
+fn every_list_of_codes_through_c() {
+    let bodies: [&[u8]; 7] = [&[], &[], &[], &[2], &[], &[0xff; 5], &[0; 300]];
+    let body = |&code: &u16| bodies[usize::from(code).saturating_sub(1)];
+    let mut cases = Vec::new();
+    for length in 0..=5 {
+        each_list(&[0, 1, 2, 3, 4, 5], length, &mut |codes| {
+            let own: Vec<&[u8]> = codes.iter().map(body).collect();
+            cases.push(assemble_case(codes, &own, 50));
+        });
+    }
+    // Both bytes of a code count.
+    for code in [256, 257, 258, 260, 1_028, 65_281, 65_535] {
+        cases.push(assemble_case(&[code], &[&[]], 50));
+        cases.push(assemble_case(&[1, code], &[&[], &[1]], 50));
+    }
+    assert_printed("codes", cases);
+}
+
+#[test]
+fn other_numbers_of_bodies_than_of_codes_through_c() {
+    let mut generator = Generator::new(51);
+    let mut cases = Vec::new();
+    for _ in 0..4_000 {
+        let drawn = SomeBodies::draw(&mut generator);
+        let mut codes = drawn.codes.to_vec();
+        if generator.below(20) == 0 {
+            codes.resize(generator.choose(&[0, 5, 16]), 4);
+        }
+        let own: Vec<&[u8]> = drawn.parts().into_iter().map(|(_, body)| body).collect();
+        // Further bodies are junk, and some lack.
+        let mut bodies = own;
+        let given = generator.below(17) as usize;
+        bodies.resize(
+            given,
+            generator.choose(&[&[][..], &[0xff; 5], &[2], &[0; 300]]),
+        );
+        let needed = 2 + codes.len() * 10 + bodies.iter().map(|body| body.len()).sum::<usize>();
+        let length = some_room(&mut generator, needed.min(4_000));
+        cases.push(assemble_case(&codes, &bodies, length));
+    }
+    assert_printed("bodies", cases);
+}
+
+#[test]
+fn every_code_of_a_part_through_c() {
+    let mut generator = Generator::new(52);
+    let sheets = NAMED.map(|named| scheduled_with(named, &P1));
+    let mut sheets = sheets.to_vec();
+    sheets.extend((0..300).map(|_| some_sheet(&mut generator)));
+    let mut cases = Vec::new();
+    for sheet in sheets {
+        for code in (0..10).chain([256, 257, 258, 260, 65_536, 65_537, 65_540, u32::MAX]) {
+            cases.push(part_case(&sheet, code));
+        }
+    }
+    assert_printed("parts", cases);
 }

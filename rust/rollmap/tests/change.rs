@@ -3,13 +3,14 @@
 mod common;
 
 use common::{
-    bound, foreign_records, number, one_part, schedule_in, scheduled, some_marks, some_room,
-    some_sheet, three_parts, tied_marks, Expected, Tally, Written,
+    bound, foreign_records, lengths_with, longest, number, one_part, schedule_in, scheduled,
+    some_marks, some_room, some_sheet, three_parts, tied_marks, Expected, Tally, Written,
 };
 use oracle::mark::Mark;
+use oracle::rank::Edition::First;
 use oracle::record::{read_records, Record};
 use oracle::sample::{marks, refused_sheets, small_choice, Generator, Shape, P1};
-use rollmap::{scheduled_bytes, work_bytes, Refusal, Work};
+use rollmap::{work_bytes, Code, Refusal, Work};
 
 /// A mark with something in every field.
 const NEW: Mark = Mark {
@@ -83,14 +84,9 @@ impl Change {
     }
 }
 
-/// The lengths of work and out that scheduling n marks asks for.
+/// The lengths of work and out that scheduling n marks without part 4 asks for.
 fn lengths(n: usize) -> [usize; 2] {
-    [work_bytes(n), scheduled_bytes(n)]
-}
-
-/// Buffers that are long enough for any sheet.
-fn longest() -> [usize; 2] {
-    lengths(rollmap::MOST_MARKS)
+    lengths_with(false, n)
 }
 
 /// Makes a change in buffers of these lengths, and sees that the answer and every byte
@@ -145,7 +141,7 @@ fn p1_comes_and_goes_mark_by_mark() {
 
 #[test]
 fn eliminators_go_by_the_new_numbers() {
-    let records = |sheet: &[u8]| read_records(rollmap::part(sheet, 2).unwrap());
+    let records = |sheet: &[u8]| read_records(rollmap::part(sheet, Code::Schedule).unwrap());
     let fewer = changed(&scheduled(&P1), [TakeOut(0)]);
     let expected = [
         Record::NEVER,
@@ -282,7 +278,7 @@ fn a_schedule_that_is_not_ours_is_taken_and_the_result_is_fresh() {
         for n in [0, 1, 2, 5, 30, 120] {
             let sample = marks(shape, n, 3);
             let never = vec![Record::NEVER; n];
-            for records in [never, foreign_records(&mut generator, &sample)] {
+            for records in [never, foreign_records(&mut generator, First.reel(&sample))] {
                 let foreign = three_parts(&sample, &records);
                 becomes(&foreign, &sample, Add(NEW));
                 if n > 0 {
@@ -438,7 +434,7 @@ fn a_full_sheet_is_asked_before_the_new_mark() {
     for lengths in [[0, 0], lengths(4_096), lengths(4_097)] {
         assert_eq!(change(&full, Add(NEW), lengths), 18);
     }
-    let [work, out] = longest();
+    let [work, out] = lengths(4_096);
     assert_eq!(change(&fewer, Add(NEW), [work - 1, out]), 13);
     assert_eq!(change(&fewer, Add(NEW), [work, out - 1]), 13);
     assert_eq!(change(&full, TakeOut(4_096), longest()), 17);
@@ -496,7 +492,9 @@ fn many_sheets_and_changes_with_a_few_faults() {
     let (mut added, mut taken_out) = (Tally::default(), Tally::default());
     for _ in 0..40_000 {
         let sheet = some_sheet(&mut generator);
-        let n = oracle::sheet::open(&sheet).map_or(4, |opened| opened.marks.len());
+        let (n, named) = oracle::sheet::open(&sheet).map_or((4, false), |opened| {
+            (opened.marks.len(), opened.bodies.get(4).is_some())
+        });
         let mut next = Change::draw(&mut generator, n);
         if let (Add(mark), 0) = (&mut next, generator.below(6)) {
             (_, *mark) = generator.choose(&refused_marks());
@@ -505,15 +503,15 @@ fn many_sheets_and_changes_with_a_few_faults() {
             Add(_) => n + 1,
             TakeOut(_) => n.saturating_sub(1),
         };
-        let lengths = lengths(n).map(|needed| some_room(&mut generator, needed));
+        let lengths = lengths_with(named, n).map(|needed| some_room(&mut generator, needed));
         let number = change(&sheet, next, lengths);
         match next {
             Add(_) => added.add(number),
             TakeOut(_) => taken_out.add(number),
         }
     }
-    added.assert_reached((0..=10).chain([13]), 50);
-    taken_out.assert_reached((0..=10).chain([13, 17]), 50);
+    added.assert_reached((0..=10).chain([13, 19]), 50);
+    taken_out.assert_reached((0..=10).chain([13, 17, 19]), 50);
 }
 
 #[test]
@@ -542,7 +540,7 @@ fn the_buffers_of_its_own_are_long_enough() {
         }
         numbers.add(number(&made));
     }
-    numbers.assert_reached((0..=10).chain([17]), 5);
+    numbers.assert_reached((0..=10).chain([17, 19]), 5);
     let full = three_parts(&marks(Shape::Line, 4_096, 5), &[Record::NEVER; 4_096]);
     assert_eq!(rollmap::add_to_vec(&full, bound(&NEW)), Err(Refusal::Full));
     let refused = rollmap::take_out_to_vec(&full, 4_096);

@@ -2,13 +2,16 @@
 
 mod common;
 
-use common::{bodies_of, joined, number, one_part, scheduled, some_sheet, three_parts, Tally};
+use common::{
+    bodies_of, joined, number, one_part, our_records, scheduled, scheduled_with, some_sheet,
+    three_parts, with_part_4, Tally, NAMED, TAKEN,
+};
 use oracle::fraction::Fraction;
 use oracle::mark::{touching_value, write_marks, Mark};
-use oracle::process::schedule_in_rank_order;
+use oracle::rank::Edition::{First, Second};
 use oracle::record::{write_records, Record};
 use oracle::sample::{each_list, marks, raw_sheet, Generator, Shape, P1};
-use oracle::sheet::join;
+use oracle::sheet::{join, join_parts};
 use oracle::tree::write_tree;
 
 /// The number of a sheet, once both are seen to give it.
@@ -19,7 +22,7 @@ fn check(sheet: &[u8]) -> u32 {
     number
 }
 
-/// Accepted sheets of one, two and three parts: P1, no marks, and a few samples.
+/// Accepted sheets of one to four parts: P1, no marks, and a few samples.
 fn small_sheets() -> Vec<Vec<u8>> {
     let samples = [
         P1.to_vec(),
@@ -30,10 +33,14 @@ fn small_sheets() -> Vec<Vec<u8>> {
     ];
     let mut sheets = Vec::new();
     for sample in samples {
-        let bodies = bodies_of(&sample, &schedule_in_rank_order(&sample));
-        for parts in 1..=3 {
-            sheets.push(joined(&bodies[..parts]));
+        let [part_1, part_2, part_3] = bodies_of(&sample, &our_records(&sample));
+        let bodies = [part_1, part_2, part_3, First.write().to_vec()];
+        for codes in TAKEN {
+            let body = |code: u16| bodies[usize::from(code) - 1].as_slice();
+            let parts: Vec<_> = codes.iter().map(|&code| (code, body(code))).collect();
+            sheets.push(join_parts(&parts));
         }
+        sheets.push(scheduled_with(Some(Second), &sample));
     }
     sheets
 }
@@ -97,15 +104,15 @@ fn with_field(sheet: &[u8], (at, width): (usize, usize), choice: u32) -> Vec<u8>
     wide[..width].copy_from_slice(&sheet[at..at + width]);
     let own = u32::from_le_bytes(wide);
     let value = match choice {
-        0..=4 => choice,
-        5 => own.wrapping_add(1),
-        6 => own.wrapping_sub(1),
-        7 => own.wrapping_add(11),
-        8 => own.wrapping_sub(14),
-        9 => own.wrapping_neg(),
-        10 => own ^ 0x8000_8000,
-        11 => own ^ 0x0100_0100,
-        12 => sheet.len() as u32,
+        0..=5 => choice,
+        6 => own.wrapping_add(1),
+        7 => own.wrapping_sub(1),
+        8 => own.wrapping_add(11),
+        9 => own.wrapping_sub(14),
+        10 => own.wrapping_neg(),
+        11 => own ^ 0x8000_8000,
+        12 => own ^ 0x0100_0100,
+        13 => sheet.len() as u32,
         _ => u32::MAX,
     };
     let mut changed = sheet.to_vec();
@@ -115,22 +122,25 @@ fn with_field(sheet: &[u8], (at, width): (usize, usize), choice: u32) -> Vec<u8>
 
 #[test]
 fn every_field_of_the_contents_and_every_two() {
-    let (p1, none) = (scheduled(&P1), scheduled(&[]));
     let mut numbers = Tally::default();
-    for sheet in [&p1, &none] {
-        for first in fields(3) {
-            for choice in 0..14 {
-                let once = with_field(sheet, first, choice);
+    for sheet in NAMED.into_iter().flat_map(|named| {
+        let marks: [&[Mark]; 2] = [&P1, &[]];
+        marks.map(|marks| scheduled_with(named, marks))
+    }) {
+        let fields = fields(sheet[0].into());
+        for &first in &fields {
+            for choice in 0..15 {
+                let once = with_field(&sheet, first, choice);
                 numbers.add(check(&once));
-                for second in fields(3) {
-                    for choice in 0..14 {
+                for &second in &fields {
+                    for choice in 0..15 {
                         check(&with_field(&once, second, choice));
                     }
                 }
             }
         }
     }
-    numbers.assert_reached(0..=3, 5);
+    numbers.assert_reached([0, 1, 2, 3, 19], 3);
 }
 
 #[test]
@@ -160,7 +170,7 @@ fn ends_that_wrap_are_no_ends() {
 
 #[test]
 fn every_length_of_a_body() {
-    let bodies = bodies_of(&P1, &schedule_in_rank_order(&P1));
+    let bodies = bodies_of(&P1, &our_records(&P1));
     for parts in 1..=3 {
         for body in 0..parts {
             for length in 0..bodies[body].len() + 30 {
@@ -173,6 +183,61 @@ fn every_length_of_a_body() {
     for length in [45_045, 45_055, 45_056, 45_057, 45_067, 45_078, 65_536 * 11] {
         let number = check(&join(&[&vec![0; length]]));
         assert_eq!(number == 0, length <= 45_056 && length % 11 == 0);
+    }
+}
+
+#[test]
+fn every_list_of_codes() {
+    let mut numbers = Tally::default();
+    for length in 0..=5 {
+        each_list(&[0, 1, 2, 3, 4, 5], length, &mut |codes| {
+            for part_4 in [&[1][..], &[2], &[0], &[]] {
+                let body = |code| if code == 4 { part_4 } else { &[] };
+                let parts: Vec<_> = codes.iter().map(|&code| (code, body(code))).collect();
+                let number = check(&join_parts(&parts));
+                let taken = TAKEN.contains(&codes);
+                assert_eq!(taken, [0, 19].contains(&number), "{codes:?}");
+                numbers.add(number);
+            }
+        });
+    }
+    numbers.assert_reached([0, 1, 2, 19], 5);
+}
+
+#[test]
+fn every_byte_and_some_lengths_of_part_4() {
+    let (part_1, part_2) = (write_marks(&P1), write_records(&our_records(&P1)));
+    let sheets = [
+        one_part(&P1),
+        join(&[&part_1, &part_2]),
+        scheduled(&P1),
+        scheduled(&[]),
+    ];
+    for sheet in sheets {
+        for byte in 0..=255 {
+            let expected = if byte == 1 || byte == 2 { 0 } else { 19 };
+            assert_eq!(check(&with_part_4(&sheet, &[byte])), expected);
+            for length in [2, 3, 10, 11, 14] {
+                assert_eq!(check(&with_part_4(&sheet, &vec![byte; length])), 19);
+            }
+        }
+        assert_eq!(check(&with_part_4(&sheet, &[])), 19);
+    }
+}
+
+#[test]
+fn part_4_is_asked_after_7_and_before_8() {
+    let (part_1, part_2) = (write_marks(&P1), write_records(&our_records(&P1)));
+    for part_4 in [&[][..], &[0], &[3], &[255], &[1, 1]] {
+        let numbers = |part_2: &[u8], part_3: &[u8]| {
+            let without_index = join_parts(&[(1, &part_1), (2, part_2), (4, part_4)]);
+            let whole = join(&[&part_1, part_2, part_3, part_4]);
+            [check(&without_index), check(&whole)]
+        };
+        assert_eq!(numbers(&part_2[1..], &[0; 7]), [7, 7]);
+        assert_eq!(numbers(&[0; 56], &[0; 7]), [19, 7]);
+        assert_eq!(numbers(&[0; 56], &[0; 8]), [19, 19]);
+        assert_eq!(numbers(&part_2, &[0; 8]), [19, 19]);
     }
 }
 
@@ -236,7 +301,7 @@ fn records_for_every_mark_that_nearly_fit() {
     let mut numbers = Tally::default();
     for (seed, shape) in (0..12).flat_map(|seed| Shape::ALL.map(|shape| (seed, shape))) {
         let sample = marks(shape, 5, seed);
-        let ours = schedule_in_rank_order(&sample);
+        let ours = our_records(&sample);
         for mark in 0..sample.len() {
             let mut records = ours.clone();
             for other in 0..sample.len() {
@@ -291,8 +356,11 @@ fn every_tree_of_a_few_marks() {
         .flat_map(|shape| (1..=5).map(move |n| (shape, n)))
     {
         let sample = marks(shape, n, n as u64);
-        let ours = schedule_in_rank_order(&sample);
-        for records in [ours, common::foreign_records(&mut generator, &sample)] {
+        let ours = our_records(&sample);
+        for records in [
+            ours,
+            common::foreign_records(&mut generator, First.reel(&sample)),
+        ] {
             let (part_1, part_2) = (write_marks(&sample), write_records(&records));
             let mut choice: Vec<u16> = (0..n as u16).collect();
             choice.extend([n as u16, 256].iter().take(5 - n.min(5)));
@@ -334,7 +402,7 @@ fn many_sheets_with_a_few_faults() {
         let sheet = some_sheet(&mut generator);
         numbers.add(check(&sheet));
     }
-    numbers.assert_reached(0..=9, 500);
+    numbers.assert_reached((0..=9).chain([19]), 500);
 }
 
 #[test]
@@ -342,7 +410,7 @@ fn the_largest_sheets_and_some_faults_in_them() {
     let mut generator = Generator::new(3);
     for shape in Shape::ALL {
         let sample = marks(shape, 4_096, 1);
-        let records = common::foreign_records(&mut generator, &sample);
+        let records = common::foreign_records(&mut generator, First.reel(&sample));
         let mut sheet = three_parts(&sample, &records);
         assert_eq!(check(&sheet), 0);
         for _ in 0..12 {

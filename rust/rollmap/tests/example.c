@@ -24,9 +24,9 @@ static uint64_t number_at(const uint8_t *bytes, int width)
 
 static void print_schedule(const uint8_t *sheet, size_t length)
 {
-    struct rollmap_extent schedule = rollmap_part(sheet, length, 2);
-    struct rollmap_extent index = rollmap_part(sheet, length, 3);
-    struct rollmap_extent none = rollmap_part(sheet, length, 4);
+    struct rollmap_extent schedule = rollmap_part(sheet, length, ROLLMAP_CODE_SCHEDULE);
+    struct rollmap_extent index = rollmap_part(sheet, length, ROLLMAP_CODE_INDEX);
+    struct rollmap_extent none = rollmap_part(sheet, length, ROLLMAP_CODE_EDITION);
     unsigned m;
 
     printf("part 2 at %u, %u bytes\n", schedule.offset, schedule.length);
@@ -101,20 +101,70 @@ static void print_changes(const uint8_t *sheet, size_t length)
            (unsigned long)number_at(record + 10, 4));
 }
 
-/* The bodies that are left out may be null. */
-static void print_ignored(const uint8_t *sheet)
+/* Further rows than codes are ignored, and fewer are refused. */
+static void print_rows(const uint8_t *sheet)
 {
+    static const uint16_t codes[3] = {ROLLMAP_CODE_MARKS, ROLLMAP_CODE_SCHEDULE, ROLLMAP_CODE_EDITION};
+    static const uint8_t edition[1] = {ROLLMAP_EDITION_FIRST};
     uint8_t out[ROLLMAP_SCHEDULED_BYTES(N)];
     struct rollmap_answer answer;
     const uint8_t *body1 = sheet + ROLLMAP_CONTENTS_BYTES(3);
     const size_t length1 = ROLLMAP_MARK_BYTES * N, length2 = ROLLMAP_RECORD_BYTES * N;
+    struct rollmap_body rows[3];
 
-    answer = rollmap_assemble(1, body1, length1, NULL, 0, NULL, 0, out, sizeof out);
-    printf("no bodies 2 and 3: %u %u\n", answer.number, answer.value);
-    answer = rollmap_assemble(2, body1, length1, body1 + length1, length2, NULL, 0, out, sizeof out);
-    printf("no body 3: %u %u\n", answer.number, answer.value);
-    answer = rollmap_assemble(0, NULL, 0, NULL, 0, NULL, 0, out, sizeof out);
+    rows[0].bytes = body1;
+    rows[0].length = length1;
+    rows[1].bytes = body1 + length1;
+    rows[1].length = length2;
+    rows[2].bytes = edition;
+    rows[2].length = sizeof edition;
+    answer = rollmap_assemble(codes, 1, rows, 3, out, sizeof out);
+    printf("part 1 of three: %u %u\n", answer.number, answer.value);
+    answer = rollmap_assemble(codes, 3, rows, 3, out, sizeof out);
+    printf("parts 1, 2 and 4: %u %u\n", answer.number, answer.value);
+    answer = rollmap_assemble(codes, 3, rows, 2, out, sizeof out);
+    printf("two rows for three codes: %u %u\n", answer.number, answer.value);
+    answer = rollmap_assemble(codes + 1, 2, rows + 1, 2, out, sizeof out);
+    printf("no part 1: %u %u\n", answer.number, answer.value);
+    answer = rollmap_assemble(codes, 0, rows, 3, out, sizeof out);
     printf("no parts: %u %u\n", answer.number, answer.value);
+}
+
+/* Marks 1 and 2 have equal priority; with a larger radius, mark 2 ranks higher in the second
+   edition. */
+static void print_edition(uint8_t edition)
+{
+    static const uint16_t codes[2] = {ROLLMAP_CODE_MARKS, ROLLMAP_CODE_EDITION};
+    uint8_t larger[sizeof marks], sheet[ROLLMAP_CONTENTS_BYTES(2) + sizeof marks + 1];
+    uint8_t work[ROLLMAP_WORK_BYTES(N)];
+    uint8_t out[ROLLMAP_SCHEDULED_BYTES(N) + ROLLMAP_EDITION_BYTES + 1];
+    struct rollmap_body rows[2];
+    struct rollmap_answer answer;
+    struct rollmap_extent extent;
+
+    memcpy(larger, marks, sizeof marks);
+    larger[2 * ROLLMAP_MARK_BYTES + 4] = 90;
+    rows[0].bytes = larger;
+    rows[0].length = sizeof larger;
+    rows[1].bytes = &edition;
+    rows[1].length = 1;
+    answer = rollmap_assemble(codes, 2, rows, 2, sheet, sizeof sheet);
+    printf("edition %u: %u %u", edition, answer.number, answer.value);
+    if (answer.number != ROLLMAP_SUCCESS) {
+        printf("\n");
+        return;
+    }
+    memset(out, 0xee, sizeof out);
+    answer = rollmap_schedule(sheet, sizeof sheet, work, sizeof work, out, sizeof out - 2);
+    printf(", in a short buffer %u %u", answer.number, answer.value);
+    answer = rollmap_schedule(sheet, sizeof sheet, work, sizeof work, out, sizeof out);
+    extent = rollmap_part(out, answer.value, ROLLMAP_CODE_EDITION);
+    printf(", scheduled %u %u, then %02x, part 4 at %u: %u", answer.number, answer.value,
+           out[answer.value], extent.offset, out[extent.offset]);
+    extent = rollmap_part(out, answer.value, ROLLMAP_CODE_SCHEDULE);
+    printf(", 1 by %u, 2 by %u\n",
+           (unsigned)number_at(out + extent.offset + 1 * ROLLMAP_RECORD_BYTES, 2),
+           (unsigned)number_at(out + extent.offset + 2 * ROLLMAP_RECORD_BYTES, 2));
 }
 
 static void print_refusals(const uint8_t *sheet, size_t length)
@@ -173,10 +223,12 @@ int main(void)
     uint8_t sheet[ROLLMAP_CONTENTS_BYTES(1) + sizeof marks];
     uint8_t work[ROLLMAP_WORK_BYTES(N)];
     uint8_t out[ROLLMAP_SCHEDULED_BYTES(N) + 1];
+    const uint16_t code = ROLLMAP_CODE_MARKS;
+    const struct rollmap_body row = {marks, sizeof marks};
     struct rollmap_answer answer;
 
     memset(out, 0xee, sizeof out);
-    answer = rollmap_assemble(1, marks, sizeof marks, marks, 0, marks, 0, sheet, sizeof sheet);
+    answer = rollmap_assemble(&code, 1, &row, 1, sheet, sizeof sheet);
     printf("assemble: %u %u\n", answer.number, answer.value);
     answer = rollmap_schedule(sheet, sizeof sheet, work, sizeof work - 1, out, sizeof out);
     printf("short work: %u %u, then %02x\n", answer.number, answer.value, out[0]);
@@ -188,7 +240,10 @@ int main(void)
     print_views(out, sizeof out - 1);
     print_refusals(out, sizeof out - 1);
     print_changes(out, sizeof out - 1);
-    print_ignored(out);
+    print_rows(out);
+    print_edition(ROLLMAP_EDITION_FIRST);
+    print_edition(ROLLMAP_EDITION_SECOND);
+    print_edition(3);
     print_marks();
     print_logs();
     return 0;

@@ -2,11 +2,10 @@
 
 mod common;
 
-use common::{bound, one_part, scheduled, three_parts};
+use common::{bound, one_part, our_records, scheduled, three_parts, with_part_4};
 use oracle::fraction::Removal;
-use oracle::process::schedule_in_rank_order;
 use oracle::sample::{marks, Shape, P1};
-use rollmap::{marks_to_vec, Mark, Record};
+use rollmap::{marks_to_vec, Code, Edition, Mark, Record};
 
 /// A record of the oracle as the bindings have it.
 fn bound_record(record: &oracle::record::Record) -> Record {
@@ -25,7 +24,7 @@ fn marks_and_records_are_the_oracles() {
     for shape in Shape::ALL {
         for n in [0, 1, 2, 100] {
             let marks = marks(shape, n, 8);
-            let records = schedule_in_rank_order(&marks);
+            let records = our_records(&marks);
             let sheet = three_parts(&marks, &records);
 
             let own = rollmap::marks(&sheet).unwrap();
@@ -45,7 +44,7 @@ fn written_marks_are_part_1() {
         let sheet = one_part(&marks(shape, 50, 9));
         let own: Vec<Mark> = rollmap::marks(&sheet).unwrap().collect();
         assert_eq!(
-            rollmap::part(&sheet, 1),
+            rollmap::part(&sheet, Code::Marks),
             Some(marks_to_vec(&own).as_slice())
         );
     }
@@ -59,4 +58,19 @@ fn a_refused_sheet_has_neither() {
     assert!(rollmap::records(cut).is_none());
     assert!(rollmap::marks(&one_part(&P1)).is_some());
     assert!(rollmap::records(&one_part(&P1)).is_none());
+}
+
+#[test]
+fn a_sheet_goes_by_the_edition_that_part_4_names() {
+    for sheet in [one_part(&P1), scheduled(&P1), scheduled(&[])] {
+        assert_eq!(rollmap::edition(&sheet), Some(Edition::First));
+        for edition in [Edition::First, Edition::Second] {
+            let named = with_part_4(&sheet, &edition.to_bytes());
+            assert_eq!(rollmap::edition(&named), Some(edition));
+        }
+        for part_4 in [&[][..], &[0], &[3], &[1, 2]] {
+            assert_eq!(rollmap::edition(&with_part_4(&sheet, part_4)), None);
+        }
+        assert_eq!(rollmap::edition(&sheet[1..]), None);
+    }
 }

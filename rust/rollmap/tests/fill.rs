@@ -3,17 +3,16 @@
 mod common;
 
 use common::{
-    bodies_of, damage_rows, number, one_part, some_marks, some_room, some_sheet, turn, Tally,
-    FAULTS_OF_A_MARK,
+    bodies_of, damage_rows, number, one_part, our_records, some_marks, some_room, some_sheet, turn,
+    with_part_4, Tally, FAULTS_OF_A_MARK,
 };
 use oracle::fill::old_radius;
 use oracle::mark::{read_marks, write_marks, Mark};
-use oracle::process::schedule_in_rank_order;
 use oracle::record::{write_records, Record};
 use oracle::sample::{marks, Generator, Shape};
 use oracle::sheet::{join, split};
 use oracle::tree;
-use rollmap::{Refusal, MARK_BYTES};
+use rollmap::{Code, Refusal, MARK_BYTES};
 
 /// Two moisture patches with the house radius.
 const PATCHES: [Mark; 2] = [patch(0, 100, 9), patch(100, 149, 5)];
@@ -143,7 +142,7 @@ fn filling_twice_is_filling_once() {
 fn old_records(sample: &[Mark]) -> Vec<Record> {
     let part_1 = write_marks(sample);
     let filled = oracle::fill::fill(&part_1, part_1.len()).expect("the marks are taken");
-    schedule_in_rank_order(&read_marks(&filled))
+    our_records(&read_marks(&filled))
 }
 
 /// The sheet of three parts that was scheduled then.
@@ -157,7 +156,7 @@ fn old_sheet(sample: &[Mark]) -> Vec<u8> {
 fn an_old_sheet_of_two_patches_is_rescued() {
     let old = old_sheet(&PATCHES);
     assert_eq!(rollmap::check(&old), Err(Refusal::Schedule));
-    assert_eq!(rollmap::part(&old, 1), None);
+    assert_eq!(rollmap::part(&old, Code::Marks), None);
     let sheet = rollmap::rescue(&old).expect("its marks are taken");
     assert_eq!(rollmap::check(&sheet), Ok(()));
     let filled = PATCHES.map(|mark| Mark {
@@ -167,7 +166,10 @@ fn an_old_sheet_of_two_patches_is_rescued() {
     assert_eq!(sheet, one_part(&filled));
     let scheduled = rollmap::schedule_to_vec(&sheet).expect("it is accepted");
     let records = write_records(&old_records(&PATCHES));
-    assert_eq!(rollmap::part(&scheduled, 2), Some(records.as_slice()));
+    assert_eq!(
+        rollmap::part(&scheduled, Code::Schedule),
+        Some(records.as_slice())
+    );
 }
 
 #[test]
@@ -207,11 +209,13 @@ fn a_rescue_asks_1_to_6() {
 }
 
 #[test]
-fn what_parts_2_and_3_hold_plays_no_part_in_a_rescue() {
+fn what_the_other_parts_hold_plays_no_part_in_a_rescue() {
     let [part_1, ..] = bodies_of(&PATCHES, &old_records(&PATCHES));
     let expected = rollmap::rescue(&join(&[&part_1]));
     for junk in [vec![], vec![0xff; 5], vec![0; 28]] {
         assert_eq!(rollmap::rescue(&join(&[&part_1, &junk])), expected);
-        assert_eq!(rollmap::rescue(&join(&[&part_1, &junk, &junk])), expected);
+        let three = join(&[&part_1, &junk, &junk]);
+        assert_eq!(rollmap::rescue(&three), expected);
+        assert_eq!(rollmap::rescue(&with_part_4(&three, &junk)), expected);
     }
 }

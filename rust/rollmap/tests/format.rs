@@ -2,10 +2,10 @@
 
 mod common;
 
-use common::one_part;
+use common::{one_part, with_part_4, TAKEN};
 use oracle::mark::{house_radius, Mark};
 use oracle::sample::P1;
-use rollmap::schedule_to_vec;
+use rollmap::{schedule_to_vec, Code};
 
 const FORMAT: &str = include_str!("../../../docs/FORMAT.md");
 
@@ -49,9 +49,43 @@ fn the_sheets_in_the_text_are_accepted() {
         hexadecimal(&given[..2]),
         hexadecimal(&given[2..12])
     )));
+    let named = with_part_4(&given, &[2]);
+    assert_eq!((named.len(), rollmap::check(&named)), (67, Ok(())));
+    assert!(FORMAT.contains(&format!(
+        "`{}`, `{}`, `{}`, the marks, and `{}`",
+        hexadecimal(&named[..2]),
+        hexadecimal(&named[2..12]),
+        hexadecimal(&named[12..22]),
+        hexadecimal(&named[66..])
+    )));
     let empty = one_part(&[]);
     assert_eq!(rollmap::check(&empty), Ok(()));
     assert!(FORMAT.contains(&format!("`{}`", hexadecimal(&empty))));
+}
+
+#[test]
+fn the_codes_are_those_of_the_text() {
+    let list = |codes: &&[u16]| {
+        let words: Vec<String> = codes.iter().map(u16::to_string).collect();
+        words.join(", ")
+    };
+    let lists: Vec<String> = TAKEN.iter().map(list).collect();
+    let (last, others) = lists.split_last().expect("there are lists");
+    let sentence = format!("So the codes are {}; or {last}.", others.join("; "));
+    assert!(FORMAT.contains(&sentence), "{sentence}");
+    let code = |code: &Code| format!("\n| {} | the ", code.number());
+    assert!(Code::ALL.iter().all(|it| FORMAT.contains(&code(it))));
+}
+
+#[test]
+fn a_scheduled_sheet_is_as_long_as_the_text_says() {
+    assert!(FORMAT.contains("32 + 27n bytes") && FORMAT.contains("43 + 27n"));
+    for n in 0..=4 {
+        let given = one_part(&P1[..n]);
+        assert_eq!(schedule_to_vec(&given).unwrap().len(), 32 + 27 * n);
+        let named = with_part_4(&given, &[1]);
+        assert_eq!(schedule_to_vec(&named).unwrap().len(), 43 + 27 * n);
+    }
 }
 
 #[test]

@@ -5,14 +5,14 @@ mod common;
 use std::io::Write;
 use std::process::{Command, Stdio};
 
-use common::{bound, one_part, three_parts, PROGRAM};
+use common::{bound, one_part, rivals, three_parts, with_part_4, PROGRAM};
 use oracle::mark::{read_marks, touching_value, Mark};
 use oracle::record::{read_records, removals, Record};
-use oracle::sample::{marks, Shape, P1};
+use oracle::sample::{marks, Generator, Shape, P1};
 use oracle::view::{map_and_count, Edges};
 use rollmap::{
     add_to_vec, map_bytes, schedule_to_vec, scheduled_bytes, take_out_to_vec, view_to_map,
-    work_bytes, Refusal, View, Work, Zoom,
+    work_bytes, Code, Edition, Refusal, View, Work, Zoom, EDITION_BYTES,
 };
 
 const GUARDS: &str = include_str!("../../../docs/GUARDS.md");
@@ -20,6 +20,11 @@ const GUARDS: &str = include_str!("../../../docs/GUARDS.md");
 /// The sheet of these marks as scheduling writes it.
 fn scheduled(marks: &[Mark]) -> Vec<u8> {
     schedule_to_vec(&one_part(marks)).unwrap()
+}
+
+/// The sheet of these marks with an edition named, as scheduling writes it.
+fn scheduled_by(edition: Edition, marks: &[Mark]) -> Vec<u8> {
+    schedule_to_vec(&with_part_4(&one_part(marks), &edition.to_bytes())).unwrap()
 }
 
 /// The numbers of the marks that a view of all places shows.
@@ -72,7 +77,7 @@ fn every_test_that_the_page_names_is_here() {
     let sentences = GUARDS.lines().filter_map(|line| line.split_once("Test: "));
     let named = cells.chain(sentences.map(|(_, name)| name.trim_end_matches('.')));
     let names: Vec<&str> = named.flat_map(|names| names.split(", ")).collect();
-    assert_eq!(names.len(), 25);
+    assert_eq!(names.len(), 29);
     for name in names {
         let test = format!("#[test]\nfn {}()", name.trim_matches('`'));
         assert!(own.contains(&test), "{name}");
@@ -120,12 +125,15 @@ fn the_cut_list_reads_part_1() {
     for shape in Shape::ALL {
         let marks = marks(shape, 200, 3);
         let (given, sheet) = (one_part(&marks), scheduled(&marks));
-        assert_eq!(rollmap::part(&sheet, 1), rollmap::part(&given, 1));
+        assert_eq!(
+            rollmap::part(&sheet, Code::Marks),
+            rollmap::part(&given, Code::Marks)
+        );
     }
     // A refused sheet is not a reel without marks.
     let (empty, refused) = (scheduled(&[]), &scheduled(&P1)[1..]);
-    assert_eq!(rollmap::part(&empty, 1), Some([].as_slice()));
-    assert_eq!(rollmap::part(refused, 1), None);
+    assert_eq!(rollmap::part(&empty, Code::Marks), Some([].as_slice()));
+    assert_eq!(rollmap::part(refused, Code::Marks), None);
 }
 
 #[test]
@@ -156,7 +164,7 @@ fn the_cut_list_keeps_its_120() {
     };
     let marks = [patch(0, 0), patch(1_000, 7), Mark::plain(2_000, 0, 0, 0)];
     let sheet = scheduled(&marks);
-    let filled = rollmap::fill_to_vec(rollmap::part(&sheet, 1).unwrap()).unwrap();
+    let filled = rollmap::fill_to_vec(rollmap::part(&sheet, Code::Marks).unwrap()).unwrap();
     let radii = read_marks(&filled).into_iter().map(|mark| mark.radius);
     assert!(radii.eq([120, 7, 40]));
     // The sheet's own labels grow by 150.
@@ -242,6 +250,24 @@ fn of_equal_values_the_highest_ranked_is_named() {
 }
 
 #[test]
+fn of_equal_priorities_the_second_edition_keeps_the_larger_label() {
+    // A patch of the house radius, 150, between two written radii.
+    let patch = Mark {
+        kind: 100,
+        ..Mark::plain(50, 0, 0, 5)
+    };
+    let marks = [Mark::plain(0, 0, 149, 5), patch, Mark::plain(90, 0, 10, 5)];
+    let [first, second] = [Edition::First, Edition::Second].map(|it| scheduled_by(it, &marks));
+    assert_eq!(shown(&first, Zoom::Stop(16)), [0]);
+    assert_eq!(shown(&second, Zoom::Stop(16)), [1]);
+    assert_eq!(eliminators(&second), [Some(1), None, Some(1)]);
+    // A higher priority counts before any radius.
+    let higher = [Mark::plain(0, 0, 1, 6), patch];
+    let sheet = scheduled_by(Edition::Second, &higher);
+    assert_eq!(shown(&sheet, Zoom::Stop(16)), [0]);
+}
+
+#[test]
 fn a_mark_is_gone_at_its_own_removal_zoom() {
     let sheet = scheduled(&[Mark::plain(0, 0, 10, 9), Mark::plain(100, 0, 10, 5)]);
     assert_eq!(shown(&sheet, wheel(319)), [0, 1]);
@@ -322,7 +348,9 @@ fn a_view_is_the_full_scan() {
     for shape in Shape::ALL {
         let marks = marks(shape, 300, 7);
         let sheet = scheduled(&marks);
-        let removals = removals(&read_records(rollmap::part(&sheet, 2).unwrap()));
+        let removals = removals(&read_records(
+            rollmap::part(&sheet, Code::Schedule).unwrap(),
+        ));
         for k in [1, 17, 64, 1_000, 65_536] {
             for (low, high) in [(i16::MIN, i16::MAX), (-5_000, 5_000), (0, 0)] {
                 let (x0, x1, y0, y1) = (low, high, low, high);
@@ -532,6 +560,71 @@ fn a_refused_change_leaves_the_old_sheet() {
     assert_eq!(added, Err(Refusal::Full));
     assert_eq!(out, before);
     assert_eq!(shown(&out[..old.len()], Zoom::Stop(0)), [0, 1]);
+}
+
+// ---- reels of both editions
+
+#[test]
+fn a_sheet_names_its_own_edition_and_keeps_it() {
+    let mut generator = Generator::new(90);
+    for edition in [Edition::First, Edition::Second] {
+        let marks = rivals(&mut generator, 30);
+        let sheet = scheduled_by(edition, &marks);
+        assert_eq!(rollmap::edition(&sheet), Some(edition));
+        assert_eq!(
+            rollmap::part(&sheet, Code::Edition),
+            Some(&edition.to_bytes()[..])
+        );
+        let more = add_to_vec(&sheet, bound(&P1[0])).unwrap();
+        assert_eq!(rollmap::edition(&more), Some(edition));
+        let fewer = take_out_to_vec(&more, 0).unwrap();
+        assert_eq!(rollmap::edition(&fewer), Some(edition));
+        // Its bytes are asked for: the length without part 4 is too short.
+        let (mut work, mut out) = (vec![0; work_bytes(30)], vec![0; scheduled_bytes(30)]);
+        let short = rollmap::schedule(&sheet, Work(&mut work), &mut out);
+        assert_eq!(short, Err(Refusal::Buffer));
+        out.resize(scheduled_bytes(30) + EDITION_BYTES, 0);
+        let written = rollmap::schedule(&sheet, Work(&mut work), &mut out);
+        assert_eq!(written, Ok(out.len()));
+    }
+    // Old reels have none, and are read by the first.
+    let old = scheduled(&P1);
+    assert_eq!(rollmap::part(&old, Code::Edition), None);
+    assert_eq!(rollmap::edition(&old), Some(Edition::First));
+    assert_eq!(rollmap::edition(&old[1..]), None);
+}
+
+#[test]
+fn another_edition_is_another_schedule() {
+    let marks = [Mark::plain(0, 0, 10, 5), Mark::plain(90, 0, 20, 5)];
+    let first = scheduled_by(Edition::First, &marks);
+    let part = |code| (code, rollmap::part(&first, code).unwrap());
+    let [marks_part, schedule, index] = [Code::Marks, Code::Schedule, Code::Index].map(part);
+    let second = Edition::Second.to_bytes();
+    // With the old schedule, part 4 alone is not exchanged.
+    let exchanged = [marks_part, schedule, index, (Code::Edition, &second)];
+    assert_eq!(rollmap::assemble_to_vec(&exchanged), Err(Refusal::Schedule));
+    // The marks are put together with it, and scheduled.
+    let afresh = rollmap::assemble_to_vec(&[marks_part, (Code::Edition, &second)]).unwrap();
+    let sheet = schedule_to_vec(&afresh).unwrap();
+    assert_eq!(sheet, scheduled_by(Edition::Second, &marks));
+    assert_eq!(eliminators(&sheet), [Some(1), None]);
+    // A schedule that fits both passes with either.
+    let both = with_part_4(&scheduled(&P1), &second);
+    assert_eq!(rollmap::check(&both), Ok(()));
+}
+
+#[test]
+fn an_unknown_edition_is_refused() {
+    for sheet in [one_part(&P1), scheduled(&P1)] {
+        for part_4 in [&[][..], &[0], &[3], &[255], &[2, 2]] {
+            let damaged = with_part_4(&sheet, part_4);
+            assert_eq!(rollmap::check(&damaged), Err(Refusal::Edition));
+            assert_eq!(schedule_to_vec(&damaged), Err(Refusal::Edition));
+            let view = View::whole(Zoom::Stop(0));
+            assert_eq!(view_to_map(&damaged, view), Err(Refusal::Edition));
+        }
+    }
 }
 
 // ---- what every consumer checks once

@@ -10,8 +10,12 @@ use std::path::Path;
 use std::process::{Command, Output, Stdio};
 use std::thread;
 
-use common::{foreign_records, one_part, scheduled, some_sheet, three_parts, PROGRAM};
+use common::{
+    foreign_records, one_part, rivals, scheduled, scheduled_with, some_sheet, three_parts,
+    with_named, with_part_4, NAMED, PROGRAM,
+};
 use oracle::mark::Mark;
+use oracle::rank::Edition::{First, Second};
 use oracle::report::{LONGEST_INPUT, MOST_PRINTED};
 use oracle::sample::{marks, Generator, Shape, P1};
 
@@ -148,10 +152,41 @@ fn the_schedule_is_worked_out_afresh() {
     let mut generator = Generator::new(15);
     for shape in Shape::ALL {
         let marks = marks(shape, 40, 2);
-        let records = foreign_records(&mut generator, &marks);
+        let records = foreign_records(&mut generator, First.reel(&marks));
         let text = run(&three_parts(&marks, &records));
         assert_eq!(text, run(&one_part(&marks)));
     }
+}
+
+#[test]
+fn a_sheet_is_printed_by_its_own_edition() {
+    let larger_second = [Mark::plain(0, 0, 10, 5), Mark::plain(90, 0, 20, 5)];
+    let sheet = one_part(&larger_second);
+    let first = "marks 2\n0 -\n1 0 8100 900 192\n";
+    assert_eq!(run(&sheet), first);
+    assert_eq!(run(&with_named(sheet.clone(), Some(First))), first);
+    let second = "marks 2\n0 1 8100 900 192\n1 -\n";
+    assert_eq!(run(&with_named(sheet, Some(Second))), second);
+    let mut generator = Generator::new(16);
+    for named in NAMED {
+        for n in [0, 1, 2, 9, 200, MOST_PRINTED] {
+            let marks = rivals(&mut generator, n);
+            let text = run(&with_named(one_part(&marks), named));
+            assert_eq!(text, run(&scheduled_with(named, &marks)));
+        }
+    }
+}
+
+#[test]
+fn a_sheet_of_another_edition_is_refused() {
+    for sheet in [one_part(&P1), scheduled(&P1), one_part(&[])] {
+        for part_4 in [&[][..], &[0], &[3], &[255], &[1, 1]] {
+            assert_eq!(run(&with_part_4(&sheet, part_4)), "refused 19\n");
+        }
+    }
+    let many = one_part(&marks(Shape::Grid, MOST_PRINTED + 1, 1));
+    assert_eq!(run(&with_part_4(&many, &[0])), "refused 19\n");
+    assert_eq!(run(&with_part_4(&many, &[2])), "refused 14\n");
 }
 
 #[test]

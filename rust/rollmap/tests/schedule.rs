@@ -3,15 +3,16 @@
 mod common;
 
 use common::{
-    bodies_of, foreign_records, joined, number, one_part, schedule_in, scheduled, some_sheet,
-    tied_marks, Tally,
+    bodies_of, foreign_records, joined, named_in, number, one_part, schedule_in, scheduled,
+    scheduled_with, some_sheet, tied_marks, Tally,
 };
 use oracle::mark::Mark;
 use oracle::process::{schedule_by_process, schedule_by_sorted_pairs};
+use oracle::rank::Edition::First;
 use oracle::record::{read_records, Record};
 use oracle::sample::{marks, small_choice, Generator, Shape, P1};
 use oracle::tree::read_tree;
-use rollmap::{schedule_to_vec, scheduled_bytes, work_bytes, Work};
+use rollmap::{schedule_to_vec, scheduled_bytes, work_bytes, Code, Work};
 
 /// Schedules a sheet in buffers of these lengths, and sees that nothing but the
 /// scheduled sheet is written, or nothing at all. Answers the number.
@@ -29,7 +30,7 @@ fn becomes(sheet: &[u8], expected: &[u8]) {
 /// The records that scheduling these marks writes.
 fn records(marks: &[Mark]) -> Vec<Record> {
     let sheet = schedule_to_vec(&one_part(marks)).unwrap();
-    read_records(rollmap::part(&sheet, 2).unwrap())
+    read_records(rollmap::part(&sheet, Code::Schedule).unwrap())
 }
 
 #[test]
@@ -42,7 +43,10 @@ fn proved_examples() {
     ];
     assert_eq!(records(&P1), p1);
     let sheet = schedule_to_vec(&one_part(&P1)).unwrap();
-    assert_eq!(read_tree(rollmap::part(&sheet, 3).unwrap()), [0, 1, 3, 2]);
+    assert_eq!(
+        read_tree(rollmap::part(&sheet, Code::Index).unwrap()),
+        [0, 1, 3, 2]
+    );
     let p5 = [Mark::plain(7, 7, 1, 5), Mark::plain(7, 7, 1, 5)];
     assert_eq!(records(&p5), [Record::NEVER, Record::new(0, 0, 4)]);
     let p6 = [
@@ -69,7 +73,7 @@ fn many_small_sheets() {
             let sample = marks(shape, seed as usize % 24, seed);
             let sheet = scheduled(&sample);
             if seed < 200 {
-                let records = schedule_by_process(&sample);
+                let records = schedule_by_process(First.reel(&sample));
                 assert_eq!(sheet, joined(&bodies_of(&sample, &records)));
             }
             becomes(&one_part(&sample), &sheet);
@@ -108,7 +112,7 @@ fn sheets_of_a_few_hundred_marks() {
             becomes(&one_part(&sample), &scheduled(&sample));
         }
         let sample = marks(shape, 200, 1);
-        let pairs = schedule_by_sorted_pairs(&sample);
+        let pairs = schedule_by_sorted_pairs(First.reel(&sample));
         becomes(&one_part(&sample), &joined(&bodies_of(&sample, &pairs)));
     }
     for _ in 0..60 {
@@ -138,7 +142,7 @@ fn the_largest_sheets_of_every_shape() {
 #[test]
 fn a_largest_sheet_by_all_pairs() {
     let sample = marks(Shape::Grid, 4_096, 13);
-    let records = schedule_by_sorted_pairs(&sample);
+    let records = schedule_by_sorted_pairs(First.reel(&sample));
     becomes(&one_part(&sample), &joined(&bodies_of(&sample, &records)));
 }
 
@@ -177,7 +181,10 @@ fn parts_2_and_3_are_replaced() {
             let sample = marks(shape, n, 3);
             let ours = scheduled(&sample);
             becomes(&ours, &ours);
-            let foreign = bodies_of(&sample, &foreign_records(&mut generator, &sample));
+            let foreign = bodies_of(
+                &sample,
+                &foreign_records(&mut generator, First.reel(&sample)),
+            );
             becomes(&joined(&foreign[..2]), &ours);
             becomes(&joined(&foreign), &ours);
         }
@@ -218,14 +225,14 @@ fn refused_sheets_write_nothing() {
         schedule(&sheet, work, out, Err(refused));
         let number = match oracle::sheet::open(&sheet) {
             Ok(opened) => {
-                let expected = scheduled(&opened.marks);
+                let expected = scheduled_with(named_in(&opened), &opened.marks);
                 schedule(&sheet, 2_400, 1_200, Ok(&expected))
             }
             Err(number) => schedule(&sheet, 2_400, 1_200, Err(number)),
         };
         numbers.add(number);
     }
-    numbers.assert_reached(0..=9, 100);
+    numbers.assert_reached((0..=9).chain([19]), 100);
 }
 
 #[test]

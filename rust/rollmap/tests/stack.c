@@ -1,5 +1,5 @@
-/* Prints how many bytes of stack each call takes on 4,096 marks: it runs on a stack of which
-   every byte has a known value beforehand. */
+/* Prints how many bytes of stack each call takes on 4,096 marks of the second edition: it runs on
+   a stack of which every byte has a known value beforehand. */
 #define _POSIX_C_SOURCE 200809L
 #include <pthread.h>
 #include <stdio.h>
@@ -13,17 +13,21 @@
 #define OWN_BYTES 256 /* what the painting function itself has below its last local */
 
 static uint8_t marks[N * ROLLMAP_MARK_BYTES];
-static uint8_t sheet[ROLLMAP_CONTENTS_BYTES(1) + sizeof marks];
+static uint8_t sheet[ROLLMAP_CONTENTS_BYTES(1) + sizeof marks + ROLLMAP_EDITION_BYTES];
 static uint8_t work[ROLLMAP_WORK_BYTES(N)];
-static uint8_t out[ROLLMAP_SCHEDULED_BYTES(N)];
-static uint8_t fewer[ROLLMAP_SCHEDULED_BYTES(N - 1)];
+static uint8_t out[ROLLMAP_SCHEDULED_BYTES(N) + ROLLMAP_EDITION_BYTES];
+static uint8_t fewer[ROLLMAP_SCHEDULED_BYTES(N - 1) + ROLLMAP_EDITION_BYTES];
 static uint8_t map[ROLLMAP_MAP_BYTES(N)];
 static uint8_t filled[sizeof marks];
 static uint8_t winder_log[N * ROLLMAP_LOG_RECORD_BYTES];
 
 static uint32_t assemble(void)
 {
-    return rollmap_assemble(1, marks, sizeof marks, NULL, 0, NULL, 0, sheet, sizeof sheet).number;
+    static const uint16_t codes[2] = {ROLLMAP_CODE_MARKS, ROLLMAP_CODE_EDITION};
+    static const uint8_t edition[1] = {ROLLMAP_EDITION_SECOND};
+    const struct rollmap_body bodies[2] = {{marks, sizeof marks}, {edition, sizeof edition}};
+
+    return rollmap_assemble(codes, 2, bodies, 2, sheet, sizeof sheet).number;
 }
 
 static uint32_t schedule(void)

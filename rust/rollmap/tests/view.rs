@@ -3,13 +3,13 @@
 mod common;
 
 use common::{
-    foreign_records, number, one_part, scheduled, some_marks, some_records, some_sheet,
-    three_parts, Lent, Tally,
+    foreign_records, number, one_part, our_records, scheduled, some_marks, some_records,
+    some_sheet, three_parts, Lent, Tally,
 };
 use oracle::fraction::Removal;
 use oracle::map::{is_set, map_bytes};
 use oracle::mark::Mark;
-use oracle::process::schedule_in_rank_order;
+use oracle::rank::Edition::First;
 use oracle::record::{removals, Record};
 use oracle::sample::{marks, Generator, Shape, P1};
 use oracle::view::{map_and_count, Edges};
@@ -293,7 +293,7 @@ fn a_stop_and_its_wheel_value_give_the_same_of_any_sheet() {
         let number = stops_and_wheel_values(&sheet, rectangle, length);
         numbers.add(number);
     }
-    numbers.assert_reached((0..=10).chain([13]), 20);
+    numbers.assert_reached((0..=10).chain([13, 19]), 20);
 }
 
 #[test]
@@ -356,7 +356,7 @@ fn a_mark_is_gone_at_its_own_removal_zoom() {
     let mut exact = 0;
     for shape in Shape::ALL {
         let sample = marks(shape, 60, 5);
-        let records = schedule_in_rank_order(&sample);
+        let records = our_records(&sample);
         let scheduled = Scheduled::new(sample, &records);
         for record in &records {
             let Removal::At(value) = record.removal() else {
@@ -468,7 +468,7 @@ fn many_small_sheets() {
     let mut partly = 0;
     for _ in 0..30_000 {
         let sample = some_marks(&mut generator);
-        let records = some_records(&mut generator, &sample);
+        let records = some_records(&mut generator, First.reel(&sample));
         let scheduled = Scheduled::new(sample, &records);
         for _ in 0..4 {
             let view = scheduled.some_view(&mut generator);
@@ -489,8 +489,8 @@ fn larger_sheets_ours_and_foreign() {
         for n in [63, 64, 65, 200, 777] {
             let sample = marks(shape, n, n as u64);
             let lists = [
-                schedule_in_rank_order(&sample),
-                foreign_records(&mut generator, &sample),
+                our_records(&sample),
+                foreign_records(&mut generator, First.reel(&sample)),
                 vec![Record::NEVER; n],
             ];
             for records in lists {
@@ -541,7 +541,7 @@ fn the_largest_sheets() {
     let mut generator = Generator::new(45);
     for shape in Shape::ALL {
         let sample = marks(shape, 4_096, 8);
-        let records = foreign_records(&mut generator, &sample);
+        let records = foreign_records(&mut generator, First.reel(&sample));
         let scheduled = Scheduled::new(sample, &records);
         for _ in 0..60 {
             let view = scheduled.some_view(&mut generator);
@@ -565,7 +565,7 @@ fn refused_sheets_write_nothing() {
         let number = view(&sheet, asked, generator.choose(&[0, 1, 6, 6, 6]));
         numbers.add(number);
     }
-    numbers.assert_reached((0..=10).chain([13]), 100);
+    numbers.assert_reached((0..=10).chain([13, 19]), 100);
 }
 
 #[test]

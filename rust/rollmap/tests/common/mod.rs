@@ -5,14 +5,16 @@
 
 use std::collections::BTreeMap;
 
+use oracle::contents::Part;
 use oracle::fraction::Fraction;
-use oracle::mark::{ranked, touching_value, write_marks, Mark};
+use oracle::mark::{touching_value, write_marks, Mark};
 use oracle::process::schedule_in_rank_order;
+use oracle::rank::{Edition, Reel};
 use oracle::record::{write_records, Record};
 use oracle::sample::{marks, Generator, Shape};
-use oracle::sheet::join;
+use oracle::sheet::{join, join_parts, split, Opened};
 use oracle::tree;
-use rollmap::{Refusal, Work, MARK_BYTES};
+use rollmap::{scheduled_bytes, work_bytes, Code, Refusal, Work, EDITION_BYTES, MARK_BYTES};
 
 /// The program, as `rt check schedule` builds it.
 pub const PROGRAM: &str = concat!(env!("CARGO_MANIFEST_DIR"), "/../../target/bin/schedule");
@@ -173,6 +175,17 @@ pub fn schedule_in(
     out.assert_answered(&answer, expected)
 }
 
+/// The lengths of work and out that scheduling n marks asks for, with part 4 or without.
+pub fn lengths_with(named: bool, n: usize) -> [usize; 2] {
+    let kept = if named { EDITION_BYTES } else { 0 };
+    [work_bytes(n), scheduled_bytes(n) + kept]
+}
+
+/// Buffers that are long enough for any sheet.
+pub fn longest() -> [usize; 2] {
+    lengths_with(true, rollmap::MOST_MARKS)
+}
+
 /// A length near the one that is needed.
 pub fn some_room(generator: &mut Generator, needed: usize) -> usize {
     match generator.below(6) {
@@ -222,19 +235,53 @@ pub fn three_parts(marks: &[Mark], records: &[Record]) -> Vec<u8> {
     joined(&bodies_of(marks, records))
 }
 
+/// Our records of these marks in the first edition.
+pub fn our_records(marks: &[Mark]) -> Vec<Record> {
+    schedule_in_rank_order(Edition::First.reel(marks))
+}
+
 /// The sheet that scheduling these marks writes.
 pub fn scheduled(marks: &[Mark]) -> Vec<u8> {
-    three_parts(marks, &schedule_in_rank_order(marks))
+    three_parts(marks, &our_records(marks))
+}
+
+/// What a part 4 may say: nothing, where it is not there, or an edition.
+pub const NAMED: [Option<Edition>; 3] = [None, Some(Edition::First), Some(Edition::Second)];
+
+/// The sheet with this part 4 behind its own parts, of which it is none.
+pub fn with_part_4(sheet: &[u8], part_4: &[u8]) -> Vec<u8> {
+    let mut parts = split(sheet).expect("its parts are joined").present();
+    parts.push((4, part_4));
+    join_parts(&parts)
+}
+
+/// The sheet with a part 4 that names this edition, if there is one.
+pub fn with_named(sheet: Vec<u8>, named: Option<Edition>) -> Vec<u8> {
+    match named {
+        Some(edition) => with_part_4(&sheet, &edition.write()),
+        None => sheet,
+    }
+}
+
+/// The sheet that scheduling these marks with such a part 4 writes.
+pub fn scheduled_with(named: Option<Edition>, marks: &[Mark]) -> Vec<u8> {
+    let reel = named.unwrap_or_default().reel(marks);
+    with_named(three_parts(marks, &schedule_in_rank_order(reel)), named)
+}
+
+/// The edition that a sheet's part 4 names, where it is there.
+pub fn named_in(opened: &Opened) -> Option<Edition> {
+    opened.bodies.get(4).map(|_| opened.edition)
 }
 
 /// Records that question 8 takes and that are most likely not ours: each mark
 /// stays, or goes for some higher-ranked mark that is removed later.
-pub fn foreign_records(generator: &mut Generator, marks: &[Mark]) -> Vec<Record> {
-    let ranked = ranked(marks);
-    let mut records = vec![Record::NEVER; marks.len()];
+pub fn foreign_records(generator: &mut Generator, reel: Reel) -> Vec<Record> {
+    let ranked = reel.ranked();
+    let mut records = vec![Record::NEVER; ranked.len()];
     for place in 1..ranked.len() {
         let other = ranked[generator.below(place as u32) as usize];
-        let value = touching_value(&marks[other], &marks[ranked[place]]);
+        let value = reel.touching_value(other, ranked[place]);
         if records[other].removal().later_than(value) && generator.below(8) > 0 {
             records[ranked[place]] = Record::removed(other, value);
         }
@@ -244,11 +291,11 @@ pub fn foreign_records(generator: &mut Generator, marks: &[Mark]) -> Vec<Record>
 
 /// Some records for the marks that question 8 takes: ours, foreign ones, or none
 /// but 'never'.
-pub fn some_records(generator: &mut Generator, marks: &[Mark]) -> Vec<Record> {
+pub fn some_records(generator: &mut Generator, reel: Reel) -> Vec<Record> {
     match generator.below(5) {
-        0 => vec![Record::NEVER; marks.len()],
-        1 | 2 => foreign_records(generator, marks),
-        _ => schedule_in_rank_order(marks),
+        0 => vec![Record::NEVER; reel.marks.len()],
+        1 | 2 => foreign_records(generator, reel),
+        _ => schedule_in_rank_order(reel),
     }
 }
 
@@ -272,6 +319,22 @@ pub fn tied_marks(generator: &mut Generator, n: usize) -> Vec<Mark> {
         let (x, y) = (place(), place());
         let radius = 1 << generator.below(radii);
         Mark::plain(x, y, radius, generator.below(priorities) as u16)
+    };
+    (0..n).map(|_| mark()).collect()
+}
+
+/// Marks of few priorities, whose radii are written or those of the house, and equal
+/// ones among both.
+pub fn rivals(generator: &mut Generator, n: usize) -> Vec<Mark> {
+    let (priorities, step) = (1 + generator.below(2), generator.choose(&[1, 40, 3_000]));
+    let mut mark = || {
+        let mut place = || step * generator.between(-5, 5);
+        let (x, y) = (place(), place());
+        Mark {
+            kind: generator.choose(&[0, 10, 50, 100, 149, 150, 199]),
+            radius: generator.choose(&[0, 0, 0, 1, 40, 60, 120, 149, 150, 151, 16_383]),
+            ..Mark::plain(x, y, 0, generator.below(priorities) as u16)
+        }
     };
     (0..n).map(|_| mark()).collect()
 }
@@ -337,34 +400,70 @@ pub fn odd_number(generator: &mut Generator, own: u64) -> u64 {
     }
 }
 
-/// Up to three bodies of a sheet, some of them damaged in some way. Further bodies
-/// than `parts` may be there.
+/// The lists of codes that question 2 takes.
+pub const TAKEN: [&[u16]; 6] = [
+    &[1],
+    &[1, 2],
+    &[1, 4],
+    &[1, 2, 3],
+    &[1, 2, 4],
+    &[1, 2, 3, 4],
+];
+
+/// The bodies of all parts, some of them damaged in some way, and the codes of those that
+/// the sheet has.
 pub struct SomeBodies {
-    pub parts: usize,
-    pub bodies: [Vec<u8>; 3],
+    pub codes: &'static [u16],
+    pub bodies: [Vec<u8>; 4],
 }
 
 impl SomeBodies {
     /// Bodies with none, one or two faults.
     pub fn draw(generator: &mut Generator) -> Self {
-        let marks = some_marks(generator);
-        let mut records = some_records(generator, &marks);
+        let marks = match generator.below(4) {
+            0 => {
+                let n = generator.below(8) as usize;
+                rivals(generator, n)
+            }
+            _ => some_marks(generator),
+        };
+        let [one, two, named, three, two_named, four] = TAKEN;
+        let codes = generator.choose(&[one, two, named, three, three, two_named, four, four]);
+        let mut edition = Edition::First;
+        if codes.contains(&4) {
+            edition = generator.choose(&Edition::ALL);
+        }
+        let mut records = some_records(generator, edition.reel(&marks));
         if !marks.is_empty() && generator.below(3) == 0 {
             let at = generator.below(marks.len() as u32) as usize;
             records[at] = another_record(generator, &marks, records[at]);
         }
-        let mut bodies = bodies_of(&marks, &records);
-        let parts = generator.choose(&[1, 2, 3, 3, 3]);
+        let [part_1, part_2, part_3] = bodies_of(&marks, &records);
+        let mut bodies = [part_1, part_2, part_3, edition.write().to_vec()];
         for _ in 0..generator.choose(&[0, 0, 1, 1, 2]) {
             damage_body(generator, &mut bodies);
         }
-        Self { parts, bodies }
+        Self { codes, bodies }
+    }
+
+    /// The parts of the sheet.
+    pub fn parts(&self) -> Vec<Part<'_>> {
+        let body = |code: u16| self.bodies[usize::from(code) - 1].as_slice();
+        self.codes.iter().map(|&code| (code, body(code))).collect()
     }
 
     /// The sheet of the parts.
     pub fn sheet(&self) -> Vec<u8> {
-        joined(&self.bodies[..self.parts])
+        join_parts(&self.parts())
     }
+}
+
+/// The code of that number, which question 2 takes.
+pub fn code(number: u16) -> Code {
+    let mut codes = Code::ALL.iter().copied();
+    codes
+        .find(|code| code.number() == number)
+        .expect("there is such a code")
 }
 
 /// Bytes of a mark by which its radius or its kind is refused.
@@ -399,8 +498,8 @@ fn put_fault(generator: &mut Generator, rows: &mut [u8], width: usize, faults: &
 }
 
 /// Puts one fault into one of the bodies.
-fn damage_body(generator: &mut Generator, bodies: &mut [Vec<u8>; 3]) {
-    let body = generator.choose(&[0, 1, 2, 2]);
+fn damage_body(generator: &mut Generator, bodies: &mut [Vec<u8>; 4]) {
+    let body = generator.choose(&[0, 1, 2, 2, 3, 3]);
     let length = bodies[body].len();
     match generator.below(7) {
         0 => {
@@ -442,8 +541,8 @@ pub fn some_sheet(generator: &mut Generator) -> Vec<u8> {
         0 => sheet.truncate(generator.below(sheet.len() as u32) as usize),
         1 => sheet.extend(vec![0; 1 + generator.below(20) as usize]),
         2 => {
-            let at = generator.below(32.min(sheet.len() as u32)) as usize;
-            sheet[at] = generator.choose(&[0, 1, 2, 3, 4, 12, 22, 32, 128, 255]);
+            let at = generator.below(42.min(sheet.len() as u32)) as usize;
+            sheet[at] = generator.choose(&[0, 1, 2, 3, 4, 5, 12, 22, 32, 42, 128, 255]);
         }
         3 => {
             let at = generator.below(sheet.len() as u32) as usize;

@@ -1,0 +1,371 @@
+//! Every job with part 4 absent and naming either edition, compared with the oracle, on
+//! marks of few priorities whose radii are written or those of the house.
+
+mod common;
+
+use common::{
+    bound, foreign_records, lengths_with, longest, number, one_part, rivals, schedule_in,
+    scheduled, scheduled_with, some_records, three_parts, with_named, with_part_4, Lent, Tally,
+    NAMED,
+};
+use oracle::mark::Mark;
+use oracle::process::schedule_by_process;
+use oracle::rank::Edition::{self, First, Second};
+use oracle::record::{read_records, Record};
+use oracle::sample::{marks, small_choice, Generator, Shape};
+use oracle::tree;
+use oracle::view::Edges;
+use rollmap::{Code, View, Zoom};
+
+/// Two marks of equal priority, of which the larger one has the higher number.
+const LARGER_SECOND: [Mark; 2] = [Mark::plain(0, 0, 10, 5), Mark::plain(90, 0, 20, 5)];
+
+/// Bodies of part 4 that question 19 refuses.
+const NO_EDITIONS: [&[u8]; 8] = [&[], &[0], &[3], &[255], &[1, 1], &[2, 0], &[1, 2], &[1; 14]];
+
+/// The sheet of one part with such a part 4.
+fn bare_with(named: Option<Edition>, marks: &[Mark]) -> Vec<u8> {
+    with_named(one_part(marks), named)
+}
+
+/// Schedules a sheet in buffers of these lengths, and sees that the answer and every byte
+/// are as expected. Answers the number.
+fn schedule(sheet: &[u8], lengths: [usize; 2], expected: &Result<Vec<u8>, u32>) -> u32 {
+    schedule_in(sheet, lengths, rollmap::schedule, expected)
+}
+
+/// Sees that scheduling these marks with such a part 4 writes what the order of rank gives,
+/// in buffers that are just long enough, and that it is refused in shorter ones.
+fn becomes_scheduled(named: Option<Edition>, marks: &[Mark]) {
+    let (sheet, expected) = (bare_with(named, marks), scheduled_with(named, marks));
+    let [work, out] = lengths_with(named.is_some(), marks.len());
+    assert_eq!(expected.len(), out);
+    schedule(&sheet, [work, out], &Ok(expected));
+    schedule(&sheet, [work, out - 1], &Err(13));
+    schedule(&sheet, [work - 1, out], &Err(13));
+}
+
+/// The records of a sheet.
+fn records(sheet: &[u8]) -> Vec<Record> {
+    read_records(rollmap::part(sheet, Code::Schedule).unwrap())
+}
+
+/// The number of a sheet, once both are seen to give it.
+fn check(sheet: &[u8]) -> u32 {
+    let number = number(&rollmap::check(sheet));
+    assert_eq!(number, oracle::sheet::check(sheet), "{sheet:02x?}");
+    number
+}
+
+// ---- scheduling
+
+#[test]
+fn of_equal_priorities_the_lower_number_stays_or_the_larger_label() {
+    let gone = |by| Record::new(by, 8_100, 900);
+    let [absent, first, second] = NAMED.map(|named| {
+        let sheet = rollmap::schedule_to_vec(&bare_with(named, &LARGER_SECOND)).unwrap();
+        records(&sheet)
+    });
+    assert_eq!(absent, [Record::NEVER, gone(0)]);
+    assert_eq!(first, absent);
+    assert_eq!(second, [gone(1), Record::NEVER]);
+}
+
+#[test]
+fn many_small_sheets() {
+    let mut generator = Generator::new(80);
+    let mut differing = 0;
+    for seed in 0..6_000 {
+        let sample = rivals(&mut generator, seed % 24);
+        for named in NAMED {
+            becomes_scheduled(named, &sample);
+        }
+        let [first, second] = Edition::ALL.map(|edition| {
+            let records = schedule_by_process(edition.reel(&sample));
+            let sheet = with_named(three_parts(&sample, &records), Some(edition));
+            assert_eq!(sheet, scheduled_with(Some(edition), &sample));
+            records
+        });
+        differing += usize::from(first != second);
+    }
+    assert!(differing > 3_000, "{differing} schedules differ");
+}
+
+#[test]
+fn every_sheet_of_three_marks_from_a_small_choice() {
+    let choice = small_choice();
+    for &a in &choice {
+        for &b in &choice {
+            for &c in &choice {
+                becomes_scheduled(Some(Second), &[a, b, c]);
+            }
+        }
+    }
+}
+
+#[test]
+fn every_shape_of_sheet() {
+    for shape in Shape::ALL {
+        for n in [0, 1, 2, 40, 191, 192, 193, 255, 256, 257, 700] {
+            let mut sample = marks(shape, n, 8);
+            becomes_scheduled(Some(Second), &sample);
+            sample.iter_mut().for_each(|mark| mark.priority &= 1);
+            becomes_scheduled(Some(Second), &sample);
+            becomes_scheduled(Some(First), &sample);
+        }
+    }
+}
+
+#[test]
+fn sheets_of_a_few_hundred_rivals() {
+    let mut generator = Generator::new(81);
+    for _ in 0..60 {
+        let n = 100 + generator.below(400) as usize;
+        becomes_scheduled(Some(Second), &rivals(&mut generator, n));
+    }
+}
+
+#[test]
+fn the_largest_sheets() {
+    let mut generator = Generator::new(82);
+    becomes_scheduled(Some(Second), &rivals(&mut generator, 4_096));
+    for shape in [Shape::Uniform, Shape::Clustered, Shape::FewHuge] {
+        let mut sample = marks(shape, 4_096, 9);
+        sample.iter_mut().for_each(|mark| mark.priority &= 7);
+        becomes_scheduled(Some(Second), &sample);
+    }
+}
+
+#[test]
+fn a_schedule_that_is_there_is_replaced_and_part_4_is_kept() {
+    let mut generator = Generator::new(83);
+    for _ in 0..1_000 {
+        let n = generator.below(20) as usize;
+        let sample = rivals(&mut generator, n);
+        for named in NAMED {
+            let reel = named.unwrap_or_default().reel(&sample);
+            let records = foreign_records(&mut generator, reel);
+            let foreign = with_named(three_parts(&sample, &records), named);
+            let ours = scheduled_with(named, &sample);
+            let lengths = lengths_with(named.is_some(), n);
+            schedule(&foreign, lengths, &Ok(ours.clone()));
+            schedule(&ours, lengths, &Ok(ours.clone()));
+        }
+    }
+}
+
+#[test]
+fn without_part_4_all_is_as_in_the_first_edition_but_for_its_own_bytes() {
+    let mut generator = Generator::new(84);
+    for _ in 0..1_000 {
+        let n = generator.below(30) as usize;
+        let sample = rivals(&mut generator, n);
+        let (bare, named) = (one_part(&sample), bare_with(Some(First), &sample));
+        let [bare, named] = [bare, named].map(|sheet| rollmap::schedule_to_vec(&sheet).unwrap());
+        assert_eq!(named, with_part_4(&bare, &[1]));
+        let codes = [Code::Marks, Code::Schedule, Code::Index];
+        assert_eq!(
+            codes.map(|code| rollmap::part(&bare, code)),
+            codes.map(|code| rollmap::part(&named, code))
+        );
+        let view = View::whole(Zoom::Stop(generator.below(17) as u8));
+        assert_eq!(
+            rollmap::view_to_map(&bare, view),
+            rollmap::view_to_map(&named, view)
+        );
+    }
+}
+
+#[test]
+fn ties_in_the_tree_go_by_number() {
+    // Marks 1 and 2 go by 0 at one value, 1, 2 and 3 have one x, and 0 and 3 stay; in the
+    // second edition 3 ranks higher than 0, and 2 than 1.
+    let sample = [
+        Mark::plain(0, 0, 30, 5),
+        Mark::plain(0, 40, 10, 5),
+        Mark::plain(0, 50, 20, 5),
+        Mark::plain(0, 60, 40, 5),
+    ];
+    let records = [
+        Record::NEVER,
+        Record::new(0, 1_600, 1_600),
+        Record::new(0, 2_500, 2_500),
+        Record::NEVER,
+    ];
+    assert_eq!(tree::build(&sample, &records), [0, 1, 2, 3]);
+    for named in NAMED {
+        let sheet = with_named(three_parts(&sample, &records), named);
+        assert_eq!(check(&sheet), 0);
+    }
+}
+
+// ---- checking
+
+#[test]
+fn records_are_held_to_the_ranks_of_the_edition() {
+    let mut generator = Generator::new(85);
+    let mut numbers = Tally::default();
+    for _ in 0..4_000 {
+        let n = 2 + generator.below(12) as usize;
+        let sample = rivals(&mut generator, n);
+        for edition in Edition::ALL {
+            let records = some_records(&mut generator, edition.reel(&sample));
+            let sheet = three_parts(&sample, &records);
+            assert_eq!(check(&with_part_4(&sheet, &edition.write())), 0);
+            for named in NAMED {
+                numbers.add(check(&with_named(sheet.clone(), named)));
+            }
+        }
+    }
+    numbers.assert_reached([0, 8], 3_000);
+}
+
+#[test]
+fn every_eliminator_in_both_editions() {
+    let mut generator = Generator::new(86);
+    for _ in 0..300 {
+        let sample = rivals(&mut generator, 6);
+        for named in NAMED {
+            for (m, other) in (0..6).flat_map(|m| (0..6).map(move |other| (m, other))) {
+                let mut records = vec![Record::NEVER; 6];
+                let reel = named.unwrap_or_default().reel(&sample);
+                records[m] = Record::removed(other, reel.touching_value(m, other));
+                let number = check(&with_named(three_parts(&sample, &records), named));
+                let expected = if reel.outranks(other, m) { 0 } else { 8 };
+                assert_eq!(number, expected, "{sample:?} {m} {other}");
+            }
+        }
+    }
+}
+
+// ---- damaged
+
+#[test]
+fn a_damaged_part_4_is_refused_by_every_job() {
+    let mut generator = Generator::new(87);
+    let new = LARGER_SECOND[0];
+    for part_4 in NO_EDITIONS {
+        for n in [0, 1, 2, 9] {
+            let sample = rivals(&mut generator, n);
+            for sheet in [one_part(&sample), scheduled(&sample)] {
+                let damaged = with_part_4(&sheet, part_4);
+                assert_eq!(check(&damaged), 19);
+                for lengths in [[0, 0], longest()] {
+                    schedule(&damaged, lengths, &Err(19));
+                    let refused = Err::<Vec<u8>, _>(19);
+                    let add = |sheet: &[u8], work: rollmap::Work<'_>, out: &mut [u8]| {
+                        rollmap::add(sheet, bound(&new), work, out)
+                    };
+                    schedule_in(&damaged, lengths, add, &refused);
+                    let take_out = |sheet: &[u8], work: rollmap::Work<'_>, out: &mut [u8]| {
+                        rollmap::take_out(sheet, 0, work, out)
+                    };
+                    schedule_in(&damaged, lengths, take_out, &refused);
+                }
+                let mut map = Lent::new(2, 1);
+                let view = rollmap::view(&damaged, View::whole(Zoom::Stop(17)), map.slice());
+                assert_eq!(number(&view), 19);
+                map.assert_untouched();
+                assert!(Code::ALL
+                    .iter()
+                    .all(|&code| rollmap::part(&damaged, code).is_none()));
+            }
+        }
+    }
+}
+
+// ---- views
+
+#[test]
+fn views_go_by_the_sheets_own_schedule() {
+    let mut generator = Generator::new(88);
+    for _ in 0..600 {
+        let n = generator.below(40) as usize;
+        let sample = rivals(&mut generator, n);
+        for named in NAMED {
+            let reel = named.unwrap_or_default().reel(&sample);
+            let records = some_records(&mut generator, reel);
+            let sheet = with_named(three_parts(&sample, &records), named);
+            let (low, high) = (generator.between(-300, 0), generator.between(0, 300));
+            let stop = generator.below(17) as u8;
+            let edges = Edges {
+                x0: low,
+                x1: high,
+                y0: low,
+                y1: high,
+            };
+            let zoom = oracle::zoom::Zoom::Stop(stop);
+            let (map, count) = oracle::view::view(&sheet, edges, zoom, 5).unwrap();
+            let Edges { x0, x1, y0, y1 } = edges;
+            let zoom = Zoom::Stop(stop);
+            let view = View {
+                x0,
+                x1,
+                y0,
+                y1,
+                zoom,
+            };
+            let mut lent = Lent::new(map.len(), n as u64);
+            assert_eq!(rollmap::view(&sheet, view, lent.slice()), Ok(count));
+            lent.assert_written(&map);
+        }
+    }
+}
+
+// ---- marks that come and go
+
+/// Adds the last of these marks to the others, and takes mark m out of all, with such a
+/// part 4, in buffers that are just long enough, and in shorter ones.
+fn come_and_go(named: Option<Edition>, all: &[Mark], m: usize) {
+    let (last, others) = all.split_last().expect("there is a mark");
+    let (fewer, more) = (scheduled_with(named, others), scheduled_with(named, all));
+    let mut left = all.to_vec();
+    left.remove(m);
+    let add = |sheet: &[u8], work: rollmap::Work<'_>, out: &mut [u8]| {
+        rollmap::add(sheet, bound(last), work, out)
+    };
+    let take_out = |sheet: &[u8], work: rollmap::Work<'_>, out: &mut [u8]| {
+        rollmap::take_out(sheet, m as u32, work, out)
+    };
+    let [work, out] = lengths_with(named.is_some(), all.len());
+    schedule_in(&fewer, [work, out], add, &Ok(&more));
+    let short = &Err::<Vec<u8>, _>(13);
+    schedule_in(&fewer, [work, out - 1], add, short);
+    schedule_in(&fewer, [work - 1, out], add, short);
+    let [work, out] = lengths_with(named.is_some(), left.len());
+    let expected = &Ok(scheduled_with(named, &left));
+    schedule_in(&more, [work, out], take_out, expected);
+    schedule_in(&more, [work, out - 1], take_out, short);
+    schedule_in(&more, [work - 1, out], take_out, short);
+    let back = rollmap::take_out_to_vec(&more, others.len() as u32);
+    assert_eq!(back, Ok(fewer));
+}
+
+#[test]
+fn marks_come_and_go_by_the_sheets_own_edition() {
+    let mut generator = Generator::new(89);
+    for _ in 0..2_000 {
+        let n = 1 + generator.below(24);
+        let sample = rivals(&mut generator, n as usize);
+        let m = generator.below(n) as usize;
+        for named in NAMED {
+            come_and_go(named, &sample, m);
+        }
+    }
+    for n in [192, 256, 700, 4_096] {
+        let sample = rivals(&mut generator, n);
+        come_and_go(Some(Second), &sample, n / 2);
+    }
+}
+
+#[test]
+fn the_buffers_of_its_own_have_room_for_part_4() {
+    for named in NAMED {
+        let empty = rollmap::schedule_to_vec(&bare_with(named, &[])).unwrap();
+        assert_eq!(empty, scheduled_with(named, &[]));
+        let one = rollmap::add_to_vec(&empty, bound(&LARGER_SECOND[0])).unwrap();
+        let two = rollmap::add_to_vec(&one, bound(&LARGER_SECOND[1])).unwrap();
+        assert_eq!(two, scheduled_with(named, &LARGER_SECOND));
+        assert_eq!(rollmap::take_out_to_vec(&two, 1), Ok(one));
+    }
+}
