@@ -9,10 +9,11 @@ mod race;
 use std::hint::black_box;
 
 use oracle::mark::{write_marks, Mark};
+use oracle::rank::Edition;
 use oracle::sample::{marks, Shape};
-use oracle::sheet::join;
+use oracle::sheet::{join, join_parts};
 use oracle::view::Edges;
-use rollmap::{map_bytes, scheduled_bytes, work_bytes, Refusal, View, Work, Zoom};
+use rollmap::{map_bytes, scheduled_bytes, work_bytes, Refusal, View, Work, Zoom, EDITION_BYTES};
 
 use plain::schedule::Desk;
 use race::{race, Micros};
@@ -69,6 +70,7 @@ const QUICK_ROUNDS: usize = 100;
 fn main() {
     println!("{}", introduction());
     scheduling();
+    editions();
     growth();
     changing();
     checking();
@@ -176,6 +178,70 @@ fn scheduling() {
             pairs.millis(),
             pairs.over(proved),
         );
+    }
+}
+
+/// The sheet of a sample with an edition named in part 4.
+fn named_sheet_of(edition: Edition, marks: &[Mark]) -> Vec<u8> {
+    join_parts(&[(1, &write_marks(marks)), (4, &edition.write())])
+}
+
+/// The marks of a sample, with as few priorities as this.
+fn with_priorities(shape: Shape, priorities: u16) -> Vec<Mark> {
+    let mut marks = marks(shape, MOST, 1);
+    marks
+        .iter_mut()
+        .for_each(|mark| mark.priority %= priorities);
+    marks
+}
+
+/// The least times of scheduling marks by both editions: proved by the first and by the
+/// second, and plain by the second.
+fn time_editions(marks: &[Mark]) -> [Micros; 3] {
+    let [first, second] = Edition::ALL.map(|edition| named_sheet_of(edition, marks));
+    let mut works = [(); 2].map(|()| vec![0; work_bytes(MOST)]);
+    let mut outs = [(); 3].map(|()| vec![0; scheduled_bytes(MOST) + EDITION_BYTES]);
+    let mut desk = Desk::default();
+    let ([work_first, work_second], [by_first, by_second, plain]) = (&mut works, &mut outs);
+    let times = race(
+        ROUNDS,
+        1,
+        [
+            &mut || _ = black_box(rollmap::schedule(&first, Work(work_first), by_first)),
+            &mut || _ = black_box(rollmap::schedule(&second, Work(work_second), by_second)),
+            &mut || _ = black_box(desk.schedule_by_cells(&second, plain)),
+        ],
+    );
+    assert!(by_second == plain, "both write the same bytes");
+    times
+}
+
+fn editions() {
+    table(
+        "Scheduling 4,096 marks by the second edition, against the first on the same marks",
+        &[
+            "data",
+            "priorities",
+            "proved by the first, ms",
+            "proved by the second, ms",
+            "ratio",
+            "plain Rust by the second, ms",
+            "ratio",
+        ],
+    );
+    for (name, shape) in DATA {
+        for priorities in [1, 16] {
+            let marks = with_priorities(shape, priorities);
+            let [first, second, plain] = time_editions(&marks);
+            println!(
+                "| {name} | {priorities} | {:.2} | {:.2} | {:.2} | {:.2} | {:.2} |",
+                first.millis(),
+                second.millis(),
+                second.over(first),
+                plain.millis(),
+                second.over(plain),
+            );
+        }
     }
 }
 

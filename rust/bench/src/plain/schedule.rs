@@ -3,9 +3,10 @@
 
 use oracle::contents::{contents_bytes, write_contents};
 use oracle::label::Label;
-use oracle::mark::{Mark, RankKey, MARK_BYTES};
+use oracle::mark::{Mark, MARK_BYTES};
+use oracle::rank::{Edition, RankKey};
 use oracle::record::{Record, RECORD_BYTES};
-use oracle::sheet::{part_lengths, scheduled_bytes};
+use oracle::sheet::part_lengths;
 use oracle::tree::{write_number, Axis, INDEX_BYTES};
 use oracle::{ask, Refusal};
 
@@ -108,25 +109,31 @@ impl Desk {
         out: &mut [u8],
         core: fn(&mut Self),
     ) -> Result<usize, Refusal> {
-        let marks = open(sheet)?.marks;
-        let n = marks.len();
-        ask(13, out.len() >= scheduled_bytes(n))?;
-        self.lay_out(marks);
+        let rows = open(sheet)?;
+        let (marks, part_4) = (rows.marks, rows.named.map(Edition::write));
+        let [length_1, length_2, length_3] = part_lengths(marks.len());
+        let parts = [(1, length_1), (2, length_2), (3, length_3), (4, 1)];
+        let parts = &parts[..3 + usize::from(part_4.is_some())];
+        let bodies: usize = parts.iter().map(|&(_, length)| length).sum();
+        let written = contents_bytes(parts.len()) + bodies;
+        ask(13, out.len() >= written)?;
+        self.lay_out(marks, rows.edition());
         core(self);
-        let lengths = part_lengths(n);
-        write_contents(&lengths, out);
-        let bodies = &mut out[contents_bytes(lengths.len())..];
-        let (part_1, bodies) = bodies.split_at_mut(lengths[0]);
-        let (part_2, part_3) = bodies.split_at_mut(lengths[1]);
+        write_contents(parts, out);
+        let bodies = &mut out[contents_bytes(parts.len())..written];
+        let (part_1, bodies) = bodies.split_at_mut(length_1);
+        let (part_2, bodies) = bodies.split_at_mut(length_2);
+        let (part_3, kept) = bodies.split_at_mut(length_3);
         part_1.copy_from_slice(marks.as_flattened());
         self.write_records(marks, part_2.as_chunks_mut().0);
         self.write_index(part_3.as_chunks_mut().0);
-        Ok(scheduled_bytes(n))
+        kept.copy_from_slice(part_4.as_ref().map_or(&[], |part_4| part_4));
+        Ok(written)
     }
 
     /// Sorts the marks by rank and lays out their rows.
-    fn lay_out(&mut self, marks: &[[u8; MARK_BYTES]]) {
-        let rank = |(m, mark)| RankKey::of(&Mark::read(mark), m);
+    fn lay_out(&mut self, marks: &[[u8; MARK_BYTES]], edition: Edition) {
+        let rank = |(m, mark)| RankKey::of(edition, &Mark::read(mark), m);
         self.order.clear();
         self.order.extend(marks.iter().enumerate().map(rank));
         self.order.sort_unstable();

@@ -1,4 +1,4 @@
-//! Questions 1 to 9.
+//! Questions 1 to 9, and 19.
 
 use oracle::contents::split;
 use oracle::mark::Mark;
@@ -15,7 +15,8 @@ pub fn open(sheet: &[u8]) -> Result<Rows<'_>, Refusal> {
         let n = rows.marks.len();
         let mark = |m: usize| Mark::read(&rows.marks[m]);
         let record = |m: usize| Record::read(&records[m]);
-        ask(8, (0..n).all(|m| record_fits(m, n, mark, record)))?;
+        let fits = |m| record_fits(rows.edition(), m, n, mark, record);
+        ask(8, (0..n).all(fits))?;
     }
     if let Some(indexed) = Indexed::of(&rows) {
         ask(9, indexed.is_tree())?;

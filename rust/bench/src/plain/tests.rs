@@ -5,9 +5,10 @@ use oracle::label::Label;
 use oracle::map::map_bytes;
 use oracle::mark::{write_marks, Mark};
 use oracle::process::schedule_in_rank_order;
+use oracle::rank::Edition;
 use oracle::record::write_records;
 use oracle::sample::{marks, Generator, Shape};
-use oracle::sheet::{check, join};
+use oracle::sheet::{check, join, join_parts, split};
 use oracle::tree;
 use oracle::view::Edges;
 use oracle::zoom::Zoom;
@@ -18,10 +19,24 @@ use super::view::{view, walk};
 
 /// The sheet of one part with these marks, and the scheduled one.
 fn sheets(marks: &[Mark]) -> [Vec<u8>; 2] {
-    let records = schedule_in_rank_order(marks);
+    sheets_by(Edition::First, marks)
+}
+
+/// The same in an edition, which no part 4 names.
+fn sheets_by(edition: Edition, marks: &[Mark]) -> [Vec<u8>; 2] {
+    let records = schedule_in_rank_order(edition.reel(marks));
     let (part_1, part_2) = (write_marks(marks), write_records(&records));
     let part_3 = tree::write_tree(&tree::build(marks, &records));
     [join(&[&part_1]), join(&[&part_1, &part_2, &part_3])]
+}
+
+/// The same with a part 4 that names the edition.
+fn named_sheets(edition: Edition, marks: &[Mark]) -> [Vec<u8>; 2] {
+    sheets_by(edition, marks).map(|sheet| {
+        let (mut parts, part_4) = (split(&sheet).unwrap().present(), edition.write());
+        parts.push((4, &part_4));
+        join_parts(&parts)
+    })
 }
 
 #[test]
@@ -34,12 +49,19 @@ fn every_core_writes_the_scheduled_sheet() {
     let mut desk = Desk::default();
     for shape in Shape::ALL {
         for n in [0, 1, 2, 9, 64, 255, 256, 700] {
-            let [sheet, expected] = sheets(&marks(shape, n, n as u64));
-            for core in cores {
-                let mut out = vec![0xee; expected.len()];
-                assert_eq!(core(&mut desk, &sheet, &mut out), Ok(expected.len()));
-                assert!(out == expected, "{shape:?} {n}");
-                assert_eq!(core(&mut desk, &sheet, &mut out[1..]), Err(13));
+            let mut sample = marks(shape, n, n as u64);
+            let bare = sheets(&sample);
+            sample.iter_mut().for_each(|mark| mark.priority &= 1);
+            let [first, second] = Edition::ALL.map(|edition| named_sheets(edition, &sample));
+            for ([sheet, expected], core) in [&bare, &first, &second]
+                .into_iter()
+                .flat_map(|sheets| cores.map(|core| (sheets, core)))
+            {
+                let mut out = vec![0xee; expected.len() + 1];
+                assert_eq!(core(&mut desk, sheet, &mut out), Ok(expected.len()));
+                assert!(out[..expected.len()] == *expected, "{shape:?} {n}");
+                assert_eq!(out.last(), Some(&0xee));
+                assert_eq!(core(&mut desk, sheet, &mut out[2..]), Err(13));
             }
         }
     }
@@ -55,7 +77,9 @@ fn opened(sheet: &[u8]) -> u32 {
 #[test]
 fn sheets_with_a_byte_changed_or_cut_short_are_refused_by_the_same_question() {
     for shape in Shape::ALL {
-        for mut sheet in sheets(&marks(shape, 6, 3)) {
+        let sample = marks(shape, 6, 3);
+        let named = Edition::ALL.map(|edition| named_sheets(edition, &sample));
+        for mut sheet in sheets(&sample).into_iter().chain(named.concat()) {
             assert_eq!(opened(&sheet), 0);
             for at in 0..sheet.len() {
                 let own = sheet[at];
