@@ -195,8 +195,8 @@ fn schedule_marks(
     }
 }
 
-// Writes the sheet of three parts that a sheet's marks give, and part 4 where it is there, and answers its length: questions 1 to 9 and 13. What the work buffer holds
-// plays no part, and what it is left with after a success is not said. The written sheet meets demand 3.
+// Writes the sheet of three parts that a sheet's marks give, with part 4 where it is there, and answers its length: questions 1 to 9 and 13.
+// What the work buffer holds plays no part, and what it is left with after a success is not said. The written sheet meets demand 3.
 #[no_mangle]
 pub extern "C" fn rollmap_schedule(sheet: &[u8], work: &mut [u8], out: &mut [u8]) -> Answer
     ensures { λ r. ⌜ Gives (scheduleJob (now (sheet .entry)) (length (now (work .entry))) (length (now (out .entry)))) (now (out .entry)) r (now (out .exit)) ⌝ }
@@ -215,8 +215,8 @@ pub extern "C" fn rollmap_schedule(sheet: &[u8], work: &mut [u8], out: &mut [u8]
 
 // ---- marks that come and go
 
-// Schedules a sheet's marks and one more, given by its fields, behind them: questions 1 to 10, 18, then 5 and 6 of the new mark, and 13. It is
-// the sheet that scheduling writes for the new marks; the sheet's own schedule plays no part.
+// Schedules a sheet's marks and one more, given by its fields, behind them, and keeps part 4: questions 1 to 10, 18, then 5 and 6 of the new
+// mark, and 13. It is the sheet that scheduling writes for the new marks; the sheet's own schedule plays no part.
 #[no_mangle]
 pub extern "C" fn rollmap_add(
     sheet: &[u8],
@@ -260,8 +260,8 @@ pub extern "C" fn rollmap_add(
     schedule_marks(marks, &last, kept, work, out, n + 1)
 }
 
-// Schedules a sheet's marks without mark m, whereupon higher numbers drop by one: questions 1 to 10, 17 and 13. It is the sheet that scheduling
-// writes for the new marks.
+// Schedules a sheet's marks without mark m, whereupon higher numbers drop by one, and keeps part 4: questions 1 to 10, 17 and 13. It is the
+// sheet that scheduling writes for the new marks.
 #[no_mangle]
 pub extern "C" fn rollmap_take_out(sheet: &[u8], m: u32, work: &mut [u8], out: &mut [u8]) -> Answer
     ensures { λ r. ⌜ Gives (takeOutJob (now (sheet .entry)) m (length (now (work .entry))) (length (now (out .entry)))) (now (out .entry)) r (now (out .exit)) ⌝ }
