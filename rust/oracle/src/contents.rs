@@ -218,17 +218,7 @@ pub fn join(bodies: &[&[u8]]) -> Vec<u8> {
 #[cfg(test)]
 mod tests {
     use super::*;
-    use crate::sample::each_list;
-
-    /// The codes that a sheet may have.
-    const TAKEN: [&[u16]; 6] = [
-        &[1],
-        &[1, 2],
-        &[1, 4],
-        &[1, 2, 3],
-        &[1, 2, 4],
-        &[1, 2, 3, 4],
-    ];
+    use crate::sample::{each_list, CODES_TAKEN};
 
     #[test]
     fn contents_stand_before_the_bodies() {
@@ -245,7 +235,7 @@ mod tests {
     #[test]
     fn splitting_gives_the_joined_bodies_back() {
         let all: [Part; 4] = [(1, &[1, 2, 3, 4]), (2, &[]), (3, &[5; 300]), (4, &[6])];
-        for codes in TAKEN {
+        for codes in CODES_TAKEN {
             let of_codes = |(code, _): &Part| codes.contains(code);
             let parts: Vec<Part> = all.into_iter().filter(of_codes).collect();
             let sheet = join_parts(&parts);
@@ -273,7 +263,7 @@ mod tests {
         for length in 0..=5 {
             each_list(&[0, 1, 2, 3, 4, 5], length, &mut |codes| {
                 let taken = count_fits(codes.len()) && codes_fit(codes.iter().copied());
-                assert_eq!(taken, TAKEN.contains(&codes), "{codes:?}");
+                assert_eq!(taken, CODES_TAKEN.contains(&codes), "{codes:?}");
             });
         }
         assert!(!codes_fit([257].into_iter()));

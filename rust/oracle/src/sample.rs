@@ -1,11 +1,11 @@
 //! What tests and benchmarks are made of: marks made up from a seed, the same ones on
-//! every machine, all of which 01 takes; those of its first example; sheets that are
-//! refused; and what a test tries whole.
+//! every machine, all of which 01 takes; those of its first example, and those with ties
+//! in the tree; sheets that are refused; and what a test tries whole.
 
 use crate::mark::{write_marks, Mark, LARGEST_RADIUS};
 use crate::process::schedule_by_process;
 use crate::rank::Edition;
-use crate::record::write_records;
+use crate::record::{write_records, Record};
 use crate::sheet::{join, join_parts};
 use crate::Refusal;
 
@@ -15,6 +15,34 @@ pub const P1: [Mark; 4] = [
     Mark::plain(100, 0, 10, 5),
     Mark::plain(200, 0, 10, 5),
     Mark::plain(0, 3, 5, 1),
+];
+
+/// Marks with ties in the tree: 1 and 2 go by 0 at one value, 1, 2 and 3 have one x, and 0
+/// and 3 stay. By rank they would be broken otherwise: in the second edition 3 ranks
+/// higher than 0, and 2 than 1.
+pub const TIED_IN_TREE: [Mark; 4] = [
+    Mark::plain(0, 0, 30, 5),
+    Mark::plain(0, 40, 10, 5),
+    Mark::plain(0, 50, 20, 5),
+    Mark::plain(0, 60, 40, 5),
+];
+
+/// The records of [`TIED_IN_TREE`], which question 8 takes in both editions.
+pub const TIED_RECORDS: [Record; 4] = [
+    Record::NEVER,
+    Record::new(0, 1_600, 1_600),
+    Record::new(0, 2_500, 2_500),
+    Record::NEVER,
+];
+
+/// The lists of codes that question 2 takes (01 and 02, request 6).
+pub const CODES_TAKEN: [&[u16]; 6] = [
+    &[1],
+    &[1, 2],
+    &[1, 4],
+    &[1, 2, 3],
+    &[1, 2, 4],
+    &[1, 2, 3, 4],
 ];
 
 /// A small generator of numbers (shifts and exclusive ors of one 64-bit word).

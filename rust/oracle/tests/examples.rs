@@ -14,7 +14,7 @@ use oracle::rank::Edition::{self, First, Second};
 use oracle::record::{read_records, removals, Record};
 use oracle::report::print;
 use oracle::rules::{keep_both, Breach};
-use oracle::sample::P1;
+use oracle::sample::{P1, TIED_IN_TREE, TIED_RECORDS};
 use oracle::sheet::{check, open, split};
 use oracle::tree;
 use oracle::view::{reaches, view, Edges};
@@ -419,27 +419,13 @@ fn the_examples_are_the_same_in_both_editions() {
 
 #[test]
 fn ties_in_the_tree_go_by_number_in_both_editions() {
-    // Marks 1 and 2 go by 0 at one value, 1, 2 and 3 have one x, and 0 and 3 stay; in the
-    // second edition 3 ranks higher than 2, and 2 than 1.
-    let marks = [
-        Mark::plain(0, 0, 30, 5),
-        Mark::plain(0, 40, 10, 5),
-        Mark::plain(0, 50, 20, 5),
-        Mark::plain(0, 60, 40, 5),
-    ];
-    let records = [
-        Record::NEVER,
-        Record::new(0, 1_600, 1_600),
-        Record::new(0, 2_500, 2_500),
-        Record::NEVER,
-    ];
     for edition in Edition::ALL {
-        let sheet = with_edition(&three_parts(&marks, &records), edition);
+        let sheet = with_edition(&three_parts(&TIED_IN_TREE, &TIED_RECORDS), edition);
         assert_eq!(check(&sheet), 0);
         let tree = open(&sheet).unwrap().tree.unwrap();
         assert_eq!(tree, [0, 1, 2, 3]);
     }
-    assert_eq!(Second.reel(&marks).ranked(), [3, 0, 2, 1]);
+    assert_eq!(Second.reel(&TIED_IN_TREE).ranked(), [3, 0, 2, 1]);
 }
 
 #[test]

@@ -15,7 +15,7 @@ use oracle::rank::Edition;
 use oracle::record::{removals, Record};
 use oracle::report::print;
 use oracle::rules::keep_both;
-use oracle::sample::{marks, Generator, Shape};
+use oracle::sample::{marks, Generator, Shape, CODES_TAKEN};
 use oracle::sheet::{assemble, check, join, join_parts, open, part_extent, schedule, split};
 use oracle::tree;
 use oracle::view::{reaches, view, Edges};
@@ -113,14 +113,7 @@ fn putting_the_bodies_of_a_sheet_together_gives_the_sheet() {
     each_sample(|marks| {
         let sheet = scheduled_by(Edition::First, marks);
         let bodies = split(&sheet).unwrap();
-        for codes in [
-            &[1][..],
-            &[1, 2],
-            &[1, 4],
-            &[1, 2, 3],
-            &[1, 2, 4],
-            &[1, 2, 3, 4],
-        ] {
+        for codes in CODES_TAKEN {
             let parts = codes.iter().map(|&code| bodies.get(code.into()).unwrap());
             let parts: Vec<&[u8]> = parts.collect();
             let expected =

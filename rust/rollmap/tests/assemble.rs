@@ -5,12 +5,12 @@ mod common;
 
 use common::{
     bodies_of, code, our_records, scheduled_with, some_room, some_sheet, Lent, SomeBodies, Tally,
-    NAMED, TAKEN,
+    NAMED,
 };
 use oracle::contents::Part;
 use oracle::mark::write_marks;
 use oracle::rank::Edition::{First, Second};
-use oracle::sample::{each_list, marks, Generator, Shape, P1};
+use oracle::sample::{each_list, marks, Generator, Shape, CODES_TAKEN, P1};
 use oracle::sheet::{join, join_parts, part_extent, split};
 use rollmap::Code;
 
@@ -50,7 +50,7 @@ fn every_list_of_codes() {
         each_list(&[1, 2, 3, 4], length, &mut |codes| {
             let expected = match codes.len() {
                 0 | 5.. => 1,
-                _ if TAKEN.contains(&codes) => 0,
+                _ if CODES_TAKEN.contains(&codes) => 0,
                 _ => 2,
             };
             for bodies in [&p1_bodies(), &empty] {
@@ -69,7 +69,7 @@ fn every_list_of_codes() {
 fn every_length_of_the_written_buffer() {
     let empty = [vec![], vec![], vec![], vec![2]];
     for bodies in [&p1_bodies(), &empty] {
-        for codes in TAKEN {
+        for codes in CODES_TAKEN {
             let parts = parts_of(codes, bodies);
             let needed = join_parts(&parts).len();
             for length in 0..needed + 40 {
@@ -98,7 +98,7 @@ fn damaged_editions() {
     let mut bodies = p1_bodies();
     for part_4 in [&[][..], &[0], &[3], &[255], &[1, 1], &[2, 0], &[1, 2]] {
         bodies[3] = part_4.to_vec();
-        for codes in TAKEN {
+        for codes in CODES_TAKEN {
             let expected = if codes.contains(&4) { 19 } else { 0 };
             assert_eq!(assemble(&parts_of(codes, &bodies), 200, 1), expected);
             let short = if codes.contains(&4) { 19 } else { 13 };
@@ -115,7 +115,7 @@ fn every_byte_of_the_bodies_with_some_values() {
             let own = bodies[body][at];
             for value in [0, 1, 2, 3, 10, 64, 199, 200, 255, own ^ 1, own ^ 128] {
                 bodies[body][at] = value;
-                for codes in TAKEN {
+                for codes in CODES_TAKEN {
                     assemble(&parts_of(codes, &bodies), 151, u64::from(value));
                 }
             }
@@ -152,7 +152,7 @@ fn the_longest_bodies() {
     let records = common::foreign_records(&mut generator, First.reel(&sample));
     let [part_1, part_2, part_3] = bodies_of(&sample, &records);
     let bodies = [part_1, part_2, part_3, First.write().to_vec()];
-    for (codes, needed) in TAKEN.into_iter().zip([
+    for (codes, needed) in CODES_TAKEN.into_iter().zip([
         12 + 45_056,
         22 + 102_400,
         22 + 45_057,
@@ -212,7 +212,7 @@ fn parts_of_accepted_sheets() {
         for n in [0, 1, 2, 9, 40] {
             let whole = scheduled_with(Some(First), &marks(shape, n, n as u64));
             let present = split(&whole).unwrap().present();
-            for codes in TAKEN {
+            for codes in CODES_TAKEN {
                 let mut own = present.clone();
                 own.retain(|(code, _)| codes.contains(code));
                 let sheet = join_parts(&own);

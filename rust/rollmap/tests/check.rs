@@ -4,13 +4,13 @@ mod common;
 
 use common::{
     bodies_of, joined, number, one_part, our_records, scheduled, scheduled_with, some_sheet,
-    three_parts, with_part_4, Tally, NAMED, TAKEN,
+    three_parts, with_part_4, Tally, NAMED,
 };
 use oracle::fraction::Fraction;
 use oracle::mark::{touching_value, write_marks, Mark};
 use oracle::rank::Edition::{First, Second};
 use oracle::record::{write_records, Record};
-use oracle::sample::{each_list, marks, raw_sheet, Generator, Shape, P1};
+use oracle::sample::{each_list, marks, raw_sheet, Generator, Shape, CODES_TAKEN, P1};
 use oracle::sheet::{join, join_parts};
 use oracle::tree::write_tree;
 
@@ -35,7 +35,7 @@ fn small_sheets() -> Vec<Vec<u8>> {
     for sample in samples {
         let [part_1, part_2, part_3] = bodies_of(&sample, &our_records(&sample));
         let bodies = [part_1, part_2, part_3, First.write().to_vec()];
-        for codes in TAKEN {
+        for codes in CODES_TAKEN {
             let body = |code: u16| bodies[usize::from(code) - 1].as_slice();
             let parts: Vec<_> = codes.iter().map(|&code| (code, body(code))).collect();
             sheets.push(join_parts(&parts));
@@ -195,7 +195,7 @@ fn every_list_of_codes() {
                 let body = |code| if code == 4 { part_4 } else { &[] };
                 let parts: Vec<_> = codes.iter().map(|&code| (code, body(code))).collect();
                 let number = check(&join_parts(&parts));
-                let taken = TAKEN.contains(&codes);
+                let taken = CODES_TAKEN.contains(&codes);
                 assert_eq!(taken, [0, 19].contains(&number), "{codes:?}");
                 numbers.add(number);
             }

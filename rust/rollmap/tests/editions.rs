@@ -12,7 +12,7 @@ use oracle::mark::Mark;
 use oracle::process::schedule_by_process;
 use oracle::rank::Edition::{self, First, Second};
 use oracle::record::{read_records, Record};
-use oracle::sample::{marks, small_choice, Generator, Shape};
+use oracle::sample::{marks, small_choice, Generator, Shape, TIED_IN_TREE, TIED_RECORDS};
 use oracle::tree;
 use oracle::view::Edges;
 use rollmap::{Code, View, Zoom};
@@ -178,23 +178,9 @@ fn without_part_4_all_is_as_in_the_first_edition_but_for_its_own_bytes() {
 
 #[test]
 fn ties_in_the_tree_go_by_number() {
-    // Marks 1 and 2 go by 0 at one value, 1, 2 and 3 have one x, and 0 and 3 stay; in the
-    // second edition 3 ranks higher than 0, and 2 than 1.
-    let sample = [
-        Mark::plain(0, 0, 30, 5),
-        Mark::plain(0, 40, 10, 5),
-        Mark::plain(0, 50, 20, 5),
-        Mark::plain(0, 60, 40, 5),
-    ];
-    let records = [
-        Record::NEVER,
-        Record::new(0, 1_600, 1_600),
-        Record::new(0, 2_500, 2_500),
-        Record::NEVER,
-    ];
-    assert_eq!(tree::build(&sample, &records), [0, 1, 2, 3]);
+    assert_eq!(tree::build(&TIED_IN_TREE, &TIED_RECORDS), [0, 1, 2, 3]);
     for named in NAMED {
-        let sheet = with_named(three_parts(&sample, &records), named);
+        let sheet = with_named(three_parts(&TIED_IN_TREE, &TIED_RECORDS), named);
         assert_eq!(check(&sheet), 0);
     }
 }

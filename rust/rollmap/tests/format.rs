@@ -2,9 +2,9 @@
 
 mod common;
 
-use common::{one_part, with_part_4, TAKEN};
+use common::{one_part, with_part_4};
 use oracle::mark::{house_radius, Mark};
-use oracle::sample::P1;
+use oracle::sample::{CODES_TAKEN, P1};
 use rollmap::{schedule_to_vec, Code};
 
 const FORMAT: &str = include_str!("../../../docs/FORMAT.md");
@@ -69,7 +69,7 @@ fn the_codes_are_those_of_the_text() {
         let words: Vec<String> = codes.iter().map(u16::to_string).collect();
         words.join(", ")
     };
-    let lists: Vec<String> = TAKEN.iter().map(list).collect();
+    let lists: Vec<String> = CODES_TAKEN.iter().map(list).collect();
     let (last, others) = lists.split_last().expect("there are lists");
     let sentence = format!("So the codes are {}; or {last}.", others.join("; "));
     assert!(FORMAT.contains(&sentence), "{sentence}");

@@ -11,7 +11,7 @@ use oracle::mark::{touching_value, write_marks, Mark};
 use oracle::process::schedule_in_rank_order;
 use oracle::rank::{Edition, Reel};
 use oracle::record::{write_records, Record};
-use oracle::sample::{marks, Generator, Shape};
+use oracle::sample::{marks, Generator, Shape, CODES_TAKEN};
 use oracle::sheet::{join, join_parts, split, Opened};
 use oracle::tree;
 use rollmap::{scheduled_bytes, work_bytes, Code, Refusal, Work, EDITION_BYTES, MARK_BYTES};
@@ -400,16 +400,6 @@ pub fn odd_number(generator: &mut Generator, own: u64) -> u64 {
     }
 }
 
-/// The lists of codes that question 2 takes.
-pub const TAKEN: [&[u16]; 6] = [
-    &[1],
-    &[1, 2],
-    &[1, 4],
-    &[1, 2, 3],
-    &[1, 2, 4],
-    &[1, 2, 3, 4],
-];
-
 /// The bodies of all parts, some of them damaged in some way, and the codes of those that
 /// the sheet has.
 pub struct SomeBodies {
@@ -427,7 +417,7 @@ impl SomeBodies {
             }
             _ => some_marks(generator),
         };
-        let [one, two, named, three, two_named, four] = TAKEN;
+        let [one, two, named, three, two_named, four] = CODES_TAKEN;
         let codes = generator.choose(&[one, two, named, three, three, two_named, four, four]);
         let mut edition = Edition::First;
         if codes.contains(&4) {
