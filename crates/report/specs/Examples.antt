@@ -31,12 +31,12 @@ use Rattle.zoom.specs.declared.Zoom.{Zoom}
 use Rattle.zoom.specs.declared.Zoom.the-variants.{Stop, Wheel}
 use Rattle.zoom.specs.Zoom.{stopScale, wheelScale, scaleOf}
 use Rattle.zoom.specs.Living.{livesAt}
-use Rattle.zoom.specs.Printed.{rootStep, root, zoomDown}
+use Rattle.zoom.specs.Printed.{rootStep, root, nearestFrom, nearest}
 use Rattle.view.specs.declared.Rectangle.{Rectangle}
 use Rattle.view.specs.Shown.{gap, distanceSquared, reaches, shown}
 use Rattle.bitmap.specs.Map.{mapByte, mapPart, mapBytes, countShown}
 use Rattle.view.specs.Questions as Viewing
-use Rattle.rollmap.specs.Jobs.{outcome, checkJob, scheduled, schedulingQuestions, schedulingJob, addChecks, addJob, takeOutChecks, takeOutJob, assembleQuestions, assembleJob, fillJob, logToMarksJob, marksToLogJob, shownIn, viewJob}
+use Rattle.jobs.specs.Jobs.{outcome, checkJob, scheduled, schedulingQuestions, schedulingJob, addChecks, addJob, takeOutChecks, takeOutJob, assembleQuestions, assembleJob, fillJob, logToMarksJob, marksToLogJob, shownIn, viewJob}
 use Rattle.text.specs.Text.{digits}
 use Rattle.report.specs.Text.{text, line, markLine, markLines, listing, refusalLine, printQuestions, printed}
 
@@ -83,6 +83,8 @@ pub data Asked : Type 0 where
   checks : List ℕ → Asked
   -- the used radius of a written radius and a kind
   uses : ℕ → ℕ → Asked
+  -- the printed zoom of a removal value, by numerator and denominator
+  zooms : ℕ → ℕ → Asked
   -- two fractions, by numerator and denominator: 1 where they are equal, else 0
   equals : ℕ → ℕ → ℕ → ℕ → Asked
   -- filling these marks in a buffer of so many bytes: number, length, and the bytes written
@@ -118,6 +120,7 @@ answers (keeps edition l) = codesOf (split (scheduled (sheetIn edition l)))
 answers (views l e zoom) = let o = viewJob (scheduled (sheet l)) e zoom 1 in o .number ∷ o .value ∷ o .written
 answers (checks s) = (checkJob s) .number ∷ []
 answers (uses radius kind) = usedRadius radius kind ∷ []
+answers (zooms num den) = nearest (record { num = num; den = den }) ∷ []
 answers (equals a b c d) = bit (same (record { num = a; den = b }) (record { num = c; den = d })) ∷ []
 answers (fills l room) = let o = fillJob (marks l) room in o .number ∷ o .value ∷ o .written
 answers (rescues s m) =
@@ -196,8 +199,8 @@ wheel bits = Wheel (ofBits binary32 bits)
 
 pub table : List Row
 table =
-    -- P1
-    (prints p1 gives text "marks 4\n0 -\n1 0 10000 400 320\n2 0 40000 400 640\n3 0 9 225 12\n")
+    -- P1, its last mark as request 7 of 02 has it
+    (prints p1 gives text "marks 4\n0 -\n1 0 10000 400 320\n2 0 40000 400 640\n3 0 9 225 13\n")
     -- P2
     ∷ (indexes p1 gives (0 ∷ 1 ∷ 3 ∷ 2 ∷ []))
     -- P3: wheel 1
@@ -289,10 +292,18 @@ table =
     ∷ (assembles (4 ∷ 1 ∷ []) ((2 ∷ []) ∷ marks two ∷ []) 45 gives (2 ∷ 0 ∷ []))
     ∷ (assembles (1 ∷ 3 ∷ []) (marks two ∷ [] ∷ []) 45 gives (2 ∷ 0 ∷ []))
     ∷ (assembles (1 ∷ 4 ∷ []) (marks two ∷ (2 ∷ []) ∷ []) 44 gives (13 ∷ 0 ∷ []))
+    -- 02, request 7: "Removal value 625/16384 prints 12", an exact half above 12; those above 0, 1 and 13; and no zoom at all
+    ∷ (zooms 625 16384 gives (12 ∷ []))
+    ∷ (zooms 1 16384 gives (0 ∷ []))
+    ∷ (zooms 9 16384 gives (2 ∷ []))
+    ∷ (zooms 729 16384 gives (14 ∷ []))
+    ∷ (zooms 0 4 gives (0 ∷ []))
+    -- the largest removal value
+    ∷ (zooms 8589672450 4 gives (2965776 ∷ []))
     ∷ []
 
 -- No row is lost.
-pub table-length : length table ≡ 64
+pub table-length : length table ≡ 70
 unfolding table
 table-length = refl
 
@@ -307,5 +318,5 @@ unfolding table answers recordOf pairs sheet sheetIn marks oldSheet neverSheet o
     Rows.rows filledRadius filled fillQuestions markQuestions part1Questions isSized isEdition question7 question19 namesRight recordRight isSchedule question8
     question9 lastQuestions bodyQuestions checkQuestions check partsQuestions assembleQuestions stopScale wheelScale scaleOf livesAt gap distanceSquared reaches
     shown mapByte mapPart mapBytes countShown question10 indexedQuestions Viewing.question11 Viewing.viewQuestions outcome checkJob scheduled
-    added Rows.without takenOut addChecks takeOutChecks schedulingQuestions schedulingJob assembleJob fillJob shownIn viewJob digits line rootStep root zoomDown markLine markLines listing refusalLine printQuestions printed
+    added Rows.without takenOut addChecks takeOutChecks schedulingQuestions schedulingJob assembleJob fillJob shownIn viewJob digits line rootStep root nearestFrom nearest markLine markLines listing refusalLine printQuestions printed
 examples = refl

@@ -2,12 +2,14 @@
 use Prim.Native.Nat.{ℕ, _+_, _*_, _<_, _≤_}
 use mathlib.Core.Path.{_≡_}
 use mathlib.Core.Bool.{false, cond}
-use mathlib.Core.List.{List, []}
+use mathlib.Core.List.{List, [], _∷_, _++_}
 use lib.Dec.{eqb}
 use lib.ListN.{length}
 use Rattle.lists.specs.Stores.{over}
+use Rattle.fractions.specs.declared.Fraction.{Fraction}
 use Rattle.fractions.specs.Order.{Small}
-use Rattle.text.specs.Text.{numberRoom}
+use Rattle.text.specs.Text.{decimal, denoted, numberRoom}
+use Rattle.zoom.specs.Printed.{Nearest}
 use Rattle.elimination.specs.Process.{Removal, stays, gone}
 use Rattle.elimination.specs.Records.{recordSize, isNever, markRecord, eliminatorAt, denAt, fractionAt}
 use Rattle.elimination.specs.Reel.{scheduleOf}
@@ -15,7 +17,8 @@ use Rattle.scheduling.specs.Filling.{workSize}
 use Rattle.contents.specs.Contents.{split}
 use Rattle.contents.specs.Asking.{answer}
 use Rattle.bodies.specs.Questions.{reelOf}
-use Rattle.report.specs.Text.{mostMarks, printQuestions, printed}
+use Rattle.sheet.specs.Questions.{sheetCount}
+use Rattle.report.specs.Text.{text, line, markLines, mostMarks, printQuestions, removals, printed}
 
 -- ---- a schedule's records
 
@@ -58,8 +61,18 @@ pub record Room (work schedule out : List ℕ) : Type 0 where
 unfoldable pub workedOut : List ℕ → List ℕ
 workedOut s = cond (eqb (answer (printQuestions s)) 0) (scheduleOf (reelOf (split s))) []
 
+-- In the text of `s` the line of mark m, which `h` removes at `f`, stands behind those of the marks before it, and its last field is the nearest
+-- 64th, in digits that denote it.
+pub record ZoomLine (s : List ℕ) (m h : ℕ) (f : Fraction) : Type 0 where
+  pub k : ℕ
+  pub zoom : Nearest f k
+  pub denotes : denoted 0 (decimal k) ≡ k
+  pub rest : List ℕ
+  pub stands : printed s ≡ line (text "marks" ∷ decimal (sheetCount s) ∷ [])
+      ++ (markLines (removals s) m ++ (line (decimal m ∷ decimal h ∷ decimal (f .num) ∷ decimal (f .den) ∷ decimal k ∷ []) ++ rest))
+
 -- What printing the sheet `s` answers, `r`, and what it leaves in `out` and `schedule`; of `work`, its length, and that a refusal leaves it
--- alone.
+-- alone; and of the text, that every removal zoom in it is the nearest 64th.
 pub record Prints (s work schedule out : List ℕ) (r : ℕ) (work-after schedule-after out-after : List ℕ) : Type 0 where
   pub size : r ≡ length (printed s)
   pub inside : r ≤ length out-after
@@ -67,3 +80,4 @@ pub record Prints (s work schedule out : List ℕ) (r : ℕ) (work-after schedul
   pub records : schedule-after ≡ over (workedOut s) schedule
   pub long : length work-after ≡ length work
   pub refused : 0 < answer (printQuestions s) → work-after ≡ work
+  pub zooms : answer (printQuestions s) ≡ 0 → (m h : ℕ) (f : Fraction) → m < sheetCount s → removals s m ≡ gone h f → ZoomLine s m h f

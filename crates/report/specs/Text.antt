@@ -7,7 +7,7 @@ use mathlib.Core.List.{List, [], _∷_, _++_}
 use lib.ListN.{length}
 use lib.Dec.{leb, eqb}
 use Rattle.text.specs.Text.{decimal}
-use Rattle.zoom.specs.Printed.{zoomDown}
+use Rattle.zoom.specs.Printed.{nearest}
 use Rattle.elimination.specs.Process.{Removal, stays, gone, process}
 use Rattle.elimination.specs.Reel.{marksOf}
 use Rattle.contents.specs.Contents.{split}
@@ -29,10 +29,11 @@ line (f ∷ g ∷ rest) = f ++ (32 ∷ line (g ∷ rest))
 
 -- ---- the lines
 
--- "a line a mark: number, eliminator, numerator, denominator, and the removal zoom; or number and `-`"
+-- "a line a mark: number, eliminator, numerator, denominator, and the removal zoom; or number and `-`"; 02, request 7: the zoom to the nearest
+-- 64th
 unfoldable pub markLine : ℕ → Removal → List ℕ
 markLine m stays = line (decimal m ∷ text "-" ∷ [])
-markLine m (gone h f) = line (decimal m ∷ decimal h ∷ decimal (f .num) ∷ decimal (f .den) ∷ decimal (zoomDown f) ∷ [])
+markLine m (gone h f) = line (decimal m ∷ decimal h ∷ decimal (f .num) ∷ decimal (f .den) ∷ decimal (nearest f) ∷ [])
 
 unfoldable pub markLines : (ℕ → Removal) → ℕ → List ℕ
 markLines s zero = []
@@ -59,8 +60,12 @@ longestInput = 65536
 unfoldable pub printQuestions : List ℕ → List Question
 printQuestions s = (14 asks leb (length s) longestInput) ∷ checkQuestions s ++ ((14 asks leb (sheetCount s) mostMarks) ∷ [])
 
+-- what becomes of each mark of a sheet
+abbrev pub removals : List ℕ → ℕ → Removal
+removals s = process (marksOf (reelOf (split s)))
+
 -- what the program writes on an input
 unfoldable pub printed : List ℕ → List ℕ
 printed s =
     let number = answer (printQuestions s) in
-    cond (eqb number 0) (listing (process (marksOf (reelOf (split s)))) (sheetCount s)) (refusalLine number)
+    cond (eqb number 0) (listing (removals s) (sheetCount s)) (refusalLine number)

@@ -47,7 +47,7 @@ fn put_gone(out: &mut [u8], at: usize, m: usize, by: usize, value: Fraction) -> 
     let third = text::put_number(out, second, by as u64, b' ');
     let fourth = text::put_number(out, third, value.num, b' ');
     let fifth = text::put_number(out, fourth, value.den as u64, b' ');
-    text::put_number(out, fifth, zoom::zoom_down(value), b'\n')
+    text::put_number(out, fifth, zoom::zoom_nearest(value), b'\n')
 }
 
 // The line of mark m, by its record; gives the place behind it.

@@ -3,6 +3,7 @@ use contents::Extent;
 use contents::Layout;
 use elimination::RECORD_SIZE;
 use index::INDEX_ENTRY_SIZE;
+use jobs::Answer;
 use logs::LOG_RECORD_SIZE;
 use marks::MARK_SIZE;
 use marks::Mark;
@@ -31,15 +32,15 @@ ghost use Rattle.sheet.specs.Questions.{check, question10};
 ghost use Rattle.sheet.specs.Opened.{opened, openParts};
 ghost use Rattle.zoom.specs.declared.Zoom.the-variants.{Stop, Wheel};
 ghost use Rattle.view.specs.Questions.{question11, isMap};
-ghost use Rattle.rollmap.specs.Jobs.{checkJob, keptParts, scheduledFrom, hasRoom, schedulingJob, scheduleJob, addJob, takeOutJob, assembleJob, fillJob, logToMarksJob, marksToLogJob, viewJob, walkJob, isShownJob};
-ghost use Rattle.rollmap.specs.Answers.{refusal, answerOf, edges, fields, Gives, Lent};
-ghost use Rattle.rollmap.specs.Parts.{Joins};
-ghost use Rattle.rollmap.specs.Demand3.{Meets, MeetsView};
-ghost use Rattle.rollmap.specs.Changed.{MeetsAdding};
-ghost use Rattle.rollmap.specs.Filled.{MeetsFilling};
-ghost use Rattle.rollmap.specs.Turned.{MeetsLog, MeetsMarks};
-ghost use Rattle.rollmap.specs.Stops.{MeetsStop};
-ghost use Rattle.rollmap.specs.Steps.{keptFrom, resultsOver, viewAt};
+ghost use Rattle.jobs.specs.Jobs.{checkJob, keptParts, scheduledFrom, hasRoom, schedulingJob, scheduleJob, addJob, takeOutJob, assembleJob, fillJob, logToMarksJob, marksToLogJob, viewJob, walkJob, isShownJob};
+ghost use Rattle.jobs.specs.Answers.{refusal, answerOf, edges, fields, Gives, Lent};
+ghost use Rattle.jobs.specs.Parts.{Joins};
+ghost use Rattle.jobs.specs.Demand3.{Meets, MeetsView};
+ghost use Rattle.jobs.specs.Changed.{MeetsAdding};
+ghost use Rattle.jobs.specs.Filled.{MeetsFilling};
+ghost use Rattle.jobs.specs.Turned.{MeetsLog, MeetsMarks};
+ghost use Rattle.jobs.specs.Stops.{MeetsStop};
+ghost use Rattle.jobs.specs.Steps.{keptFrom, resultsOver, viewAt};
 
 // What scheduling asks for, in bytes a mark and in bytes beside them: the work buffer, and the sheet of three parts with its contents, to which
 // part 4 adds its own.
@@ -56,13 +57,6 @@ const EDITION_BYTES: usize = 11;
 
 // The most marks that a sheet holds.
 const MOST_MARKS: usize = 4096;
-
-// What a call answers: 0 or the refusal's number, and the length, count or mark number asked for.
-#[repr(C)]
-pub struct Answer {
-    pub number: u32,
-    pub value: u32,
-}
 
 // A refusal counts and measures nothing.
 fn refused(number: u32) -> Answer

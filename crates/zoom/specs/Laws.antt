@@ -1,9 +1,8 @@
 -- Laws of zooms, which the other crates cite. Assumes nothing.
-use Prim.Native.Nat.{ℕ, _+_, _*_, _/_, _^_, _≤_, _<_}
+use Prim.Native.Nat.{ℕ, _+_, _*_, _^_, _≤_, _<_}
 use mathlib.Core.Path.{_≡_, refl, sym, ap, subst}
 use mathlib.Core.Bool.{Bool, true, false, cond, true≢false}
 use mathlib.Core.Logic.{_↔_}
-use native.Mathlib.Nat.{le-trans, mul-le-mul-right, div-le-self, div-mul-le-self, le-div-iff-mul-le}
 use native.Mathlib.Omega.{arith}
 use borrow.Author.Tests.{le-leb, lt-leb, leb-true, eqb-true}
 use lib.Dec.{leb, eqb}
@@ -12,15 +11,14 @@ use lib.Ieee.{Float, binary32, ofBits}
 use lib.Ieee.Exact.{HasValue}
 use Rattle.lists.specs.Tests.{every}
 use Rattle.lists.specs.TestLaws.{every-at}
-use Rattle.fractions.specs.declared.Fraction.{Fraction}
 use Rattle.zoom.specs.Zoom.{largestScale, stopScale, wheelScale, scaleOf, Is64}
-use Rattle.zoom.specs.Printed.{root, zoomDown, LargestZoom}
 use Rattle.zoom.specs.declared.Zoom.{Zoom}
 use Rattle.zoom.specs.declared.Zoom.the-variants.{Stop, Wheel}
 use Rattle.zoom.specs.declared.Scale.{Scale}
 use Rattle.zoom.specs.declared.Scale.the-variants.{Taken, Refused}
 use Rattle.zoom.specs.Lemmas.Wheels.{wheel-is, wheel-from}
-use Rattle.zoom.specs.Lemmas.Roots.{IsRoot, root-is, root-largest}
+-- The printed zoom: `Nearest` has exactly one solution, and `nearest` computes it; it is within a half, and no other number is nearer.
+pub use Rattle.zoom.specs.Lemmas.Rounding.{nearest-unique, nearest-one, nearest-is, nearest-fits, within-half, none-nearer}
 
 -- ---- which zooms are taken
 
@@ -69,16 +67,3 @@ scale-most (Stop s) k h = cases (leb s 16) refl h
         let is : 2 ^ s ≡ k = cc in
         subst (λ (i : ℕ). i ≤ largestScale) is (pow-mono {i = s} {j = 16} (leb-true s 16 e))
     cases false e g = absurd (let z : _≡_ {A = ℕ} 0 1 = cc in omega arith)
-
--- ---- the printed zoom
-
--- 01: "the largest k with k² times denominator ≤ 4096 times numerator"
-pub zoom-largest : (f : Fraction) → 0 < f .den → f .num < 18446744073709551616 / 4096 → LargestZoom f (zoomDown f)
-unfolding zoomDown
-zoom-largest f d s =
-    let q = 4096 * f .num / f .den in
-    let i : IsRoot (root 32 q) q = root-is 32 q (omega (arith, div-le-self (4096 * f .num) (f .den))) in
-    record {
-      fits = le-trans (mul-le-mul-right (f .den) (i .low)) (div-mul-le-self (4096 * f .num) (f .den));
-      largest = λ j h. root-largest i ((le-div-iff-mul-le d .1) h);
-    }

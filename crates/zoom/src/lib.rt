@@ -6,7 +6,7 @@ ghost use Prim.Native.Nat.{_<_};
 ghost use Rattle.fractions.specs.Order.{Small};
 ghost use Rattle.zoom.specs.Zoom.{scaleOf, wheelScale};
 ghost use Rattle.zoom.specs.Living.{livesAt};
-ghost use Rattle.zoom.specs.Printed.{rootStep, root, zoomDown};
+ghost use Rattle.zoom.specs.Printed.{rootStep, root, nearest};
 
 // ---- which zooms are taken
 
@@ -87,10 +87,16 @@ fn root_of(v: u64) -> u64
     r
 }
 
-// The removal zoom in 64ths, rounded down.
-pub fn zoom_down(f: Fraction) -> u64
+// The removal zoom to the nearest 64th, an exact half to the even number: from the zoom in 128ths.
+pub fn zoom_nearest(f: Fraction) -> u64
     requires { ⌜ Small f × (0 < f .den) ⌝ }
-    ensures { λ r. ⌜ r ≡ zoomDown f ⌝ }
+    ensures { λ r. ⌜ r ≡ nearest f ⌝ }
 {
-    root_of(4096 * f.num / (f.den as u64))
+    let num = 16384 * f.num;
+    let den = f.den as u64;
+    let h = root_of(num / den);
+    if h % 4 == 1 && h * h * den == num {
+        return h / 2;
+    }
+    (h + 1) / 2
 }

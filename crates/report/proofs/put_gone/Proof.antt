@@ -62,8 +62,8 @@ put-number-requires-4 c κs =
     let p = k .before .before .before .before .before .before .before .before .before .before .before .pre in
     omega (arith, fourth k .0, fourth k .1, p .0)
 
-zoom-down-requires : tie.Need-zoom-down-requires
-zoom-down-requires c κs = search needs
+zoom-nearest-requires : tie.Need-zoom-nearest-requires
+zoom-nearest-requires c κs = search needs
 
 put-number-requires-5 : tie.Need-put-number-requires-5
 put-number-requires-5 c κs =
@@ -82,7 +82,7 @@ returns c =
     let k₃ = k₄ .before .before .before .before .before in
     let k₂ = k₃ .before .before .before .before in
     let k₁ = k₂ .before .before .before .before in
-    let last = rw (k₅ .before .zoom-down .ensures) at (k₅ .put-number5 .ensures) in
+    let last = rw (k₅ .before .zoom-nearest .ensures) at (k₅ .put-number5 .ensures) in
     gone-line _ _ _ (k₁ .put-number .ensures) (k₂ .put-number2 .ensures) (k₃ .put-number3 .ensures) (k₄ .put-number4 .ensures) last
 
 pub put-gone-spec : {M : Type 1} → statement M
@@ -94,7 +94,7 @@ put-gone-spec =
     put-number-requires-3
     cast-put-number
     put-number-requires-4
-    zoom-down-requires
+    zoom-nearest-requires
     put-number-requires-5
     same-length
     returns)

@@ -1,13 +1,14 @@
 -- Lines: what is written one after the other makes a line, and no line is longer than the room kept for it. Assumes nothing.
 use Prim.Native.Nat.{ℕ, zero, suc, _+_, _*_, _<_, _≤_}
 use mathlib.Core.Path.{_≡_, refl}
-use mathlib.Core.List.{List, [], _∷_, _++_, append-assoc}
+use mathlib.Core.List.{List, [], _∷_, _++_, append-nil, append-assoc}
 use native.Mathlib.Numerals.{add-one}
 use native.Mathlib.Omega.{arith}
+use native.Mathlib.Decide.{decLt}
 use lib.ListN.{length, length-append, set}
 use Rattle.fractions.specs.declared.Fraction.{Fraction}
 use Rattle.text.specs.Text.{decimal, numberRoom, Wrote}
-use Rattle.zoom.specs.Printed.{zoomDown}
+use Rattle.zoom.specs.Printed.{nearest}
 use Rattle.text.specs.Laws.{decimal-bound, wrote-byte, wrote-then, wrote-length}
 use Rattle.elimination.specs.Process.{Removal, stays, gone}
 use Rattle.report.specs.Text.{text, line, markLine, markLines, listing, refusalLine}
@@ -37,7 +38,7 @@ pub gone-line : (m by : ℕ) (f : Fraction) {l l₁ l₂ l₃ l₄ l₅ : List �
     → Wrote l₁ l₂ p (decimal by ++ (32 ∷ [])) q
     → Wrote l₂ l₃ q (decimal (f .num) ++ (32 ∷ [])) r
     → Wrote l₃ l₄ r (decimal (f .den) ++ (32 ∷ [])) s
-    → Wrote l₄ l₅ s (decimal (zoomDown f) ++ (10 ∷ [])) t
+    → Wrote l₄ l₅ s (decimal (nearest f) ++ (10 ∷ [])) t
     → Wrote l l₅ at (markLine m (gone by f)) t
 unfolding line markLine
 gone-line m by f a b c d e =
@@ -67,11 +68,11 @@ pub mark-room : (m : ℕ) (r : Removal) → length (markLine m r) ≤ lineRoom
 unfolding markLine line
 mark-room m stays = omega (arith, number-room m 32 (45 ∷ 10 ∷ []))
 mark-room m (gone h f) =
-    let e = decimal (zoomDown f) ++ (10 ∷ []) in
+    let e = decimal (nearest f) ++ (10 ∷ []) in
     let d = decimal (f .den) ++ (32 ∷ e) in
     let c = decimal (f .num) ++ (32 ∷ d) in
     let b = decimal h ++ (32 ∷ c) in
-    omega (arith, number-room m 32 b, number-room h 32 c, number-room (f .num) 32 d, number-room (f .den) 32 e, number-room (zoomDown f) 10 [])
+    omega (arith, number-room m 32 b, number-room h 32 c, number-room (f .num) 32 d, number-room (f .den) 32 e, number-room (nearest f) 10 [])
 
 pub marks-room : (s : ℕ → Removal) (n : ℕ) → length (markLines s n) ≤ lineRoom * n
 unfolding markLines
@@ -92,6 +93,17 @@ pub listing-room : (s : ℕ → Removal) (n : ℕ) → length (listing s n) ≤ 
 unfolding listing
 listing-room s n =
     omega (arith, length-append (line (text "marks" ∷ decimal n ∷ [])) (markLines s n), first-room (text "marks") n (omega arith), marks-room s n)
+
+-- ---- the line of one mark
+
+pub lines-at : (s : ℕ → Removal) (m n : ℕ) → m < n → (rest : List ℕ) × (markLines s n ≡ markLines s m ++ (markLine m (s m) ++ rest))
+unfolding markLines
+lines-at s m zero h = absurd (omega arith)
+lines-at s m (suc n) h =
+    elim (decLt m n) [
+      | yes l ↦ (let r = lines-at s m n l in (r .0 ++ markLine n (s n), rw (r .1) (simp append-assoc)))
+      | no l ↦ (let e : m ≡ n = omega arith in ([], rw (e, append-nil (markLine n (s n)))))
+    ]
 
 -- ---- the lines of marks that go alike
 

@@ -9,10 +9,13 @@ use lib.ListN.{length, drop}
 use Rattle.lists.specs.Stores.{over}
 use Rattle.lists.specs.StoreLaws.{over-sets}
 use Rattle.numbers.specs.Little.{Bytes}
+use Rattle.fractions.specs.declared.Fraction.{Fraction}
 use Rattle.text.specs.Text.{decimal, Wrote}
-use Rattle.text.specs.Laws.{wrote-length}
+use Rattle.text.specs.Laws.{decimal-denotes, wrote-length}
+use Rattle.zoom.specs.Printed.{nearest}
+use Rattle.zoom.specs.Laws.{nearest-is, nearest-fits}
 use Rattle.marks.specs.Good.{GoodMarks}
-use Rattle.elimination.specs.Process.{process}
+use Rattle.elimination.specs.Process.{gone, process}
 use Rattle.elimination.specs.Reel.{marksOf, scheduleOf}
 use Rattle.elimination.specs.Schedule.{schedule-length}
 use Rattle.contents.specs.Contents.{split, marksPart}
@@ -20,14 +23,14 @@ use Rattle.contents.specs.Asking.{Question, _asks_, answer}
 use Rattle.contents.specs.Laid.{Laid}
 use Rattle.contents.specs.Laws.{none-asked, asked-yes, asked-no, asked-iff}
 use Rattle.contents.specs.Laws.{append-yes, append-no, append-iff}
-use Rattle.bodies.specs.Questions.{markCount, editionOf, reelFrom}
+use Rattle.bodies.specs.Questions.{markCount, editionOf, reelFrom, reelOf}
 use Rattle.sheet.specs.Questions.{sheetCount, checkQuestions, check}
 use Rattle.sheet.specs.Laws.{check-numbered, accepted-iff}
-use Rattle.rollmap.specs.Theorems.{good, marks-bytes}
-use Rattle.report.specs.Text.{text, line, listing, refusalLine, mostMarks, longestInput, printQuestions, printed}
-use Rattle.report.specs.Printing.{removalAt, Printable, firstRoom, textRoom, workedOut, Prints}
-use Rattle.report.specs.Lemmas.Lines.{refusal-room, listing-room, listing-same}
-use Rattle.report.specs.Lemmas.Removals.{removal-process, schedule-printable}
+use Rattle.jobs.specs.Theorems.{good, marks-bytes}
+use Rattle.report.specs.Text.{text, line, markLine, listing, refusalLine, mostMarks, longestInput, printQuestions, removals, printed}
+use Rattle.report.specs.Printing.{removalAt, Printable, firstRoom, textRoom, workedOut, ZoomLine, Prints}
+use Rattle.report.specs.Lemmas.Lines.{refusal-room, listing-room, lines-at, listing-same}
+use Rattle.report.specs.Lemmas.Removals.{gone-small, removal-process, schedule-printable}
 
 module _ (s : List ℕ) where
   last : List Question
@@ -87,7 +90,7 @@ module _ (s : List ℕ) where
     unfolding refusalLine over
     prints-refusal work schedule room o =
         let w = stands (refusalLine number) refusal-printed (omega (arith, refusal-room number)) o in
-        record { size = w .size; inside = w .inside; text = w .text; records = rw none-worked-out; long = refl; refused = λ h. refl }
+        record { size = w .size; inside = w .inside; text = w .text; records = rw none-worked-out; long = refl; refused = λ h. refl; zooms = λ yes. absurd (omega arith) }
 
   -- no question said 'no'
   module _ (yes : answer (printQuestions s) ≡ 0) where
@@ -101,6 +104,26 @@ module _ (s : List ℕ) where
     few : sheetCount s ≤ mostMarks
     unfolding last
     few = leb-true (sheetCount s) mostMarks (asked-iff 14 (leb (sheetCount s) mostMarks) [] (omega arith) .0 (asked .1) .0)
+
+  -- every removal zoom is the nearest
+  module _ (bytes : Bytes s) (yes : answer (printQuestions s) ≡ 0) where
+    listed : printed s ≡ listing (removals s) (sheetCount s)
+    unfolding printed
+    listed = rw yes
+
+    pub zoom-line : (m h : ℕ) (f : Fraction) → m < sheetCount s → removals s m ≡ gone h f → ZoomLine s m h f
+    unfolding listing markLine
+    zoom-line m h f l e =
+        let ok = asked yes .0 in
+        let small = gone-small (reelOf (split s)) [] (good s bytes ok) (marks-bytes s bytes ok) m h f l e in
+        let at = lines-at (removals s) m (sheetCount s) l in
+        record {
+          k = nearest f;
+          zoom = nearest-is f (small .1) (omega (arith, small .0 .num-small));
+          denotes = decimal-denotes (nearest f) (nearest-fits f);
+          rest = at .0;
+          stands = listed ∙ rw (at .1, e);
+        }
 
   -- then `part` is part 1
   module _ (bytes : Bytes s) (yes : answer (printQuestions s) ≡ 0) {part : List ℕ} (is : part ≡ marksPart (split s)) where
@@ -137,4 +160,4 @@ module _ (s : List ℕ) where
           → Wrote out out-after 0 (listing (removalAt p) (markCount part)) r → Prints s work before out r work-after p out-after
       prints-listing work work-after long room o =
           let w = stands (listing (removalAt p) (markCount part)) (sym same) (omega (arith, listing-room (removalAt p) (markCount part), part1-few)) o in
-          record { size = w .size; inside = w .inside; text = w .text; records = worked-out; long = long; refused = λ h. absurd (omega (arith, h, yes)) }
+          record { size = w .size; inside = w .inside; text = w .text; records = worked-out; long = long; refused = λ h. absurd (omega (arith, h, yes)); zooms = λ _. zoom-line bytes yes }

@@ -56,6 +56,14 @@ says-gone p m h f r small positive =
 module _ (r : Reel) (rest : List ℕ) (good : GoodMarks (r .marks) (r .count)) (bytes : Bytes (r .marks)) where
   open Reel r using (marks as s, count as n)
 
+  -- the value at which a mark goes is its touching value with another
+  pub gone-small : (m h : ℕ) (f : Fraction) → m < n → process (marksOf r) m ≡ gone h f → Small f × (0 < f .den)
+  gone-small m h f k e =
+      let x = process-eliminator (marksOf r) (sheet-proper r (good .few)) m h f k e in (
+        subst Small (sym (x .exact)) (touching-small s h m bytes (good .each h (x .inside) .used) (good .each m k .used)),
+        rw (x .exact) (touching-positive s h m),
+      )
+
   says : (m : ℕ) → m < n → Says (scheduleOf r ++ rest) m (process (marksOf r) m)
   says m k = cases (process (marksOf r) m) refl
     where
@@ -65,10 +73,8 @@ module _ (r : Reel) (rest : List ℕ) (good : GoodMarks (r .marks) (r .count)) (
       cases : (x : Removal) → process (marksOf r) m ≡ x → Says (scheduleOf r ++ rest) m x
       cases stays e = says-stays _ m (reads-append (scheduleOf r) rest m inside (rw e at (schedule-reads r good bytes m k)))
       cases (gone h f) e =
-          let x = process-eliminator (marksOf r) (sheet-proper r (good .few)) m h f k e in
-          let small : Small f = subst Small (sym (x .exact)) (touching-small s h m bytes (good .each h (x .inside) .used) (good .each m k .used)) in
-          let positive : 0 < f .den = rw (x .exact) (touching-positive s h m) in
-          says-gone _ m h f (reads-append (scheduleOf r) rest m inside (rw e at (schedule-reads r good bytes m k))) small positive
+          let g = gone-small m h f k e in
+          says-gone _ m h f (reads-append (scheduleOf r) rest m inside (rw e at (schedule-reads r good bytes m k))) (g .0) (g .1)
 
   pub removal-process : (m : ℕ) → m < n → removalAt (scheduleOf r ++ rest) m ≡ process (marksOf r) m
   removal-process m k = says m k .removal

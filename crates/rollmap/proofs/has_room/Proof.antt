@@ -3,7 +3,7 @@ use Prim.Native.Nat.{_+_, _*_}
 use borrow.Author.Needs.{needs}
 use borrow.Author.Tests.{le-leb, lt-leb}
 use denote.Ref.{now}
-use Rattle.rollmap.specs.Lemmas.Kept.{kept-size}
+use Rattle.jobs.specs.Laws.Kept.{kept-size}
 use Rattle.rollmap.proofs.has_room.Statement.{statement}
 use Rattle.rollmap.proofs.has_room.Tie as tie
 

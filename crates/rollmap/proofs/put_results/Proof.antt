@@ -5,7 +5,7 @@ use borrow.Author.Needs.{needs}
 use lib.Seq.{length-take-le}
 use denote.Ref.{now}
 use Rattle.scheduling.specs.Behind.{reelIn}
-use Rattle.rollmap.specs.Lemmas.Scheduling.{results-are}
+use Rattle.jobs.specs.Laws.Scheduling.{results-are}
 use Rattle.rollmap.proofs.put_results.Statement.{statement}
 use Rattle.rollmap.proofs.put_results.Tie as tie
 

@@ -6,7 +6,7 @@ use lib.ListN.{length, take, drop, length-append}
 use native.Mathlib.Omega.{arith}
 use borrow.Author.Needs.{needs}
 use denote.Ref.{now}
-use Rattle.rollmap.specs.Lemmas.Scheduling.{rest-long, codes-long, sizes-long, size-small, start, begun, marks-first, results-put, finished}
+use Rattle.jobs.specs.Laws.Scheduling.{rest-long, codes-long, sizes-long, size-small, start, begun, marks-first, results-put, finished}
 use Rattle.rollmap.proofs.put_scheduled.Statement.{statement}
 use Rattle.rollmap.proofs.put_scheduled.Tie as tie
 

@@ -16,13 +16,13 @@ use Rattle.contents.specs.Contents.{split, marksPart, editionPart}
 use Rattle.contents.specs.Asking.{answer}
 use Rattle.sheet.specs.Questions.{sheetCount, indexedQuestions}
 use Rattle.sheet.specs.Laws.{indexed-iff, indexed-number, indexed-layout, layout-part}
-use Rattle.rollmap.specs.Jobs.{keptParts, addChecks}
-use Rattle.rollmap.specs.Answers.{fields}
-use Rattle.rollmap.specs.Steps.{keptFrom}
-use Rattle.rollmap.specs.Coming.{add-numbered, add-lent, add-whole}
-use Rattle.rollmap.specs.Lemmas.Kept.{kept-is, edition-short}
-use Rattle.rollmap.specs.Lemmas.Scheduling.{stopped, passed}
-use Rattle.rollmap.specs.Lemmas.Changing.{add-refused, add-full, add-fields}
+use Rattle.jobs.specs.Jobs.{keptParts, addChecks}
+use Rattle.jobs.specs.Answers.{fields}
+use Rattle.jobs.specs.Steps.{keptFrom}
+use Rattle.jobs.specs.Coming.{add-numbered, add-lent, add-whole}
+use Rattle.jobs.specs.Laws.Kept.{kept-is, edition-short}
+use Rattle.jobs.specs.Laws.Scheduling.{stopped, passed}
+use Rattle.jobs.specs.Laws.Changing.{add-refused, add-full, add-fields}
 use Rattle.rollmap.proofs.rollmap_add.Statement.{statement}
 use Rattle.rollmap.proofs.rollmap_add.Tie as tie
 

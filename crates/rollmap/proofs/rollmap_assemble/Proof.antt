@@ -15,13 +15,13 @@ use Rattle.contents.specs.Contents.{together}
 use Rattle.contents.specs.Questions.{isCount, codesRight}
 use Rattle.sheet.specs.Assembled.{numberOf, lengthOf, Assembling}
 use Rattle.sheet.specs.declared.Assembled.{Assembled}
-use Rattle.rollmap.specs.declared.Answer.{Answer}
-use Rattle.rollmap.specs.Jobs.{areCounted, assembleJob}
-use Rattle.rollmap.specs.Answers.{Gives}
-use Rattle.rollmap.specs.Parts.{Joins}
-use Rattle.rollmap.specs.Theorems.{assemble-joins}
-use Rattle.rollmap.specs.Lemmas.Given.{together-take, map-take}
-use Rattle.rollmap.specs.Lemmas.Outcomes.{assemble-gives, assemble-uncounted, assemble-uncoded}
+use Rattle.jobs.specs.declared.Answer.{Answer}
+use Rattle.jobs.specs.Jobs.{areCounted, assembleJob}
+use Rattle.jobs.specs.Answers.{Gives}
+use Rattle.jobs.specs.Parts.{Joins}
+use Rattle.jobs.specs.Theorems.{assemble-joins}
+use Rattle.jobs.specs.Laws.Given.{together-take, map-take}
+use Rattle.jobs.specs.Laws.Outcomes.{assemble-gives, assemble-uncounted, assemble-uncoded}
 use Rattle.rollmap.proofs.rollmap_assemble.Statement.{statement}
 use Rattle.rollmap.proofs.rollmap_assemble.Tie as tie
 

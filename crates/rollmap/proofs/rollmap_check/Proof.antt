@@ -1,5 +1,5 @@
 -- `rollmap::rollmap_check`: the sheet's own answer. Assumes nothing.
-use Rattle.rollmap.specs.Lemmas.Outcomes.{check-gives}
+use Rattle.jobs.specs.Laws.Outcomes.{check-gives}
 use borrow.Author.Needs.{needs}
 use Rattle.rollmap.proofs.rollmap_check.Statement.{statement}
 use Rattle.rollmap.proofs.rollmap_check.Tie as tie

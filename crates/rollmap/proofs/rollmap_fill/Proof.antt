@@ -9,9 +9,9 @@ use Rattle.bodies.specs.Questions.{markCount, part1Questions}
 use Rattle.bodies.specs.Laws.{part1-numbered, part1-iff}
 use Rattle.filling.specs.Filling.{filled, fillQuestions}
 use Rattle.filling.specs.Theorems.{filled-length}
-use Rattle.rollmap.specs.Jobs.{fillJob}
-use Rattle.rollmap.specs.Lemmas.Rooms.{stopped, no-room, wrote}
-use Rattle.rollmap.specs.Lemmas.Filling.{fill-whole}
+use Rattle.jobs.specs.Jobs.{fillJob}
+use Rattle.jobs.specs.Laws.Rooms.{stopped, no-room, wrote}
+use Rattle.jobs.specs.Laws.Filling.{fill-whole}
 use Rattle.rollmap.proofs.rollmap_fill.Statement.{statement}
 use Rattle.rollmap.proofs.rollmap_fill.Tie as tie
 

@@ -2,7 +2,7 @@
 use native.Mathlib.Omega.{arith}
 use borrow.Author.Needs.{needs}
 use Rattle.lists.specs.TestLaws.{said-no, said-yes}
-use Rattle.rollmap.specs.Lemmas.Walking.{map-iff, shown-refused, shown-outside, shown-inside}
+use Rattle.jobs.specs.Laws.Walking.{map-iff, shown-refused, shown-outside, shown-inside}
 use Rattle.rollmap.proofs.rollmap_is_shown.Statement.{statement}
 use Rattle.rollmap.proofs.rollmap_is_shown.Tie as tie
 

@@ -8,9 +8,9 @@ use Rattle.contents.specs.Asking.{answer}
 use Rattle.logs.specs.Log.{recordCount, marksOfLog}
 use Rattle.logs.specs.Questions.{logChecks, logQuestions}
 use Rattle.logs.specs.Theorems.{log-numbered, log-right, marks-length}
-use Rattle.rollmap.specs.Jobs.{logToMarksJob}
-use Rattle.rollmap.specs.Lemmas.Rooms.{stopped, no-room, wrote}
-use Rattle.rollmap.specs.Lemmas.Turning.{log-whole}
+use Rattle.jobs.specs.Jobs.{logToMarksJob}
+use Rattle.jobs.specs.Laws.Rooms.{stopped, no-room, wrote}
+use Rattle.jobs.specs.Laws.Turning.{log-whole}
 use Rattle.rollmap.proofs.rollmap_log_to_marks.Statement.{statement}
 use Rattle.rollmap.proofs.rollmap_log_to_marks.Tie as tie
 

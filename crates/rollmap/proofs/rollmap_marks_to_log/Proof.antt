@@ -10,9 +10,9 @@ use Rattle.bodies.specs.Laws.{part1-numbered, part1-iff}
 use Rattle.logs.specs.Log.{logOfMarks}
 use Rattle.logs.specs.Questions.{marksQuestions}
 use Rattle.logs.specs.Theorems.{log-length}
-use Rattle.rollmap.specs.Jobs.{marksToLogJob}
-use Rattle.rollmap.specs.Lemmas.Rooms.{stopped, no-room, wrote}
-use Rattle.rollmap.specs.Lemmas.Turning.{marks-whole}
+use Rattle.jobs.specs.Jobs.{marksToLogJob}
+use Rattle.jobs.specs.Laws.Rooms.{stopped, no-room, wrote}
+use Rattle.jobs.specs.Laws.Turning.{marks-whole}
 use Rattle.rollmap.proofs.rollmap_marks_to_log.Statement.{statement}
 use Rattle.rollmap.proofs.rollmap_marks_to_log.Tie as tie
 

@@ -11,14 +11,14 @@ use Rattle.marks.specs.Good.{GoodMarks}
 use Rattle.sheet.specs.Questions.{checkQuestions, check}
 use Rattle.sheet.specs.Laws.{check-numbered, accepted-iff, found-number, found-part}
 use Rattle.contents.specs.Contents.{split, marksPart, editionPart}
-use Rattle.rollmap.specs.declared.Answer.{Answer}
-use Rattle.rollmap.specs.Jobs.{keptParts, scheduleJob}
-use Rattle.rollmap.specs.Answers.{Gives, Lent}
-use Rattle.rollmap.specs.Demand3.{Meets}
-use Rattle.rollmap.specs.Theorems.{schedule-meets}
-use Rattle.rollmap.specs.Steps.{keptFrom}
-use Rattle.rollmap.specs.Lemmas.Kept.{kept-is, edition-short}
-use Rattle.rollmap.specs.Lemmas.Scheduling.{stopped, passed}
+use Rattle.jobs.specs.declared.Answer.{Answer}
+use Rattle.jobs.specs.Jobs.{keptParts, scheduleJob}
+use Rattle.jobs.specs.Answers.{Gives, Lent}
+use Rattle.jobs.specs.Demand3.{Meets}
+use Rattle.jobs.specs.Theorems.{schedule-meets}
+use Rattle.jobs.specs.Steps.{keptFrom}
+use Rattle.jobs.specs.Laws.Kept.{kept-is, edition-short}
+use Rattle.jobs.specs.Laws.Scheduling.{stopped, passed}
 use Rattle.rollmap.proofs.rollmap_schedule.Statement.{statement}
 use Rattle.rollmap.proofs.rollmap_schedule.Tie as tie
 

@@ -14,15 +14,15 @@ use Rattle.contents.specs.Contents.{split, marksPart, editionPart}
 use Rattle.contents.specs.Asking.{answer}
 use Rattle.sheet.specs.Questions.{sheetCount, indexedQuestions}
 use Rattle.sheet.specs.Laws.{indexed-iff, indexed-number, indexed-layout, layout-part}
-use Rattle.rollmap.specs.declared.Answer.{Answer}
-use Rattle.rollmap.specs.Jobs.{keptParts, takeOutChecks, takeOutJob}
-use Rattle.rollmap.specs.Answers.{Gives, Lent}
-use Rattle.rollmap.specs.Demand3.{Meets}
-use Rattle.rollmap.specs.Steps.{keptFrom}
-use Rattle.rollmap.specs.Coming.{take-out-numbered, take-out-iff, take-out-lent, take-out-meets}
-use Rattle.rollmap.specs.Lemmas.Kept.{kept-is, edition-short}
-use Rattle.rollmap.specs.Lemmas.Scheduling.{stopped, passed}
-use Rattle.rollmap.specs.Lemmas.Changing.{take-out-refused, take-out-none, lent-pieces}
+use Rattle.jobs.specs.declared.Answer.{Answer}
+use Rattle.jobs.specs.Jobs.{keptParts, takeOutChecks, takeOutJob}
+use Rattle.jobs.specs.Answers.{Gives, Lent}
+use Rattle.jobs.specs.Demand3.{Meets}
+use Rattle.jobs.specs.Steps.{keptFrom}
+use Rattle.jobs.specs.Coming.{take-out-numbered, take-out-iff, take-out-lent, take-out-meets}
+use Rattle.jobs.specs.Laws.Kept.{kept-is, edition-short}
+use Rattle.jobs.specs.Laws.Scheduling.{stopped, passed}
+use Rattle.jobs.specs.Laws.Changing.{take-out-refused, take-out-none, lent-pieces}
 use Rattle.rollmap.proofs.rollmap_take_out.Statement.{statement}
 use Rattle.rollmap.proofs.rollmap_take_out.Tie as tie
 

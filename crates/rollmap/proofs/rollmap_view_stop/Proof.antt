@@ -1,7 +1,7 @@
 -- `rollmap::rollmap_view_stop`: the view at a stop. Assumes nothing.
 use borrow.Author.Needs.{needs}
 use mir.Facts.{toZ-ofZ}
-use Rattle.rollmap.specs.Stops.{stop-whole}
+use Rattle.jobs.specs.Stops.{stop-whole}
 use Rattle.rollmap.proofs.rollmap_view_stop.Statement.{statement}
 use Rattle.rollmap.proofs.rollmap_view_stop.Tie as tie
 

@@ -1,7 +1,7 @@
 -- `rollmap::rollmap_view_wheel`: the view at a wheel value. Assumes nothing.
 use borrow.Author.Needs.{needs}
 use mir.Facts.{toZ-ofZ}
-use Rattle.rollmap.specs.Theorems.{view-whole}
+use Rattle.jobs.specs.Theorems.{view-whole}
 use Rattle.rollmap.proofs.rollmap_view_wheel.Statement.{statement}
 use Rattle.rollmap.proofs.rollmap_view_wheel.Tie as tie
 

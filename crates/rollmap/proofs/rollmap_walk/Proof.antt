@@ -3,7 +3,7 @@ use denote.Ref.{now}
 use native.Mathlib.Omega.{arith}
 use borrow.Author.Needs.{needs}
 use Rattle.lists.specs.TestLaws.{said-no, said-yes}
-use Rattle.rollmap.specs.Lemmas.Walking.{map-iff, walk-refused, walk-goes, walk-small}
+use Rattle.jobs.specs.Laws.Walking.{map-iff, walk-refused, walk-goes, walk-small}
 use Rattle.rollmap.proofs.rollmap_walk.Statement.{statement}
 use Rattle.rollmap.proofs.rollmap_walk.Tie as tie
 

@@ -6,11 +6,11 @@ use borrow.Author.Needs.{needs}
 use lib.ListN.{length}
 use denote.Ref.{now}
 use Rattle.lists.specs.TestLaws.{said-no, said-yes}
-use Rattle.rollmap.specs.declared.Answer.{Answer}
-use Rattle.rollmap.specs.Jobs.{scheduledSize}
-use Rattle.rollmap.specs.Steps.{keptFrom}
-use Rattle.rollmap.specs.Lemmas.Kept.{kept-size}
-use Rattle.rollmap.specs.Lemmas.Scheduling.{room-there, no-room, sheet-written}
+use Rattle.jobs.specs.declared.Answer.{Answer}
+use Rattle.jobs.specs.Jobs.{scheduledSize}
+use Rattle.jobs.specs.Steps.{keptFrom}
+use Rattle.jobs.specs.Laws.Kept.{kept-size}
+use Rattle.jobs.specs.Laws.Scheduling.{room-there, no-room, sheet-written}
 use Rattle.rollmap.proofs.schedule_marks.Statement.{statement}
 use Rattle.rollmap.proofs.schedule_marks.Tie as tie
 

@@ -10,7 +10,7 @@ use Rattle.sheet.specs.Questions.{indexedQuestions}
 use Rattle.sheet.specs.Laws.{indexed-iff, indexed-number, indexed-layout}
 use Rattle.zoom.specs.Laws.{scale-most}
 use Rattle.view.specs.Questions.{question11}
-use Rattle.rollmap.specs.Lemmas.Viewing.{view-refused, view-no-rectangle, view-no-zoom, view-taken}
+use Rattle.jobs.specs.Laws.Viewing.{view-refused, view-no-rectangle, view-no-zoom, view-taken}
 use Rattle.rollmap.proofs.view.Statement.{statement}
 use Rattle.rollmap.proofs.view.Tie as tie
 

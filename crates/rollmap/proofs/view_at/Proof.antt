@@ -8,7 +8,7 @@ use Rattle.contents.specs.Contents.{find, split, marksPart}
 use Rattle.contents.specs.Places.{placeOf, cutOf}
 use Rattle.contents.specs.Laws.{layout-part}
 use Rattle.sheet.specs.Laws.{accepted-iff}
-use Rattle.rollmap.specs.Lemmas.Viewing.{view-no-room, view-written, viewable}
+use Rattle.jobs.specs.Laws.Viewing.{view-no-room, view-written, viewable}
 use Rattle.rollmap.proofs.view_at.Statement.{statement}
 use Rattle.rollmap.proofs.view_at.Tie as tie
 

@@ -2,8 +2,7 @@
 use Prim.Native.Nat.{ℕ, zero, suc, _+_, _-_, _*_, _/_, _^_, _≤_, _<_}
 use mathlib.Core.Path.{_≡_, refl, ap, _∙_}
 use mathlib.Core.Bool.{Bool, true, false, cond}
-use native.Mathlib.Nat.{pow-suc, mul-le-mul, mul-mul-mul-comm, div-one}
-use native.Mathlib.Decide.{decLt}
+use native.Mathlib.Nat.{pow-suc, mul-mul-mul-comm, div-one}
 use native.Mathlib.Omega.{arith}
 use borrow.Author.Tests.{leb-true, leb-false}
 use lib.Dec.{leb}
@@ -22,6 +21,10 @@ pub root-small : (width v : ℕ) → root width v < 2 ^ width
 unfolding root
 root-small zero v = omega arith
 root-small (suc width) v = root-step-small (root width (v / 4)) v width (root-small width (v / 4))
+
+-- a root of 64 bits has 32
+pub root-narrow : (v : ℕ) {r : ℕ} → r ≡ root 32 v → r ≤ 4294967295
+root-narrow v e = omega (arith, root-small 32 v)
 
 -- r² ≤ v < (r + 1)²
 pub record IsRoot (r v : ℕ) : Type 0 where
@@ -76,8 +79,3 @@ root-all left v r h e =
     let z : left ≡ 0 = omega arith in
     let d : v / 2 ^ (2 * 0) ≡ v = div-one v in
     rw d at (rw z at e)
-
--- a root is at least every number whose square fits
-pub root-largest : {r v k : ℕ} → IsRoot r v → k * k ≤ v → k ≤ r
-root-largest {r} {v} {k} i h =
-    elim (decLt r k) [ yes l ↦ absurd (let m = mul-le-mul {n₁ = suc r} {m₁ = suc r} {n₂ = k} {m₂ = k} l l in omega (arith, i .high)) | no l ↦ omega arith ]

@@ -36,21 +36,21 @@ use Rattle.zoom.specs.Living.{zoomSquared, livesAt}
 use Rattle.view.specs.declared.Rectangle.{Rectangle}
 use Rattle.view.specs.Shown.{shown}
 use Rattle.view.specs.Questions.{viewQuestions, isMap, walkQuestions}
-use Rattle.rollmap.specs.declared.Answer.{Answer}
-use Rattle.rollmap.specs.Jobs.{Outcome, outcome, after, keptParts, newParts, scheduledFrom, scheduled, scheduledSize, hasRoom, schedulingQuestions, schedulingJob, scheduleJob, ScheduledHere, LeftByScheduling}
-use Rattle.rollmap.specs.Jobs.{areCounted, assembleQuestions, assembleJob, shownIn, viewJob, walksFrom, isShownJob}
-use Rattle.rollmap.specs.Answers.{answerOf, Gives}
-use Rattle.rollmap.specs.Parts.{Joins}
-use Rattle.rollmap.specs.Demand3.{sheetValue, IsList, KeepsRules, shownBy, ShowsLiving, Demand3, Meets, MeetsView}
-use Rattle.rollmap.specs.Lemmas.Given.{together-take, together-named}
-use Rattle.rollmap.specs.Lemmas.Outcomes.{outcome-yes, outcome-number, all-yes, kept-bytes}
-use Rattle.rollmap.specs.Lemmas.Kept.{KeptRight, kept-right, alone-fits}
-use Rattle.rollmap.specs.Lemmas.Walking.{map-iff, map-asked, map-taken, walks-all}
-use Rattle.rollmap.specs.Lemmas.Scheduling.{sheet-long, there-room, room-asked, checks-passed}
-use Rattle.rollmap.specs.Lemmas.Scheduled.{later-same, count-same, new-fitting, good, marks-long, marks-bytes}
+use Rattle.jobs.specs.declared.Answer.{Answer}
+use Rattle.jobs.specs.Jobs.{Outcome, outcome, after, keptParts, newParts, scheduledFrom, scheduled, scheduledSize, hasRoom, schedulingQuestions, schedulingJob, scheduleJob, ScheduledHere, LeftByScheduling}
+use Rattle.jobs.specs.Jobs.{areCounted, assembleQuestions, assembleJob, shownIn, viewJob, walksFrom, isShownJob}
+use Rattle.jobs.specs.Answers.{answerOf, Gives}
+use Rattle.jobs.specs.Parts.{Joins}
+use Rattle.jobs.specs.Demand3.{sheetValue, IsList, KeepsRules, shownBy, ShowsLiving, Demand3, Meets, MeetsView}
+use Rattle.jobs.specs.Laws.Given.{together-take, together-named}
+use Rattle.jobs.specs.Laws.Outcomes.{outcome-yes, outcome-number, all-yes, kept-bytes}
+use Rattle.jobs.specs.Laws.Kept.{KeptRight, kept-right, alone-fits}
+use Rattle.jobs.specs.Laws.Walking.{map-iff, map-asked, map-taken, walks-all}
+use Rattle.jobs.specs.Laws.Scheduling.{sheet-long, there-room, room-asked, checks-passed}
+use Rattle.jobs.specs.Lemmas.Scheduled.{later-same, count-same, new-fitting, good, marks-long, marks-bytes}
 -- ---- part 1 of an accepted sheet
 
-pub use Rattle.rollmap.specs.Lemmas.Scheduled.{good, marks-bytes}
+pub use Rattle.jobs.specs.Lemmas.Scheduled.{good, marks-bytes}
 
 -- ---- demand 2: what scheduling writes, for an accepted sheet g
 

@@ -16,8 +16,8 @@ use Rattle.bodies.specs.Fitting.{Fitting}
 use Rattle.bodies.specs.Laws.{edition-long}
 use Rattle.sheet.specs.Questions.{check}
 use Rattle.sheet.specs.Laws.{accepted-iff}
-use Rattle.rollmap.specs.Jobs.{keptParts, keptSize}
-use Rattle.rollmap.specs.Steps.{keptFrom}
+use Rattle.jobs.specs.Jobs.{keptParts, keptSize}
+use Rattle.jobs.specs.Steps.{keptFrom}
 
 -- Parts that may be kept: behind part 1, and behind parts 1 to 3, their codes are right; they hold no schedule and no index; they are right
 -- themselves; and keeping them again keeps them all.

@@ -31,8 +31,8 @@ use Rattle.bodies.specs.Fitting.{Fitting}
 use Rattle.sheet.specs.Questions.{sheetCount, check}
 use Rattle.sheet.specs.Laws.{accepted-iff}
 use Rattle.bitmap.specs.Map.{countShown}
-use Rattle.rollmap.specs.Jobs.{newSchedule, newIndex, newParts}
-use Rattle.rollmap.specs.Lemmas.Kept.{KeptRight}
+use Rattle.jobs.specs.Jobs.{newSchedule, newIndex, newParts}
+use Rattle.jobs.specs.Laws.Kept.{KeptRight}
 
 -- ---- tests and counts
 

@@ -24,8 +24,8 @@ use Rattle.zoom.specs.Living.{livesAt}
 use Rattle.view.specs.declared.Rectangle.{Rectangle}
 use Rattle.view.specs.Shown.{reaches}
 use Rattle.view.specs.Questions.{viewQuestions}
-use Rattle.rollmap.specs.declared.Answer.{Answer}
-use Rattle.rollmap.specs.Jobs.{after, keptParts, scheduled, ScheduledHere, viewJob}
+use Rattle.jobs.specs.declared.Answer.{Answer}
+use Rattle.jobs.specs.Jobs.{after, keptParts, scheduled, ScheduledHere, viewJob}
 
 -- ---- a list against a sheet, `s`
 

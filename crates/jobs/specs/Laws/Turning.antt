@@ -11,12 +11,12 @@ use Rattle.bodies.specs.Laws.{part1-numbered, part1-iff}
 use Rattle.logs.specs.Log.{recordCount, marksOfLog, logOfMarks}
 use Rattle.logs.specs.Questions.{logChecks, logQuestions, marksQuestions}
 use Rattle.logs.specs.Theorems.{log-numbered, log-right, marks-length, marks-count, log-marks, log-again, log-count, marks-log, marks-again, log-length}
-use Rattle.rollmap.specs.declared.Answer.{Answer}
-use Rattle.rollmap.specs.Jobs.{wrote, logToMarksJob, marksToLogJob}
-use Rattle.rollmap.specs.Answers.{Gives}
-use Rattle.rollmap.specs.Turned.{LogTurned, MarksTurned, MeetsLog, MeetsMarks}
-use Rattle.rollmap.specs.Lemmas.Outcomes.{outcome-yes}
-use Rattle.rollmap.specs.Lemmas.Rooms.{with-room, passed, counted}
+use Rattle.jobs.specs.declared.Answer.{Answer}
+use Rattle.jobs.specs.Jobs.{wrote, logToMarksJob, marksToLogJob}
+use Rattle.jobs.specs.Answers.{Gives}
+use Rattle.jobs.specs.Turned.{LogTurned, MarksTurned, MeetsLog, MeetsMarks}
+use Rattle.jobs.specs.Laws.Outcomes.{outcome-yes}
+use Rattle.jobs.specs.Laws.Rooms.{with-room, passed, counted}
 
 -- ---- each job where its checks are passed and there is room
 

@@ -9,8 +9,8 @@ use Rattle.marks.specs.Fields.{HasFields}
 use Rattle.scheduling.specs.Filling.{workSize}
 use Rattle.contents.specs.Contents.{split, marksPart}
 use Rattle.sheet.specs.Questions.{sheetCount}
-use Rattle.rollmap.specs.declared.Answer.{Answer}
-use Rattle.rollmap.specs.Jobs.{wrote, ScheduledHere, takeOutJob}
+use Rattle.jobs.specs.declared.Answer.{Answer}
+use Rattle.jobs.specs.Jobs.{wrote, ScheduledHere, takeOutJob}
 
 -- Of adding a mark to the sheet s of n marks, which answered r and left `out`: it is mark n and has its fields; and "from a sheet scheduled
 -- here, adding a mark and taking that one out returns the old bytes", wherever there is room for them.

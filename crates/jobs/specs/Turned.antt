@@ -8,8 +8,8 @@ use Rattle.contents.specs.Asking.{answer}
 use Rattle.bodies.specs.Questions.{markCount, part1Questions}
 use Rattle.logs.specs.Log.{recordCount}
 use Rattle.logs.specs.Questions.{logChecks}
-use Rattle.rollmap.specs.declared.Answer.{Answer}
-use Rattle.rollmap.specs.Jobs.{wrote, logToMarksJob, marksToLogJob}
+use Rattle.jobs.specs.declared.Answer.{Answer}
+use Rattle.jobs.specs.Jobs.{wrote, logToMarksJob, marksToLogJob}
 
 -- The marks `w` of the log `s`: as many as it has records, they pass 4 to 6, and "accepted logs come back byte for byte after both turns",
 -- wherever there is room for them.

@@ -22,11 +22,11 @@ use Rattle.contents.specs.Contents.{Part, codesOf, bodiesOf, sizesOf, contentsO
 use Rattle.contents.specs.Asking.{Question, answer}
 use Rattle.contents.specs.Laws.{Numbered, none-asked, append-yes, append-no, append-iff, contents-length, join-length}
 use Rattle.bodies.specs.Questions.{markCount, editionIn, editionOf}
-use Rattle.rollmap.specs.declared.Answer.{Answer}
-use Rattle.rollmap.specs.Jobs.{outcome, newParts, scheduledFrom, scheduledSize, hasRoom, schedulingQuestions, schedulingJob}
-use Rattle.rollmap.specs.Answers.{refusal, Gives}
-use Rattle.rollmap.specs.Steps.{keptFrom, resultsOver}
-use Rattle.rollmap.specs.Lemmas.Outcomes.{refused-gives, written-gives}
+use Rattle.jobs.specs.declared.Answer.{Answer}
+use Rattle.jobs.specs.Jobs.{outcome, newParts, scheduledFrom, scheduledSize, hasRoom, schedulingQuestions, schedulingJob}
+use Rattle.jobs.specs.Answers.{refusal, Gives}
+use Rattle.jobs.specs.Steps.{keptFrom, resultsOver}
+use Rattle.jobs.specs.Laws.Outcomes.{refused-gives, written-gives}
 
 -- ---- the written pieces
 

@@ -24,16 +24,16 @@ use Rattle.changing.specs.Changing.{added, takenOut}
 use Rattle.changing.specs.Laws.{added-length, added-bytes, added-fields, added-good, added-taken, taken-length, taken-good, taken-bytes}
 use Rattle.sheet.specs.Questions.{sheetCount, check, question10, indexedQuestions}
 use Rattle.sheet.specs.Laws.{indexed-numbered, indexed-iff}
-use Rattle.rollmap.specs.declared.Answer.{Answer}
-use Rattle.rollmap.specs.Jobs.{wrote, keptParts, scheduledFrom, scheduled, scheduledSize, hasRoom, schedulingQuestions, schedulingJob, ScheduledHere, addChecks, addJob, takeOutChecks, takeOutJob}
-use Rattle.rollmap.specs.Answers.{Gives, Lent}
-use Rattle.rollmap.specs.Demand3.{Meets}
-use Rattle.rollmap.specs.Changed.{MeetsAdding}
-use Rattle.rollmap.specs.Theorems.{Pass, good, marks-bytes, scheduled-length, part1-kept, others-kept, from-here, from-parts, here-accepted, scheduling-meets}
-use Rattle.rollmap.specs.Lemmas.Outcomes.{outcome-yes, all-yes, kept-bytes}
-use Rattle.rollmap.specs.Lemmas.Kept.{kept-right}
-use Rattle.rollmap.specs.Lemmas.Scheduled.{marks-long}
-use Rattle.rollmap.specs.Lemmas.Scheduling.{there-room, room-asked, checks-passed, passed}
+use Rattle.jobs.specs.declared.Answer.{Answer}
+use Rattle.jobs.specs.Jobs.{wrote, keptParts, scheduledFrom, scheduled, scheduledSize, hasRoom, schedulingQuestions, schedulingJob, ScheduledHere, addChecks, addJob, takeOutChecks, takeOutJob}
+use Rattle.jobs.specs.Answers.{Gives, Lent}
+use Rattle.jobs.specs.Demand3.{Meets}
+use Rattle.jobs.specs.Changed.{MeetsAdding}
+use Rattle.jobs.specs.Theorems.{Pass, good, marks-bytes, scheduled-length, part1-kept, others-kept, from-here, from-parts, here-accepted, scheduling-meets}
+use Rattle.jobs.specs.Laws.Outcomes.{outcome-yes, all-yes, kept-bytes}
+use Rattle.jobs.specs.Laws.Kept.{kept-right}
+use Rattle.jobs.specs.Lemmas.Scheduled.{marks-long}
+use Rattle.jobs.specs.Laws.Scheduling.{there-room, room-asked, checks-passed, passed}
 
 -- ---- adding
 

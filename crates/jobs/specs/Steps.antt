@@ -12,7 +12,7 @@ use Rattle.sheet.specs.Questions.{sheetCount}
 use Rattle.view.specs.declared.Rectangle.{Rectangle}
 use Rattle.view.specs.Shown.{shown}
 use Rattle.bitmap.specs.Map.{mapSize, mapBytes, countShown}
-use Rattle.rollmap.specs.Jobs.{Outcome, outcome}
+use Rattle.jobs.specs.Jobs.{Outcome, outcome}
 
 -- the parts that are kept, from part 4's bytes, none where it is not there
 abbrev pub keptFrom : List ℕ → List Part

@@ -23,11 +23,11 @@ use Rattle.view.specs.declared.Rectangle.{Rectangle}
 use Rattle.view.specs.Shown.{shown}
 use Rattle.view.specs.View.{Viewable, Viewed}
 use Rattle.view.specs.Questions.{question11, isTaken, viewQuestions}
-use Rattle.rollmap.specs.declared.Answer.{Answer}
-use Rattle.rollmap.specs.Jobs.{outcome, shownIn, viewJob}
-use Rattle.rollmap.specs.Answers.{refusal, Gives}
-use Rattle.rollmap.specs.Steps.{viewAt}
-use Rattle.rollmap.specs.Lemmas.Outcomes.{refused-gives, written-gives}
+use Rattle.jobs.specs.declared.Answer.{Answer}
+use Rattle.jobs.specs.Jobs.{outcome, shownIn, viewJob}
+use Rattle.jobs.specs.Answers.{refusal, Gives}
+use Rattle.jobs.specs.Steps.{viewAt}
+use Rattle.jobs.specs.Laws.Outcomes.{refused-gives, written-gives}
 
 -- ---- question 13, the map and the count
 

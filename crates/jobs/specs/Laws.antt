@@ -1,10 +1,10 @@
+-- The laws by which the code answers: how a job ends, what its buffers then hold, and what is known of the pieces that it writes.
 pub mod Given
 pub mod Outcomes
 pub mod Rooms
 pub mod Kept
 pub mod Filling
 pub mod Turning
-pub mod Scheduled
 pub mod Walking
 pub mod Scheduling
 pub mod Changing

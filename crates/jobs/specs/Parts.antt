@@ -8,7 +8,7 @@ use Rattle.lists.specs.Stores.{over}
 use Rattle.numbers.specs.Little.{Bytes}
 use Rattle.contents.specs.Contents.{codesOf, bodiesOf, split, together}
 use Rattle.sheet.specs.Questions.{check}
-use Rattle.rollmap.specs.declared.Answer.{Answer}
+use Rattle.jobs.specs.declared.Answer.{Answer}
 
 -- Of putting these bodies under these codes together, which answered r and left `out` in a buffer that held `before`: a success has written a
 -- sheet that is accepted and whose parts they are; and where they are an accepted sheet's own, there being room for it, it is that sheet.

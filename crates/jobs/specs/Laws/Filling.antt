@@ -16,13 +16,13 @@ use Rattle.bodies.specs.Laws.{part1-numbered, part1-iff}
 use Rattle.filling.specs.Filling.{filled, fillQuestions}
 use Rattle.filling.specs.Theorems.{filled-length, filled-count, filled-accepted, filled-some, filled-used, filled-again}
 use Rattle.sheet.specs.Laws.{parts-iff}
-use Rattle.rollmap.specs.declared.Answer.{Answer}
-use Rattle.rollmap.specs.Jobs.{outcome, areCounted, assembleQuestions, assembleJob, fillJob}
-use Rattle.rollmap.specs.Answers.{Gives}
-use Rattle.rollmap.specs.Filled.{Filled, MeetsFilling}
-use Rattle.rollmap.specs.Lemmas.Outcomes.{outcome-number, outcome-same}
-use Rattle.rollmap.specs.Lemmas.Rooms.{passed, counted}
-use Rattle.rollmap.specs.Lemmas.Kept.{kept-none, alone-fits}
+use Rattle.jobs.specs.declared.Answer.{Answer}
+use Rattle.jobs.specs.Jobs.{outcome, areCounted, assembleQuestions, assembleJob, fillJob}
+use Rattle.jobs.specs.Answers.{Gives}
+use Rattle.jobs.specs.Filled.{Filled, MeetsFilling}
+use Rattle.jobs.specs.Laws.Outcomes.{outcome-number, outcome-same}
+use Rattle.jobs.specs.Laws.Rooms.{passed, counted}
+use Rattle.jobs.specs.Laws.Kept.{kept-none, alone-fits}
 
 module _ (s : List ℕ) (ok : answer (part1Questions s) ≡ 0) where
   again : (room : ℕ) → fillJob (filled s) room ≡ fillJob s room

@@ -11,10 +11,10 @@ use Rattle.lists.specs.StoreLaws.{over-sets}
 use Rattle.contents.specs.Asking.{Question, _asks_, answer}
 use Rattle.contents.specs.Laws.{append-yes, append-no, append-iff}
 use Rattle.contents.specs.Laws.{Numbered, none-asked, asked-yes, asked-no}
-use Rattle.rollmap.specs.declared.Answer.{Answer}
-use Rattle.rollmap.specs.Jobs.{outcome}
-use Rattle.rollmap.specs.Answers.{refusal, Gives}
-use Rattle.rollmap.specs.Lemmas.Outcomes.{all-yes, value-is, bytes-are, refused-gives, written-gives}
+use Rattle.jobs.specs.declared.Answer.{Answer}
+use Rattle.jobs.specs.Jobs.{outcome}
+use Rattle.jobs.specs.Answers.{refusal, Gives}
+use Rattle.jobs.specs.Laws.Outcomes.{all-yes, value-is, bytes-are, refused-gives, written-gives}
 
 module _ (checks : List Question) (numbered : Numbered checks) (size : ℕ) where
   -- what is asked where there are `room` bytes

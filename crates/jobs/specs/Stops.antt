@@ -21,12 +21,12 @@ use Rattle.zoom.specs.Zoom.{scaleOf}
 use Rattle.zoom.specs.Laws.{stop-wheel, stop-refused}
 use Rattle.view.specs.declared.Rectangle.{Rectangle}
 use Rattle.view.specs.Questions.{question11, isTaken, viewQuestions}
-use Rattle.rollmap.specs.declared.Answer.{Answer}
-use Rattle.rollmap.specs.Jobs.{shownIn, viewJob}
-use Rattle.rollmap.specs.Answers.{refusal, answerOf, Gives}
-use Rattle.rollmap.specs.Demand3.{MeetsView}
-use Rattle.rollmap.specs.Theorems.{view-meets}
-use Rattle.rollmap.specs.Lemmas.Outcomes.{outcome-no, outcome-number}
+use Rattle.jobs.specs.declared.Answer.{Answer}
+use Rattle.jobs.specs.Jobs.{shownIn, viewJob}
+use Rattle.jobs.specs.Answers.{refusal, answerOf, Gives}
+use Rattle.jobs.specs.Demand3.{MeetsView}
+use Rattle.jobs.specs.Theorems.{view-meets}
+use Rattle.jobs.specs.Laws.Outcomes.{outcome-no, outcome-number}
 
 -- ---- what is said
 

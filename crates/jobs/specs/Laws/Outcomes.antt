@@ -16,9 +16,9 @@ use Rattle.contents.specs.Laws.{asked-yes, asked-no}
 use Rattle.contents.specs.Asking.{Question, answer}
 use Rattle.sheet.specs.Questions.{checkQuestions, check}
 use Rattle.sheet.specs.Assembled.{numberOf, lengthOf, Assembling}
-use Rattle.rollmap.specs.Jobs.{Outcome, outcome, after, checkJob, areCounted, assembleQuestions, assembleJob}
-use Rattle.rollmap.specs.declared.Answer.{Answer}
-use Rattle.rollmap.specs.Answers.{refusal, answerOf, Gives}
+use Rattle.jobs.specs.Jobs.{Outcome, outcome, after, checkJob, areCounted, assembleQuestions, assembleJob}
+use Rattle.jobs.specs.declared.Answer.{Answer}
+use Rattle.jobs.specs.Answers.{refusal, answerOf, Gives}
 
 module _ (questions : List Question) (value : ℕ) (written : List ℕ) where
   pub outcome-yes : answer questions ≡ 0 → outcome questions value written ≡ record { number = 0; value = value; written = written }

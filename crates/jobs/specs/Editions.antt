@@ -17,9 +17,9 @@ use Rattle.sheet.specs.Laws.{check-numbered, indexed-numbered, indexed-iff}
 use Rattle.zoom.specs.declared.Zoom.{Zoom}
 use Rattle.view.specs.declared.Rectangle.{Rectangle}
 use Rattle.view.specs.Questions.{viewQuestions}
-use Rattle.rollmap.specs.Jobs.{keptParts, newParts, scheduled, shownIn, viewJob}
-use Rattle.rollmap.specs.Theorems.{scheduled-parts}
-use Rattle.rollmap.specs.Lemmas.Outcomes.{outcome-same}
+use Rattle.jobs.specs.Jobs.{keptParts, newParts, scheduled, shownIn, viewJob}
+use Rattle.jobs.specs.Theorems.{scheduled-parts}
+use Rattle.jobs.specs.Laws.Outcomes.{outcome-same}
 
 -- the same parts, and part 4 that names edition 1
 abbrev pub withFirst : List Part → List Part

@@ -14,8 +14,8 @@ use Rattle.contents.specs.Asking.{answer}
 use Rattle.bitmap.specs.Map.{mapSize, bitAt, isSet, shownFrom, walk}
 use Rattle.bitmap.specs.Laws.{walked, walk-end, walk-here, walk-past}
 use Rattle.view.specs.Questions.{isMap, walkQuestions}
-use Rattle.rollmap.specs.Jobs.{outcome, walkJob, walksFrom, isShownJob}
-use Rattle.rollmap.specs.Answers.{refusal, answerOf}
+use Rattle.jobs.specs.Jobs.{outcome, walkJob, walksFrom, isShownJob}
+use Rattle.jobs.specs.Answers.{refusal, answerOf}
 
 module _ (bytes : List ℕ) (n : ℕ) where
   pub map-iff : (isMap bytes n ≡ true) ↔ ((n ≤ 4096) × (mapSize n ≤ length bytes))

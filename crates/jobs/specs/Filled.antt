@@ -7,8 +7,8 @@ use Rattle.marks.specs.Marks.{radiusAt, kindAt, usedAt}
 use Rattle.contents.specs.Asking.{answer}
 use Rattle.bodies.specs.Questions.{markCount, part1Questions}
 use Rattle.filling.specs.Filling.{filledRadius}
-use Rattle.rollmap.specs.declared.Answer.{Answer}
-use Rattle.rollmap.specs.Jobs.{assembleJob, fillJob}
+use Rattle.jobs.specs.declared.Answer.{Answer}
+use Rattle.jobs.specs.Jobs.{assembleJob, fillJob}
 
 -- The marks `w`, of the marks `s` that were given.
 pub record Filled (s w : List ℕ) : Type 0 where

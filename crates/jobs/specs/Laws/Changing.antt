@@ -15,7 +15,7 @@ use Rattle.contents.specs.Laws.{append-yes, append-no, asked-yes, asked-no}
 use Rattle.bodies.specs.Questions.{fieldQuestions}
 use Rattle.sheet.specs.Questions.{sheetCount, indexedQuestions}
 use Rattle.sheet.specs.Laws.{indexed-numbered}
-use Rattle.rollmap.specs.Jobs.{addChecks, takeOutChecks}
+use Rattle.jobs.specs.Jobs.{addChecks, takeOutChecks}
 
 -- ---- adding
 

@@ -1,0 +1,2 @@
+-- The proofs behind Theorems.
+pub mod Scheduled
