@@ -1,5 +1,7 @@
 //! Zooms: which are taken, who lives at one, and the one that is printed (01, 'The view
-//! and its map' and 'The printed schedule'). Zoom z is map units per pixel, and k = 64z.
+//! and its map' and 'The printed schedule'; 02, request 7). Zoom z is map units per pixel, and k = 64z.
+
+use std::cmp::Ordering;
 
 use crate::fraction::{Fraction, Removal};
 use crate::Refusal;
@@ -74,19 +76,29 @@ pub fn lives(removal: Removal, k: u32) -> bool {
     removal.later_than(zoom_squared(k))
 }
 
-/// The removal zoom in 64ths, rounded down: the largest k with k² times the
-/// denominator at most 4096 times the numerator. It is found from its highest
-/// bit down; the denominator is above 0.
+/// The removal zoom to the nearest 64th, an exact half to the even number (02,
+/// request 7). 64 times the true zoom, squared, is 4096 times the value. The
+/// largest k that is at most it is found from its highest bit down; then it is
+/// compared with k and a half. The denominator is above 0.
 pub fn removal_zoom_in_64ths(value: Fraction) -> u64 {
-    let fits = |k: u64| {
-        let square = u128::from(k) * u128::from(k);
-        square * u128::from(value.denominator) <= 4_096 * u128::from(value.numerator)
+    // How n / 2 compares with 64 times the true zoom.
+    let halves = |n: u64| {
+        let square = u128::from(n) * u128::from(n);
+        (square * u128::from(value.denominator)).cmp(&(16_384 * u128::from(value.numerator)))
     };
     // The root of 4096 times the largest numerator has 38 bits.
-    (0..38)
-        .rev()
-        .map(|bit| 1 << bit)
-        .fold(0, |k, bit| if fits(k + bit) { k + bit } else { k })
+    let down = (0..38).rev().map(|bit| 1 << bit).fold(0, |k, bit| {
+        if halves(2 * (k + bit)).is_le() {
+            k + bit
+        } else {
+            k
+        }
+    });
+    match halves(2 * down + 1) {
+        Ordering::Less => down + 1,
+        Ordering::Equal => down + down % 2,
+        Ordering::Greater => down,
+    }
 }
 
 #[cfg(test)]
@@ -176,16 +188,25 @@ mod tests {
     }
 
     #[test]
-    fn the_removal_zoom_is_rounded_down() {
+    fn the_removal_zoom_is_the_nearest_64th() {
         let zoom =
             |numerator, denominator| removal_zoom_in_64ths(Fraction::new(numerator, denominator));
         assert_eq!(zoom(10_000, 400), 320);
-        assert_eq!(zoom(9_999, 400), 319);
-        assert_eq!(zoom(9, 225), 12);
+        assert_eq!(zoom(9_999, 400), 320);
+        assert_eq!(zoom(9, 225), 13);
         assert_eq!(zoom(0, 4), 0);
-        assert_eq!(zoom(1, 4_097), 0);
-        assert_eq!(zoom(1, 4_096), 1);
-        assert_eq!(zoom(8_589_672_450, 4), 2_965_775);
-        assert_eq!(zoom(u64::MAX, 1), (1 << 38) - 1);
+        assert_eq!(zoom(1, 16_385), 0);
+        assert_eq!(zoom(1, 16_383), 1);
+        assert_eq!(zoom(8_589_672_450, 4), 2_965_776);
+        assert_eq!(zoom(u64::MAX, 1), 1 << 38);
+    }
+
+    #[test]
+    fn an_exact_half_goes_to_the_even_number() {
+        for k in 0..2_000 {
+            let half = Fraction::new((2 * k + 1) * (2 * k + 1), 16_384);
+            assert_eq!(removal_zoom_in_64ths(half), k + k % 2, "{k} and a half");
+        }
+        assert_eq!(removal_zoom_in_64ths(Fraction::new(625, 16_384)), 12);
     }
 }

@@ -48,7 +48,7 @@ fn p1() {
         Record::new(0, 9, 225),
     ];
     assert_eq!(records(&P1), expected);
-    let text = "marks 4\n0 -\n1 0 10000 400 320\n2 0 40000 400 640\n3 0 9 225 12\n";
+    let text = "marks 4\n0 -\n1 0 10000 400 320\n2 0 40000 400 640\n3 0 9 225 13\n";
     assert_eq!(print(&one_part(&P1)), text);
 }
 

@@ -315,5 +315,5 @@ fn the_removal_zoom_is_printed_though_no_view_has_it() {
         Mark::plain(i16::MAX, i16::MAX, 1, 0),
     ];
     let text = print(&one_part(&marks));
-    assert_eq!(text, "marks 2\n0 -\n1 0 8589672450 4 2965775\n");
+    assert_eq!(text, "marks 2\n0 -\n1 0 8589672450 4 2965776\n");
 }

@@ -276,6 +276,18 @@ fn a_mark_is_gone_at_its_own_removal_zoom() {
 
 // ---- the shift report
 
+/// The removal zoom to the nearest 64th: the zoom in 128ths, halved, and an exact half
+/// to the even number.
+fn nearest_64th(numerator: u64, denominator: u64) -> u64 {
+    let square = 16_384 * numerator;
+    let halves = (square / denominator).isqrt();
+    if halves % 4 == 1 && halves * halves * denominator == square {
+        halves / 2
+    } else {
+        halves.div_ceil(2)
+    }
+}
+
 /// The line that the report prints for a mark by its record.
 fn line(m: usize, record: rollmap::Record) -> String {
     match record {
@@ -285,7 +297,7 @@ fn line(m: usize, record: rollmap::Record) -> String {
             numerator,
             denominator,
         } => {
-            let k = (4_096 * numerator / u64::from(denominator)).isqrt();
+            let k = nearest_64th(numerator, u64::from(denominator));
             format!("{m} {eliminator} {numerator} {denominator} {k}\n")
         }
     }
@@ -330,15 +342,32 @@ fn an_empty_reel_is_told_from_a_refused_and_an_unread_one() {
 }
 
 #[test]
-fn the_printed_zoom_is_rounded_down() {
+fn the_printed_zoom_is_the_nearest_64th() {
     let sheet = scheduled(&P1);
-    assert!(printed(&one_part(&P1)).ends_with("3 0 9 225 12\n"));
+    assert!(printed(&one_part(&P1)).ends_with("3 0 9 225 13\n"));
     // 64 times its removal zoom is 12.8.
     assert!(shown(&sheet, wheel(12)).contains(&3));
     assert!(!shown(&sheet, wheel(13)).contains(&3));
     // 320 is exact.
     assert!(shown(&sheet, wheel(319)).contains(&1));
     assert!(!shown(&sheet, wheel(320)).contains(&1));
+    // One 64th below the printed zoom a mark lives, and one above it is gone.
+    let sheet = scheduled(&marks(Shape::Clustered, 60, 8));
+    for (m, record) in (0..).zip(rollmap::records(&sheet).unwrap()) {
+        let rollmap::Record::Removed {
+            numerator,
+            denominator,
+            ..
+        } = record
+        else {
+            continue;
+        };
+        let k = nearest_64th(numerator, u64::from(denominator)) as u32;
+        if (2..65_536).contains(&k) {
+            assert!(shown(&sheet, wheel(k - 1)).contains(&m));
+            assert!(!shown(&sheet, wheel(k + 1)).contains(&m));
+        }
+    }
 }
 
 // ---- the overview

@@ -75,7 +75,7 @@ fn with_unknown_kind(mut marks: Vec<Mark>) -> Vec<u8> {
 
 #[test]
 fn the_kept_run_is_p1() {
-    let text = "marks 4\n0 -\n1 0 10000 400 320\n2 0 40000 400 640\n3 0 9 225 12\n";
+    let text = "marks 4\n0 -\n1 0 10000 400 320\n2 0 40000 400 640\n3 0 9 225 13\n";
     assert_eq!(run(&one_part(&P1)), text);
     assert_eq!(
         fs::read(format!("{KEPT_RUN}/stdin")).unwrap(),
@@ -100,8 +100,20 @@ fn the_largest_and_the_smallest_zoom() {
         Mark::plain(32_767, 32_767, 1, 0),
         Mark::plain(-32_768, -32_768, 1, 0),
     ];
-    let text = "marks 3\n0 -\n1 0 8589672450 4 2965775\n2 0 0 4 0\n";
+    let text = "marks 3\n0 -\n1 0 8589672450 4 2965776\n2 0 0 4 0\n";
     assert_eq!(run(&one_part(&ends)), text);
+}
+
+#[test]
+fn halves_go_to_the_even_number() {
+    // Two marks so far apart touch at d²/128², where 64 times the zoom is d/2.
+    for d in 0..400 {
+        let pair = [Mark::plain(0, 0, 64, 1), Mark::plain(d, 0, 64, 0)];
+        let d = u32::from(d.unsigned_abs());
+        let zoom = d / 2 + u32::from(d % 4 == 3);
+        let text = format!("marks 2\n0 -\n1 0 {} 16384 {zoom}\n", d * d);
+        assert_eq!(run(&one_part(&pair)), text);
+    }
 }
 
 #[test]
