@@ -42,6 +42,8 @@
  *       their touching value as its two unreduced numbers, and that one is removed later
  *    9  part 3 is the tree that parts 1 and 2 give
  *   10  parts 2 and 3 are there
+ *   20  the turn is 0 to 3, and each edge is from -32,768 to 32,768; this is asked between
+ *       10 and 11
  *   11  x0 is at most x1, and y0 at most y1
  *   12  the zoom is taken
  *   13  each written or work buffer, and a walked map, is long enough; at most 4,096
@@ -88,6 +90,7 @@ extern "C" {
 #define ROLLMAP_REFUSED_MISSING 17u
 #define ROLLMAP_REFUSED_FULL 18u
 #define ROLLMAP_REFUSED_EDITION 19u
+#define ROLLMAP_REFUSED_WINDOW 20u
 
 /* The codes of a sheet's parts. More may come. */
 #define ROLLMAP_CODE_MARKS 1u
@@ -127,6 +130,12 @@ extern "C" {
 
 /* Bytes of the map of n marks. */
 #define ROLLMAP_MAP_BYTES(n) (((size_t)(n) + 7) / 8)
+
+/* The turn that callers without a turn pass. */
+#define ROLLMAP_NO_TURN 0u
+
+/* How far out an edge of a view lies at most, on either side of 0. */
+#define ROLLMAP_FARTHEST_EDGE 32768
 
 /* number: 0 for success, or the number of the question answered with no.
    value: what the call says; 0 where it is refused (65,535 from the walk). */
@@ -226,25 +235,46 @@ struct rollmap_answer rollmap_log_to_marks(const uint8_t *log, size_t log_length
 struct rollmap_answer rollmap_marks_to_log(const uint8_t *marks, size_t marks_length,
                                            uint8_t *out, size_t out_length);
 
-/* Answers a view of a sheet of n marks: those that live at the zoom and whose disk there
-   reaches the rectangle, touching included. With k = 64 times the zoom, a disk reaches it
-   where the squared distance from point to rectangle, times 4,096, is at most k squared
-   times the squared radius; a point inside has distance 0, and a mark of radius 0 has the
-   radius of its kind. Mark m is bit m mod 8 of byte m / 8 of the map. The first
-   (n + 7) / 8 bytes are wholly written, and what follows stays as it is. The value is the
-   count of shown marks. Asks 1 to 12, and 13 of the map.
+/* Answers a view of a sheet of n marks: those that live at the zoom and whose disk there,
+   about the turned place, reaches the rectangle, touching included. With k = 64 times the
+   zoom, a disk reaches it where the squared distance from turned place to rectangle, times
+   4,096, is at most k squared times the squared radius; a place inside has distance 0, and
+   a mark of radius 0 has the radius of its kind. Mark m is bit m mod 8 of byte m / 8 of the
+   map. The first (n + 7) / 8 bytes are wholly written, and what follows stays as it is. The
+   value is the count of shown marks. Asks 1 to 10, 20, 11 and 12, and 13 of the map.
+
+   The turn is a number of quarter turns, 0 to 3. One of them takes x, y to -y, x; so two
+   take it to -x, -y, three to y, -x, and after four every place is where it was. The edges
+   x0, x1, y0 and y1 are the least and the greatest x and y of the rectangle, and refer to
+   turned places; they go from -32,768 to 32,768, since -32,768 may turn to 32,768. Callers
+   without a turn pass 0; their edges refer to places as part 1 has them, and may be 32,768,
+   too. 4 is no other way to say 0, and gets 20.
+
+   A screen that runs the web left to right, with x to the right, takes the turn after
+   which x grows along the web: 0 where x of part 1 grows along it, 1 where y falls, 2 where
+   x falls, 3 where y grows. Say that y grows along the web, and that the screen is to show
+   the places with y from a to b and x from c to d: it passes x0 = a, x1 = b, y0 = -d,
+   y1 = -c and the turn 3, and draws the mark at x, y of part 1 at y, -x. Where y falls, it
+   passes x0 = -b, x1 = -a, y0 = c, y1 = d and the turn 1, and draws the mark at -y, x. The
+   map goes by the numbers of the marks, whatever the turn.
+
+   One sheet serves screens of every turn. Take one that rollmap_schedule, rollmap_add or
+   rollmap_take_out wrote; move its marks to their turned places, where these fit 2 bytes
+   each, put them together with its parts beyond 3, and schedule that. A view of the new
+   sheet without a turn gives the same answer and the same map as the view of the old one
+   with the turn.
 
    A stop s, 0 to 16, is the zoom of 2 to the power s, divided by 64, map units per pixel.
    A wheel value is the zoom itself, taken where 64 times it is a whole number from 1 to
    65,536. A stop and the wheel value of the same zoom give the same answer and the same
    map, refusals too; any other stop gets 12. */
 struct rollmap_answer rollmap_view_stop(const uint8_t *sheet, size_t sheet_length,
-                                        int16_t x0, int16_t x1, int16_t y0, int16_t y1,
-                                        uint8_t stop,
+                                        int32_t x0, int32_t x1, int32_t y0, int32_t y1,
+                                        uint8_t turn, uint8_t stop,
                                         uint8_t *map, size_t map_length);
 struct rollmap_answer rollmap_view_wheel(const uint8_t *sheet, size_t sheet_length,
-                                         int16_t x0, int16_t x1, int16_t y0, int16_t y1,
-                                         float wheel,
+                                         int32_t x0, int32_t x1, int32_t y0, int32_t y1,
+                                         uint8_t turn, float wheel,
                                          uint8_t *map, size_t map_length);
 
 /* One step of a walk over the map of n marks. The value is the least shown number at or

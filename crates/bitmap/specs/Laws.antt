@@ -25,6 +25,16 @@ module _ (shown : ℕ → Bool) (n : ℕ) where
   pub map-length : length (mapBytes shown n) ≡ mapSize n
   map-length = Maps.map-length shown n
 
+-- Tests that agree on the numbers have the same map.
+pub map-same : (p q : ℕ → Bool) (n : ℕ) → ((m : ℕ) → m < n → p m ≡ q m) → mapBytes p n ≡ mapBytes q n
+map-same = Maps.map-same
+
+-- and the same count
+pub count-same : (p q : ℕ → Bool) (n : ℕ) → ((m : ℕ) → m < n → p m ≡ q m) → countShown p n ≡ countShown q n
+unfolding countShown
+count-same p q zero h = refl
+count-same p q (suc n) h = rw (count-same p q n (λ m k. h m (omega arith)), h n (omega arith))
+
 -- A list of bytes that shows the marks, and is `before` from the map's end on, is the definition's.
 pub map-is : {shown : ℕ → Bool} {n : ℕ} {after : List ℕ} → Shows shown n after → Bytes after
     → (before : List ℕ) → mapSize n ≤ length before → length after ≡ length before

@@ -1,3 +1,5 @@
--- Read Changing first: what adding and taking out make of a reel's marks. Laws proves what follows.
+-- To be believed: Changing, marks that come and go, and Turned, marks that are turned. Laws and TurnedLaws are proved of them.
 pub mod Changing
+pub mod Turned
 pub mod Laws
+pub mod TurnedLaws

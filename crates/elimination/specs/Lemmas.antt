@@ -1,4 +1,4 @@
--- The lemmas behind Theorems, in the order in which they build on one another.
+-- The lemmas behind Theorems and Unmoved, in the order in which they build on one another.
 pub mod Least
 pub mod Unique
 pub mod Ahead
@@ -6,3 +6,4 @@ pub mod Settled
 pub mod Runs
 pub mod RankOrder
 pub mod Records
+pub mod Alike

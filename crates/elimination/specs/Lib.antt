@@ -1,14 +1,16 @@
--- To be believed: what marks are, the two rules, the process, the bytes of a schedule, and the reel, which decides it.
--- To be used: Theorems, for a sheet's marks Sheet and Schedule, for scheduling Settled and RankOrder, and Laws.
+-- To be believed: what marks are, the two rules, the process, the bytes of a schedule, the reel, which decides it, and which marks are alike.
+-- To be used: Theorems and Unmoved, for a sheet's marks Sheet and Schedule, for scheduling Settled and RankOrder, and Laws.
 pub mod Marks
 pub mod Rules
 pub mod Process
 pub mod Records
 pub mod Reel
+pub mod Alike
 pub mod Settled
 pub mod RankOrder
 pub mod Theorems
 pub mod Sheet
 pub mod Schedule
+pub mod Unmoved
 pub mod Laws
 pub mod Lemmas

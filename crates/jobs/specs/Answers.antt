@@ -5,7 +5,7 @@ use mathlib.Core.List.{List}
 use lib.IntN.{ℤ}
 use lib.ListN.{length}
 use Rattle.marks.specs.declared.Mark.{Mark}
-use Rattle.view.specs.declared.Rectangle.{Rectangle}
+use Rattle.view.specs.declared.Window.{Window}
 use Rattle.jobs.specs.declared.Answer.{Answer}
 use Rattle.jobs.specs.Jobs.{Outcome, after}
 
@@ -17,9 +17,9 @@ answerOf o = record { number = o .number; value = o .value }
 abbrev pub refusal : ℕ → Answer
 refusal number = record { number = number; value = 0 }
 
--- the rectangle of these edges
-abbrev pub edges : ℤ → ℤ → ℤ → ℤ → Rectangle
-edges x0 x1 y0 y1 = record { x0 = x0; x1 = x1; y0 = y0; y1 = y1 }
+-- the window of these edges, turned by so many quarter turns
+abbrev pub window : ℤ → ℤ → ℤ → ℤ → ℕ → Window
+window x0 x1 y0 y1 turn = record { x0 = x0; x1 = x1; y0 = y0; y1 = y1; turn = turn }
 
 -- the mark of these fields
 abbrev pub fields : ℤ → ℤ → ℕ → ℕ → ℕ → ℕ → Mark

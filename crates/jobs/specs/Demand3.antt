@@ -21,7 +21,7 @@ use Rattle.bitmap.specs.Facts.{Shows}
 use Rattle.zoom.specs.declared.Zoom.{Zoom}
 use Rattle.zoom.specs.Zoom.{scaleOf, scale}
 use Rattle.zoom.specs.Living.{livesAt}
-use Rattle.view.specs.declared.Rectangle.{Rectangle}
+use Rattle.view.specs.declared.Window.{Window}
 use Rattle.view.specs.Shown.{reaches}
 use Rattle.view.specs.Questions.{viewQuestions}
 use Rattle.jobs.specs.declared.Answer.{Answer}
@@ -46,14 +46,14 @@ abbrev pub KeepsRules : List ℕ → (ℕ → Value) → Type 0
 KeepsRules s list = FirstRule (sheetMarks s) list × SecondRule (sheetMarks s) list
 
 -- who is shown, "its living taken from any list that keeps both rules"
-abbrev pub shownBy : List ℕ → Rectangle → Zoom → (ℕ → Value) → ℕ → Bool
+abbrev pub shownBy : List ℕ → Window → Zoom → (ℕ → Value) → ℕ → Bool
 shownBy s e zoom list m =
     let k = scale (scaleOf zoom) in
     livesAt k (list m) && reaches (marksPart (split s)) k e m
 
 -- The map shows exactly the marks that the list has living and whose disk reaches the rectangle, its unused bits are 0, and the count is
 -- their number.
-pub record ShowsLiving (s : List ℕ) (e : Rectangle) (zoom : Zoom) (list : ℕ → Value) (map : List ℕ) (count : ℕ) : Type 0 where
+pub record ShowsLiving (s : List ℕ) (e : Window) (zoom : Zoom) (list : ℕ → Value) (map : List ℕ) (count : ℕ) : Type 0 where
   pub bits : Shows (shownBy s e zoom list) (sheetCount s) map
   pub counted : count ≡ countShown (shownBy s e zoom list) (sheetCount s)
 
@@ -64,7 +64,7 @@ pub record ShowsLiving (s : List ℕ) (e : Rectangle) (zoom : Zoom) (list : ℕ 
 pub record Demand3 (s : List ℕ) : Type 0 where
   pub same : (list : ℕ → Value) → IsList s list → ((m : ℕ) → m < sheetCount s → Equal (sheetValue s m) (list m)) ↔ KeepsRules s list
   pub view : (list : ℕ → Value) → IsList s list → KeepsRules s list
-      → (e : Rectangle) (zoom : Zoom) (buffer : List ℕ) → answer (viewQuestions s e zoom (length buffer)) ≡ 0
+      → (e : Window) (zoom : Zoom) (buffer : List ℕ) → answer (viewQuestions s e zoom (length buffer)) ≡ 0
       → ShowsLiving s e zoom list (after (viewJob s e zoom (length buffer)) buffer) ((viewJob s e zoom (length buffer)) .value)
 
 -- ---- what the contracts cite
@@ -81,6 +81,6 @@ pub record Meets (marks : List ℕ) (kept : List Part) (r : Answer) (out : List 
   pub demand3 : r .number ≡ 0 → Demand3 (take (r .value) out)
 
 -- Of viewing the sheet s, which answered r and left `map`.
-pub record MeetsView (s : List ℕ) (e : Rectangle) (zoom : Zoom) (r : Answer) (map : List ℕ) : Type 0 where
+pub record MeetsView (s : List ℕ) (e : Window) (zoom : Zoom) (r : Answer) (map : List ℕ) : Type 0 where
   pub living : ScheduledHere s → r .number ≡ 0
       → (list : ℕ → Value) → IsList s list → KeepsRules s list → ShowsLiving s e zoom list map (r .value)

@@ -15,7 +15,7 @@ use Rattle.bodies.specs.Questions.{reelOf, isEdition, question7, question8, que
 use Rattle.sheet.specs.Questions.{checkQuestions, check, question10, indexedQuestions}
 use Rattle.sheet.specs.Laws.{check-numbered, indexed-numbered, indexed-iff}
 use Rattle.zoom.specs.declared.Zoom.{Zoom}
-use Rattle.view.specs.declared.Rectangle.{Rectangle}
+use Rattle.view.specs.declared.Window.{Window}
 use Rattle.view.specs.Questions.{viewQuestions}
 use Rattle.jobs.specs.Jobs.{keptParts, newParts, scheduled, shownIn, viewJob}
 use Rattle.jobs.specs.Theorems.{scheduled-parts}
@@ -103,7 +103,7 @@ module _ (s t : List ℕ) (none : has (split s) 4 ≡ false) (are : split t ≡ 
       ∙ rw (marks-same, are) (same-scheduled (split s) none (marksPart (split s)) ∙ ap withFirst (sym (scheduled-parts s s-bytes s-ok)))
 
   -- Every view of both gives the same number, count and map.
-  module _ (s-ok : check s ≡ 0) (t-ok : check t ≡ 0) (e : Rectangle) (zoom : Zoom) (room : ℕ) where
+  module _ (s-ok : check s ≡ 0) (t-ok : check t ≡ 0) (e : Window) (zoom : Zoom) (room : ℕ) where
     asked-same : answer (viewQuestions t e zoom room) ≡ answer (viewQuestions s e zoom room)
     unfolding viewQuestions
     asked-same =

@@ -23,7 +23,7 @@ use Rattle.logs.specs.Questions.{logQuestions, marksQuestions}
 use Rattle.sheet.specs.Questions.{sheetCount, checkQuestions, check, indexedQuestions, partsQuestions}
 use Rattle.zoom.specs.declared.Zoom.{Zoom}
 use Rattle.zoom.specs.Zoom.{scaleOf, scale}
-use Rattle.view.specs.declared.Rectangle.{Rectangle}
+use Rattle.view.specs.declared.Window.{Window}
 use Rattle.view.specs.Shown.{shown}
 use Rattle.bitmap.specs.Map.{mapBytes, countShown, bitAt, walk}
 use Rattle.view.specs.Questions.{viewQuestions, walkQuestions}
@@ -178,10 +178,10 @@ marksToLogJob s room = outcome (marksQuestions s room) (logRecordSize * markCoun
 -- ---- viewing
 
 -- the marks that a view of an accepted sheet shows
-unfoldable pub shownIn : List ℕ → Rectangle → Zoom → ℕ → Bool
+unfoldable pub shownIn : List ℕ → Window → Zoom → ℕ → Bool
 shownIn s e zoom = shown (marksPart (split s)) (schedulePart (split s)) (scale (scaleOf zoom)) e
 
-unfoldable pub viewJob : List ℕ → Rectangle → Zoom → ℕ → Outcome
+unfoldable pub viewJob : List ℕ → Window → Zoom → ℕ → Outcome
 viewJob s e zoom room =
     let show = shownIn s e zoom in
     outcome (viewQuestions s e zoom room) (countShown show (sheetCount s)) (mapBytes show (sheetCount s))

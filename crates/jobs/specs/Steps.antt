@@ -9,7 +9,7 @@ use Rattle.indexing.specs.Buffer.{indexEnd}
 use Rattle.contents.specs.Contents.{Part, _holds_, split, marksPart, schedulePart}
 use Rattle.contents.specs.Asking.{_asks_}
 use Rattle.sheet.specs.Questions.{sheetCount}
-use Rattle.view.specs.declared.Rectangle.{Rectangle}
+use Rattle.view.specs.declared.Window.{Window}
 use Rattle.view.specs.Shown.{shown}
 use Rattle.bitmap.specs.Map.{mapSize, mapBytes, countShown}
 use Rattle.jobs.specs.Jobs.{Outcome, outcome}
@@ -25,7 +25,7 @@ resultsOver r buffer =
     r .marks ++ (scheduleOf r ++ (indexBytes (indexOf (r .marks) (scheduleOf r) (r .count)) ++ drop (indexEnd (r .count)) buffer))
 
 -- viewing an accepted sheet at a zoom that is taken: 13 is all that is left to ask
-unfoldable pub viewAt : List ℕ → Rectangle → ℕ → ℕ → Outcome
+unfoldable pub viewAt : List ℕ → Window → ℕ → ℕ → Outcome
 viewAt s e k room =
     let show = shown (marksPart (split s)) (schedulePart (split s)) k e in
     outcome ((13 asks leb (mapSize (sheetCount s)) room) ∷ []) (countShown show (sheetCount s)) (mapBytes show (sheetCount s))

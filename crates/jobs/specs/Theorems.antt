@@ -22,18 +22,18 @@ use Rattle.contents.specs.Contents.{Part, _holds_, codesOf, bodiesOf, countAt, 
 use Rattle.contents.specs.Asking.{Question, answer}
 use Rattle.contents.specs.Laws.{Numbered, asked-iff, append-iff, count-iff, split-length, split-join, join-bytes, together-parts}
 use Rattle.contents.specs.Questions.{isCount, codesRight}
-use Rattle.bodies.specs.Questions.{markCount, reelOf}
+use Rattle.bodies.specs.Questions.{markCount, reelOf, editionOf}
 use Rattle.bodies.specs.Fitting.{Fitting}
 use Rattle.bodies.specs.Laws.{fitting-writable}
-use Rattle.sheet.specs.Questions.{sheetCount, checkQuestions, check, indexedQuestions}
+use Rattle.sheet.specs.Questions.{sheetCount, checkQuestions, check, indexedQuestions, question10}
 use Rattle.sheet.specs.Laws.{check-numbered, indexed-numbered, indexed-iff, accepted-iff, parts-iff, join-accepted, sheet-again, parts-again}
 use Rattle.bitmap.specs.Map.{mapSize, mapBytes, countShown, shownFrom, isSet}
 use Rattle.bitmap.specs.Facts.{Shows}
-use Rattle.bitmap.specs.Laws.{map-shows, map-length, shown-set, shown-same}
+use Rattle.bitmap.specs.Laws.{map-shows, map-length, count-same, shown-set, shown-same}
 use Rattle.zoom.specs.declared.Zoom.{Zoom}
 use Rattle.zoom.specs.Zoom.{scaleOf, scale}
 use Rattle.zoom.specs.Living.{zoomSquared, livesAt}
-use Rattle.view.specs.declared.Rectangle.{Rectangle}
+use Rattle.view.specs.declared.Window.{Window}
 use Rattle.view.specs.Shown.{shown}
 use Rattle.view.specs.Questions.{viewQuestions, isMap, walkQuestions}
 use Rattle.jobs.specs.declared.Answer.{Answer}
@@ -47,7 +47,7 @@ use Rattle.jobs.specs.Laws.Outcomes.{outcome-yes, outcome-number, all-ye
 use Rattle.jobs.specs.Laws.Kept.{KeptRight, kept-right, alone-fits}
 use Rattle.jobs.specs.Laws.Walking.{map-iff, map-asked, map-taken, walks-all}
 use Rattle.jobs.specs.Laws.Scheduling.{sheet-long, there-room, room-asked, checks-passed}
-use Rattle.jobs.specs.Lemmas.Scheduled.{later-same, count-same, new-fitting, good, marks-long, marks-bytes}
+use Rattle.jobs.specs.Lemmas.Scheduled.{later-same, new-fitting, good, marks-long, marks-bytes}
 -- ---- part 1 of an accepted sheet
 
 pub use Rattle.jobs.specs.Lemmas.Scheduled.{good, marks-bytes}
@@ -270,8 +270,26 @@ module _ (s : List ℕ) (here : ScheduledHere s) where
   part1-bytes : Bytes (marksPart (split s))
   part1-bytes = rw parts (marks-bytes g bytes accepted)
 
-  schedule-is : schedulePart (split s) ≡ scheduleOf (reelOf (split s))
+  -- Its marks pass 4 to 6, and its schedule is that of its reel.
+  pub here-pass : Pass (marksPart (split s)) (keptParts (split s))
+  here-pass =
+      record {
+        good = part1-good;
+        long = rw parts (marks-long g bytes accepted);
+        bytes = part1-bytes;
+        right = rw others-kept (kept-right g accepted bytes);
+      }
+
+  pub schedule-is : schedulePart (split s) ≡ scheduleOf (reelOf (split s))
   schedule-is = rw parts
+
+  pub here-indexed : answer (indexedQuestions s) ≡ 0
+  unfolding question10
+  here-indexed = indexed-iff s .1 (here-accepted s here, rw parts)
+
+  -- The edition that is kept is its own.
+  pub here-edition : editionOf (keptParts (split s)) ≡ editionOf (split s)
+  here-edition = rw (others-kept, parts)
 
   module _ (list : ℕ → Value) (sound : IsList s list) where
     -- A list equals ours, mark by mark, exactly when it keeps both rules.
@@ -286,7 +304,7 @@ module _ (s : List ℕ) (here : ScheduledHere s) where
         later-same (list m) (sheetValue s m) (zoomSquared k) e
 
     -- The view clause. `buffer` is what the lent map held.
-    module _ (rules : KeepsRules s list) (e : Rectangle) (zoom : Zoom) (buffer : List ℕ)
+    module _ (rules : KeepsRules s list) (e : Window) (zoom : Zoom) (buffer : List ℕ)
         (taken : answer (viewQuestions s e zoom (length buffer)) ≡ 0) where
       living-same : (m : ℕ) → m < sheetCount s → shownIn s e zoom m ≡ shownBy s e zoom list m
       unfolding shownIn shown
@@ -319,7 +337,7 @@ pub walk-whole : (map : List ℕ) (n turns : ℕ) → answer (walkQuestions map 
 walk-whole map n turns asked enough = walks-all map n (map-taken map n asked) n 0 turns (omega arith) enough
 
 -- Of a view's map these are exactly the shown marks, and each is told by its bit. `buffer` is what the lent map held.
-module _ (s : List ℕ) (e : Rectangle) (zoom : Zoom) (buffer : List ℕ) (taken : answer (viewQuestions s e zoom (length buffer)) ≡ 0) where
+module _ (s : List ℕ) (e : Window) (zoom : Zoom) (buffer : List ℕ) (taken : answer (viewQuestions s e zoom (length buffer)) ≡ 0) where
   abbrev map : List ℕ
   map = after (viewJob s e zoom (length buffer)) buffer
 
@@ -388,7 +406,7 @@ schedule-meets g work before bytes =
     scheduling-meets (checkQuestions g) (check-numbered g) (marksPart (split g)) (keptParts (split g))
     (λ ok. record { good = good g bytes ok; long = marks-long g bytes ok; bytes = marks-bytes g bytes ok; right = kept-right g ok bytes }) work before
 
-pub view-meets : (s : List ℕ) (e : Rectangle) (zoom : Zoom) (before : List ℕ) {r : Answer} {map : List ℕ}
+pub view-meets : (s : List ℕ) (e : Window) (zoom : Zoom) (before : List ℕ) {r : Answer} {map : List ℕ}
     → Gives (viewJob s e zoom (length before)) before r map → MeetsView s e zoom r map
 unfolding viewJob
 view-meets s e zoom before {r} {map} gives =
@@ -399,13 +417,13 @@ view-meets s e zoom before {r} {map} gives =
     }
 
 -- what a view gives, with demand 3 of it
-pub view-whole : {s : List ℕ} {e : Rectangle} {zoom : Zoom} {before map : List ℕ} {r : Answer}
+pub view-whole : {s : List ℕ} {e : Window} {zoom : Zoom} {before map : List ℕ} {r : Answer}
     → Gives (viewJob s e zoom (length before)) before r map
     → Gives (viewJob s e zoom (length before)) before r map × MeetsView s e zoom r map
 view-whole {s} {e} {zoom} {before} gives = (gives, view-meets s e zoom before gives)
 
 -- Schedule, then view: what the first call promises of its output is all that the second asks of its input.
-pub schedule-then-view : {g : List ℕ} {others : List Part} {out : List ℕ} {r : Answer} {e : Rectangle} {zoom : Zoom} {v : Answer} {map : List ℕ}
+pub schedule-then-view : {g : List ℕ} {others : List Part} {out : List ℕ} {r : Answer} {e : Window} {zoom : Zoom} {v : Answer} {map : List ℕ}
     → Meets g others r out → r .number ≡ 0 → MeetsView (take (r .value) out) e zoom v map → v .number ≡ 0
     → (list : ℕ → Value) → IsList (take (r .value) out) list → KeepsRules (take (r .value) out) list
     → ShowsLiving (take (r .value) out) e zoom list map (v .value)

@@ -137,6 +137,10 @@ pub distance-grows : {a b c d : ℕ} → a ≤ c → b ≤ d → distance a b �
 unfolding distance
 distance-grows p q = omega (arith, mul-le-mul p p, mul-le-mul q q)
 
+pub distance-symmetric : (a b : ℕ) → distance a b ≡ distance b a
+unfolding distance
+distance-symmetric a b = omega arith
+
 -- No difference squared is more than it, and it is no more than the sum of their squares.
 pub distance-x : (a b : ℕ) → a * a ≤ distance a b
 unfolding distance

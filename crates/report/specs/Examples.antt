@@ -32,8 +32,9 @@ use Rattle.zoom.specs.declared.Zoom.the-variants.{Stop, Wheel}
 use Rattle.zoom.specs.Zoom.{stopScale, wheelScale, scaleOf}
 use Rattle.zoom.specs.Living.{livesAt}
 use Rattle.zoom.specs.Printed.{rootStep, root, nearestFrom, nearest}
-use Rattle.view.specs.declared.Rectangle.{Rectangle}
-use Rattle.view.specs.Shown.{gap, distanceSquared, reaches, shown}
+use Rattle.view.specs.declared.Window.{Window}
+use Rattle.turns.specs.Turns.{unit, quarter, productAt, times, turn, applied, turnedPlace}
+use Rattle.view.specs.Shown.{gap, distanceSquared, diskReaches, reaches, shown}
 use Rattle.bitmap.specs.Map.{mapByte, mapPart, mapBytes, countShown}
 use Rattle.view.specs.Questions as Viewing
 use Rattle.jobs.specs.Jobs.{outcome, checkJob, scheduled, schedulingQuestions, schedulingJob, addChecks, addJob, takeOutChecks, takeOutJob, assembleQuestions, assembleJob, fillJob, logToMarksJob, marksToLogJob, shownIn, viewJob}
@@ -72,7 +73,7 @@ pub data Asked : Type 0 where
   -- eliminator, numerator and denominator of a mark in the scheduled sheet's part 2
   removes : List Mark → ℕ → Asked
   -- a view of the scheduled sheet with a map of one byte: number, count, and the bytes written
-  views : List Mark → Rectangle → Zoom → Asked
+  views : List Mark → Window → Zoom → Asked
   -- the same of a sheet that names this edition
   removesIn : ℕ → List Mark → ℕ → Asked
   -- bodies put together under codes, in a buffer of so many bytes: number and length
@@ -190,8 +191,12 @@ neverSheet =
 abbrev log : ℕ → ℕ → ℕ → ℕ → ℕ → ℕ → List ℕ
 log a b c d e f = a ∷ b ∷ c ∷ d ∷ e ∷ f ∷ 44 ∷ 1 ∷ 5 ∷ 0 ∷ 0 ∷ 0 ∷ 0 ∷ []
 
-abbrev p3 : Rectangle
-p3 = record { x0 = pos 50; x1 = pos 250; y0 = negsuc 9; y1 = pos 10 }
+-- the window of these edges and this turn
+abbrev window : ℤ → ℤ → ℤ → ℤ → ℕ → Window
+window x0 x1 y0 y1 turn = record { x0 = x0; x1 = x1; y0 = y0; y1 = y1; turn = turn }
+
+abbrev p3 : Window
+p3 = window (pos 50) (pos 250) (negsuc 9) (pos 10) 0
 
 -- the wheel value whose bits these are
 abbrev wheel : ℕ → Zoom
@@ -300,10 +305,21 @@ table =
     ∷ (zooms 0 4 gives (0 ∷ []))
     -- the largest removal value
     ∷ (zooms 8589672450 4 gives (2965776 ∷ []))
+    -- 02, request 8: P3 after one, two and three quarter turns
+    ∷ (views p1 (window (negsuc 9) (pos 10) (pos 50) (pos 250) 1) (wheel 0x3f80_0000) gives (0 ∷ 2 ∷ 0x06 ∷ []))
+    ∷ (views p1 (window (negsuc 249) (negsuc 49) (negsuc 9) (pos 10) 2) (wheel 0x3f80_0000) gives (0 ∷ 2 ∷ 0x06 ∷ []))
+    ∷ (views p1 (window (negsuc 9) (pos 10) (negsuc 249) (negsuc 49) 3) (wheel 0x3f80_0000) gives (0 ∷ 2 ∷ 0x06 ∷ []))
+    -- -32,768 is turned to 32,768
+    ∷ (views p6 (window (pos 32768) (pos 32768) (negsuc 32767) (negsuc 32767) 1) (Stop 0) gives (0 ∷ 1 ∷ 0x01 ∷ []))
+    -- 20, before 11: "another turn or an edge beyond that range"
+    ∷ (views p1 (window (pos 250) (pos 50) (pos 0) (pos 0) 4) (Stop 0) gives (20 ∷ 0 ∷ []))
+    ∷ (views p1 (window (pos 0) (pos 0) (negsuc 32768) (pos 0) 0) (Stop 0) gives (20 ∷ 0 ∷ []))
+    ∷ (views p1 (window (pos 0) (pos 32769) (pos 0) (pos 0) 3) (Stop 0) gives (20 ∷ 0 ∷ []))
+    ∷ (views p1 (window (pos 250) (pos 50) (pos 0) (pos 0) 3) (Stop 17) gives (11 ∷ 0 ∷ []))
     ∷ []
 
 -- No row is lost.
-pub table-length : length table ≡ 70
+pub table-length : length table ≡ 78
 unfolding table
 table-length = refl
 
@@ -316,7 +332,7 @@ unfolding table answers recordOf pairs sheet sheetIn marks oldSheet neverSheet o
     magnitude isMinus withSign areDigits isLast isPacked isPlace packedOf placeBits marksOfLog logOfMarks
     logSize recordQuestions logChecks logQuestions marksQuestions logToMarksJob marksToLogJob
     Rows.rows filledRadius filled fillQuestions markQuestions part1Questions isSized isEdition question7 question19 namesRight recordRight isSchedule question8
-    question9 lastQuestions bodyQuestions checkQuestions check partsQuestions assembleQuestions stopScale wheelScale scaleOf livesAt gap distanceSquared reaches
-    shown mapByte mapPart mapBytes countShown question10 indexedQuestions Viewing.question11 Viewing.viewQuestions outcome checkJob scheduled
+    question9 lastQuestions bodyQuestions checkQuestions check partsQuestions assembleQuestions stopScale wheelScale scaleOf livesAt gap distanceSquared diskReaches unit quarter productAt times turn applied turnedPlace reaches
+    shown mapByte mapPart mapBytes countShown question10 indexedQuestions Viewing.isEdge Viewing.question20 Viewing.question11 Viewing.viewQuestions outcome checkJob scheduled
     added Rows.without takenOut addChecks takeOutChecks schedulingQuestions schedulingJob assembleJob fillJob shownIn viewJob digits line rootStep root nearestFrom nearest markLine markLines listing refusalLine printQuestions printed
 examples = refl

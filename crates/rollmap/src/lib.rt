@@ -8,7 +8,7 @@ use logs::LOG_RECORD_SIZE;
 use marks::MARK_SIZE;
 use marks::Mark;
 use sheet::Assembled;
-use view::Rectangle;
+use view::Window;
 use zoom::Scale;
 use zoom::Zoom;
 ghost use mathlib.Core.Path.{_≡_};
@@ -31,15 +31,16 @@ ghost use Rattle.contents.specs.Places.{layoutOf, placeOf, Located};
 ghost use Rattle.sheet.specs.Questions.{check, question10};
 ghost use Rattle.sheet.specs.Opened.{opened, openParts};
 ghost use Rattle.zoom.specs.declared.Zoom.the-variants.{Stop, Wheel};
-ghost use Rattle.view.specs.Questions.{question11, isMap};
+ghost use Rattle.view.specs.Questions.{question20, question11, isMap};
 ghost use Rattle.jobs.specs.Jobs.{checkJob, keptParts, scheduledFrom, hasRoom, schedulingJob, scheduleJob, addJob, takeOutJob, assembleJob, fillJob, logToMarksJob, marksToLogJob, viewJob, walkJob, isShownJob};
-ghost use Rattle.jobs.specs.Answers.{refusal, answerOf, edges, fields, Gives, Lent};
+ghost use Rattle.jobs.specs.Answers.{refusal, answerOf, window, fields, Gives, Lent};
 ghost use Rattle.jobs.specs.Parts.{Joins};
 ghost use Rattle.jobs.specs.Demand3.{Meets, MeetsView};
 ghost use Rattle.jobs.specs.Changed.{MeetsAdding};
 ghost use Rattle.jobs.specs.Filled.{MeetsFilling};
 ghost use Rattle.jobs.specs.Turned.{MeetsLog, MeetsMarks};
 ghost use Rattle.jobs.specs.Stops.{MeetsStop};
+ghost use Rattle.jobs.specs.Turns.{MeetsTurn};
 ghost use Rattle.jobs.specs.Steps.{keptFrom, resultsOver, viewAt};
 
 // What scheduling asks for, in bytes a mark and in bytes beside them: the work buffer, and the sheet of three parts with its contents, to which
@@ -354,17 +355,11 @@ pub extern "C" fn rollmap_marks_to_log(marks: &[u8], out: &mut [u8]) -> Answer
 
 // ---- viewing
 
-// 11. Is x0 ≤ x1 and y0 ≤ y1?
-fn is_rectangle(e: Rectangle) -> bool
-    ensures { λ r. ⌜ r ≡ question11 e ⌝ }
-{
-    (e.x0 <= e.x1) & (e.y0 <= e.y1)
-}
-
 // The view of an accepted sheet with parts 2 and 3 at z = k/64: question 13, and then the map and the count.
-fn view_at(sheet: &[u8], layout: Layout, rectangle: Rectangle, k: u32, map: &mut [u8]) -> Answer
+fn view_at(sheet: &[u8], layout: Layout, window: Window, k: u32, map: &mut [u8]) -> Answer
     requires { ⌜ (check (now sheet) ≡ 0) × (layout ≡ layoutOf (now sheet)) × (question10 (split (now sheet)) ≡ true) × (k ≤ 65536) ⌝ }
-    ensures { λ r. ⌜ Gives (viewAt (now (sheet .entry)) rectangle k (length (now (map .entry)))) (now (map .entry)) r (now (map .exit)) ⌝ }
+    requires { ⌜ (question20 window ≡ true) × (question11 window ≡ true) ⌝ }
+    ensures { λ r. ⌜ Gives (viewAt (now (sheet .entry)) window k (length (now (map .entry)))) (now (map .entry)) r (now (map .exit)) ⌝ }
 {
     let marks = contents::part(sheet, layout, 1);
     let n = marks.len() / MARK_SIZE;
@@ -375,13 +370,13 @@ fn view_at(sheet: &[u8], layout: Layout, rectangle: Rectangle, k: u32, map: &mut
     let index = contents::part(sheet, layout, 3);
     Answer {
         number: 0,
-        value: view::show(marks, schedule, index, n, rectangle, k, map),
+        value: view::show(marks, schedule, index, n, window, k, map),
     }
 }
 
-// Writes the map of a view, and answers how many marks it shows: questions 1 to 13.
-fn view(sheet: &[u8], rectangle: Rectangle, zoom: Zoom, map: &mut [u8]) -> Answer
-    ensures { λ r. ⌜ Gives (viewJob (now (sheet .entry)) rectangle zoom (length (now (map .entry)))) (now (map .entry)) r (now (map .exit)) ⌝ }
+// Writes the map of a view, and answers how many marks it shows: questions 1 to 10, 20, and 11 to 13.
+fn view(sheet: &[u8], window: Window, zoom: Zoom, map: &mut [u8]) -> Answer
+    ensures { λ r. ⌜ Gives (viewJob (now (sheet .entry)) window zoom (length (now (map .entry)))) (now (map .entry)) r (now (map .exit)) ⌝ }
 {
     let found = sheet::indexed(sheet);
     let number = found.number;
@@ -389,47 +384,68 @@ fn view(sheet: &[u8], rectangle: Rectangle, zoom: Zoom, map: &mut [u8]) -> Answe
         return refused(number);
     }
     let layout = found.layout;
-    if !is_rectangle(rectangle) {
+    if !view::is_window(window) {
+        return refused(20);
+    }
+    if !view::is_ordered(window) {
         return refused(11);
     }
     match zoom::scale_of(zoom) {
         Scale::Refused => refused(12),
-        Scale::Taken(k) => view_at(sheet, layout, rectangle, k, map),
+        Scale::Taken(k) => view_at(sheet, layout, window, k, map),
     }
 }
 
-// The view at a stop; of a sheet scheduled here it meets demand 3, and it is that at the wheel value of the same zoom.
+// The view at a stop; of a sheet scheduled here it meets demand 3, it is that at the wheel value of the same zoom, and that of the turned marks
+// without a turn.
 #[no_mangle]
 pub extern "C" fn rollmap_view_stop(
     sheet: &[u8],
-    x0: i16,
-    x1: i16,
-    y0: i16,
-    y1: i16,
+    x0: i32,
+    x1: i32,
+    y0: i32,
+    y1: i32,
+    turn: u8,
     stop: u8,
     map: &mut [u8],
 ) -> Answer
-    ensures { λ r. ⌜ Gives (viewJob (now (sheet .entry)) (edges x0 x1 y0 y1) (Stop stop) (length (now (map .entry)))) (now (map .entry)) r (now (map .exit)) ⌝ }
-    ensures { λ r. ⌜ MeetsView (now (sheet .entry)) (edges x0 x1 y0 y1) (Stop stop) r (now (map .exit)) × MeetsStop (now (sheet .entry)) (edges x0 x1 y0 y1) stop (now (map .entry)) r (now (map .exit)) ⌝ }
+    ensures { λ r. ⌜ Gives (viewJob (now (sheet .entry)) (window x0 x1 y0 y1 turn) (Stop stop) (length (now (map .entry)))) (now (map .entry)) r (now (map .exit)) ⌝ }
+    ensures { λ r. ⌜ MeetsView (now (sheet .entry)) (window x0 x1 y0 y1 turn) (Stop stop) r (now (map .exit)) × MeetsStop (now (sheet .entry)) (window x0 x1 y0 y1 turn) stop (now (map .entry)) r (now (map .exit)) ⌝ }
+    ensures { λ r. ⌜ MeetsTurn (now (sheet .entry)) (window x0 x1 y0 y1 turn) (Stop stop) (now (map .entry)) r (now (map .exit)) ⌝ }
 {
-    view(sheet, Rectangle { x0, x1, y0, y1 }, Zoom::Stop(stop), map)
+    let window = Window {
+        x0,
+        x1,
+        y0,
+        y1,
+        turn,
+    };
+    view(sheet, window, Zoom::Stop(stop), map)
 }
 
-// The view at a wheel value; of a sheet scheduled here it meets demand 3.
+// The view at a wheel value; of a sheet scheduled here it meets demand 3, and it is that of the turned marks without a turn.
 #[no_mangle]
 pub extern "C" fn rollmap_view_wheel(
     sheet: &[u8],
-    x0: i16,
-    x1: i16,
-    y0: i16,
-    y1: i16,
+    x0: i32,
+    x1: i32,
+    y0: i32,
+    y1: i32,
+    turn: u8,
     wheel: f32,
     map: &mut [u8],
 ) -> Answer
-    ensures { λ r. ⌜ Gives (viewJob (now (sheet .entry)) (edges x0 x1 y0 y1) (Wheel wheel) (length (now (map .entry)))) (now (map .entry)) r (now (map .exit)) ⌝ }
-    ensures { λ r. ⌜ MeetsView (now (sheet .entry)) (edges x0 x1 y0 y1) (Wheel wheel) r (now (map .exit)) ⌝ }
+    ensures { λ r. ⌜ Gives (viewJob (now (sheet .entry)) (window x0 x1 y0 y1 turn) (Wheel wheel) (length (now (map .entry)))) (now (map .entry)) r (now (map .exit)) ⌝ }
+    ensures { λ r. ⌜ MeetsView (now (sheet .entry)) (window x0 x1 y0 y1 turn) (Wheel wheel) r (now (map .exit)) × MeetsTurn (now (sheet .entry)) (window x0 x1 y0 y1 turn) (Wheel wheel) (now (map .entry)) r (now (map .exit)) ⌝ }
 {
-    view(sheet, Rectangle { x0, x1, y0, y1 }, Zoom::Wheel(wheel), map)
+    let window = Window {
+        x0,
+        x1,
+        y0,
+        y1,
+        turn,
+    };
+    view(sheet, window, Zoom::Wheel(wheel), map)
 }
 
 // ---- reading a map

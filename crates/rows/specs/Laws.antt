@@ -53,6 +53,11 @@ module _ (row : ℕ → List ℕ) (w : ℕ) where
   pub rows-whole : (s : List ℕ) (n : ℕ) → length s ≡ w * n → ((i : ℕ) → i < n → row i ≡ take w (drop (w * i) s)) → rows row n ≡ s
   rows-whole s n e h = rows-take s n h ∙ take-all (w * n) s (omega arith)
 
+pub rows-bytes : (row : ℕ → List ℕ) (n : ℕ) → ((i : ℕ) → i < n → Bytes (row i)) → Bytes (rows row n)
+unfolding rows
+rows-bytes row zero h = λ i. omega arith
+rows-bytes row (suc n) h = bytes-append (rows row n) (row n) (rows-bytes row n (λ i l. h i (omega arith))) (h n (omega arith))
+
 -- ---- rows behind rows, and a row taken out
 
 -- a row of the first of two lists

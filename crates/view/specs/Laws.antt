@@ -1,4 +1,4 @@
--- A disk reaches the rectangle exactly when it holds a place of it, so that the distance of Shown is one; and what asking a zoom answers.
+-- A disk reaches the window exactly when it holds a place of it, so that the distance of Shown is one; and what asking a zoom answers.
 -- Assumes nothing.
 use Prim.Native.Nat.{ℕ, _*_}
 use native.Mathlib.Omega.{arith}
@@ -6,34 +6,46 @@ use mathlib.Core.Path.{_≡_, refl}
 use mathlib.Core.Bool.{true}
 use mathlib.Core.List.{List, [], _∷_}
 use mathlib.Core.Logic.{_↔_}
+use lib.Dec.{leb}
 use lib.Signed.{leZ}
 use borrow.Author.Tests.{leb-true, le-leb}
+use Rattle.zoom.specs.declared.Zoom.{Zoom}
+use Rattle.zoom.specs.Zoom.{scaleOf}
 use Rattle.zoom.specs.declared.Scale.{Scale}
 use Rattle.zoom.specs.declared.Scale.the-variants.{Taken, Refused}
-use Rattle.marks.specs.Marks.{xAt, yAt, usedAt}
+use Rattle.marks.specs.Marks.{usedAt}
 use Rattle.marks.specs.Laws.{distance-grows}
 use Rattle.lists.specs.TestLaws.{and-left, and-right}
 use Rattle.contents.specs.Asking.{_asks_, answer}
-use Rattle.view.specs.declared.Rectangle.{Rectangle}
-use Rattle.view.specs.Shown.{distanceSquared, reaches, CommonPlace}
-use Rattle.view.specs.Questions.{question11, scaleNumber, isTaken}
+use Rattle.contents.specs.Laws.{append-yes}
+use Rattle.sheet.specs.Questions.{indexedQuestions, sheetCount}
+use Rattle.sheet.specs.Laws.{indexed-numbered}
+use Rattle.bitmap.specs.Map.{mapSize}
+use Rattle.turns.specs.declared.Place.{Place}
+use Rattle.turns.specs.Turns.{turnedPlace}
+use Rattle.view.specs.declared.Window.{Window}
+use Rattle.view.specs.Shown.{distanceSquared, diskReaches, placeAt, edgesOf, reaches, CommonPlace}
+use Rattle.view.specs.Questions.{question20, question11, scaleNumber, isTaken, viewQuestions}
 use Rattle.view.specs.Lemmas.Gaps.{gap-least, nearest}
 
 -- ---- reaching
 
-module _ (s : List ℕ) (k : ℕ) (e : Rectangle) (m : ℕ) where
-  common-reaches : CommonPlace s k e m → reaches s k e m ≡ true
-  unfolding reaches distanceSquared
-  common-reaches h =
-      let x = gap-least (e .x0) (e .x1) (xAt s m) (h .x) (h .from-x0) (h .to-x1) in
-      let y = gap-least (e .y0) (e .y1) (yAt s m) (h .y) (h .from-y0) (h .to-y1) in
-      le-leb (4096 * distanceSquared s e m) (k * k * (usedAt s m * usedAt s m)) (omega (arith, distance-grows x y, h .near))
+module _ (s : List ℕ) (k : ℕ) (w : Window) (m : ℕ) where
+  abbrev place : Place
+  place = turnedPlace (w .turn) (placeAt s m)
 
-  reaches-common : question11 e ≡ true → reaches s k e m ≡ true → CommonPlace s k e m
-  unfolding reaches distanceSquared question11
+  common-reaches : CommonPlace s k w m → reaches s k w m ≡ true
+  unfolding reaches diskReaches distanceSquared
+  common-reaches h =
+      let x = gap-least (w .x0) (w .x1) (place .x) (h .x) (h .from-x0) (h .to-x1) in
+      let y = gap-least (w .y0) (w .y1) (place .y) (h .y) (h .from-y0) (h .to-y1) in
+      le-leb (4096 * distanceSquared (edgesOf w) place) (k * k * (usedAt s m * usedAt s m)) (omega (arith, distance-grows x y, h .near))
+
+  reaches-common : question11 w ≡ true → reaches s k w m ≡ true → CommonPlace s k w m
+  unfolding reaches diskReaches distanceSquared question11
   reaches-common order h =
-      let x = nearest (e .x0) (e .x1) (xAt s m) (and-left (leZ (e .x0) (e .x1)) (leZ (e .y0) (e .y1)) order) in
-      let y = nearest (e .y0) (e .y1) (yAt s m) (and-right (leZ (e .x0) (e .x1)) (leZ (e .y0) (e .y1)) order) in
+      let x = nearest (w .x0) (w .x1) (place .x) (and-left (leZ (w .x0) (w .x1)) (leZ (w .y0) (w .y1)) order) in
+      let y = nearest (w .y0) (w .y1) (place .y) (and-right (leZ (w .x0) (w .x1)) (leZ (w .y0) (w .y1)) order) in
       record {
         x = x .place;
         y = y .place;
@@ -41,12 +53,21 @@ module _ (s : List ℕ) (k : ℕ) (e : Rectangle) (m : ℕ) where
         to-x1 = x .to-high;
         from-y0 = y .from-low;
         to-y1 = y .to-high;
-        near = rw (← x .is, ← y .is) (leb-true (4096 * distanceSquared s e m) (k * k * (usedAt s m * usedAt s m)) h);
+        near = rw (← x .is, ← y .is) (leb-true (4096 * distanceSquared (edgesOf w) place) (k * k * (usedAt s m * usedAt s m)) h);
       }
 
   -- "its disk at z reaches the rectangle, touching included"
-  pub reaches-iff : question11 e ≡ true → (reaches s k e m ≡ true) ↔ CommonPlace s k e m
+  pub reaches-iff : question11 w ≡ true → (reaches s k w m ≡ true) ↔ CommonPlace s k w m
   reaches-iff order = (reaches-common order, common-reaches)
+
+-- ---- the order of the questions
+
+-- Where 1 to 10 are answered with yes: what follows, and that 20 is asked before 11.
+module _ (s : List ℕ) (w : Window) (zoom : Zoom) (room : ℕ) (ok : answer (indexedQuestions s) ≡ 0) where
+  pub view-asked : answer (viewQuestions s w zoom room)
+      ≡ answer ((20 asks question20 w) ∷ (11 asks question11 w) ∷ (12 asks isTaken (scaleOf zoom)) ∷ (13 asks leb (mapSize (sheetCount s)) room) ∷ [])
+  unfolding viewQuestions
+  view-asked = append-yes (indexedQuestions s) _ (indexed-numbered s) ok
 
 -- ---- the zoom
 

@@ -6,10 +6,9 @@ use mathlib.Core.List.{List}
 use mathlib.Core.Logic.{_≢_}
 use lib.ListN.{length, getD}
 use lib.Dec.{ltb, leb, eqb}
-use lib.IntN.{ℤ}
 use Rattle.lists.specs.Counting.{count, both}
 use Rattle.lists.specs.Blocks.{block}
-use Rattle.marks.specs.Marks.{shifted, usedAt}
+use Rattle.marks.specs.Marks.{usedAt}
 use Rattle.elimination.specs.Records.{valueAt}
 use Rattle.zoom.specs.Zoom.{largestScale}
 use Rattle.zoom.specs.Living.{livesAt}
@@ -18,7 +17,6 @@ use Rattle.index.specs.Valid.{isTree}
 use Rattle.index.specs.Blocks.{entryAt}
 use Rattle.index.specs.Check.{Checkable, AllBelow}
 use Rattle.bitmap.specs.Map.{mapSize, bitAt}
-use Rattle.view.specs.declared.Rectangle.{Rectangle}
 use Rattle.view.specs.declared.Bounds.{Bounds}
 
 -- ---- the bounds
@@ -32,15 +30,15 @@ unfoldable pub widestLiving : List ℕ → List ℕ → ℕ → ℕ → ℕ
 widestLiving s p k zero = 0
 widestLiving s p k (suc n) = wider s p k (widestLiving s p k n) n
 
--- an edge's coordinate moved down, at most to 0, or up
-unfoldable pub moved : ℤ → Bool → ℕ → ℕ
-moved edge low by = cond low (shifted edge - by) (shifted edge + by)
+-- an edge moved down, at most to 0, or up
+unfoldable pub moved : ℕ → Bool → ℕ → ℕ
+moved edge low by = cond low (edge - by) (edge + by)
 
--- the rectangle widened by what a disk of the radius r takes up at z
-unfoldable pub boundsOf : Rectangle → ℕ → ℕ → Bounds
-boundsOf e k r =
+-- the edges widened by what a disk of the radius r takes up at z
+unfoldable pub boundsOf : Bounds → ℕ → ℕ → Bounds
+boundsOf b k r =
     let by = k * r / 64 in
-    record { x0 = moved (e .x0) true by; x1 = moved (e .x1) false by; y0 = moved (e .y0) true by; y1 = moved (e .y1) false by }
+    record { x0 = moved (b .x0) true by; x1 = moved (b .x1) false by; y0 = moved (b .y0) true by; y1 = moved (b .y1) false by }
 
 -- the low or the high bound
 abbrev pub boundOn : Bounds → Bool → Bool → ℕ

@@ -1,4 +1,4 @@
--- 02, request 1: whose disk reaches the rectangle, and who is shown. `s` is part 1 of a sheet and `p` part 2.
+-- 02, requests 1 and 8: whose disk reaches the rectangle, and who is shown. `s` is part 1 of a sheet and `p` part 2.
 use Prim.Native.Nat.{ℕ, _+_, _*_, _≤_}
 use mathlib.Core.Path.{_≡_}
 use mathlib.Core.Bool.{Bool, true, _&&_}
@@ -9,7 +9,9 @@ use lib.Signed.{leZ}
 use Rattle.zoom.specs.Living.{livesAt}
 use Rattle.marks.specs.Marks.{xAt, yAt, usedAt, apart, distance}
 use Rattle.elimination.specs.Records.{valueAt}
-use Rattle.view.specs.declared.Rectangle.{Rectangle}
+use Rattle.turns.specs.declared.Place.{Place}
+use Rattle.turns.specs.Turns.{turnedPlace}
+use Rattle.view.specs.declared.Window.{Window}
 
 -- how far one place lies above another, from their difference: 0 where it does not
 abbrev pub above : ℤ → ℕ
@@ -20,26 +22,44 @@ above (negsuc d) = 0
 unfoldable pub gap : ℤ → ℤ → ℤ → ℕ
 gap low high z = above (low -ℤ z) + above (z -ℤ high)
 
+-- "the edges x0, x1, y0, y1", all of them inside
+pub record Rectangle : Type 0 where
+  pub x0 : ℤ
+  pub x1 : ℤ
+  pub y0 : ℤ
+  pub y1 : ℤ
+
 -- "the squared distance from point to rectangle"
-unfoldable pub distanceSquared : List ℕ → Rectangle → ℕ → ℕ
-distanceSquared s e m = distance (gap (e .x0) (e .x1) (xAt s m)) (gap (e .y0) (e .y1) (yAt s m))
+unfoldable pub distanceSquared : Rectangle → Place → ℕ
+distanceSquared e q = distance (gap (e .x0) (e .x1) (q .x)) (gap (e .y0) (e .y1) (q .y))
 
--- "its disk at z reaches the rectangle, touching included: the squared distance from point to rectangle, times 4096, is at most k²
--- times the squared radius"
-unfoldable pub reaches : List ℕ → ℕ → Rectangle → ℕ → Bool
-reaches s k e m = leb (4096 * distanceSquared s e m) (k * k * (usedAt s m * usedAt s m))
+-- The disk about the place q whose radius is r pixels, "at z reaches the rectangle, touching included: the squared distance from point to
+-- rectangle, times 4096, is at most k² times the squared radius".
+unfoldable pub diskReaches : ℕ → Rectangle → Place → ℕ → Bool
+diskReaches k e q r = leb (4096 * distanceSquared e q) (k * k * (r * r))
 
--- The same without that distance: the place (x, y) lies in the rectangle, edges included, and in mark m's disk at z = k/64. Laws has
--- that the disk reaches the rectangle exactly where there is such a place.
-pub record CommonPlace (s : List ℕ) (k : ℕ) (e : Rectangle) (m : ℕ) : Type 0 where
+abbrev pub placeAt : List ℕ → ℕ → Place
+placeAt s m = record { x = xAt s m; y = yAt s m }
+
+-- the edges of a window
+abbrev pub edgesOf : Window → Rectangle
+edgesOf w = record { x0 = w .x0; x1 = w .x1; y0 = w .y0; y1 = w .y1 }
+
+-- "its edges .. refer to turned places"
+unfoldable pub reaches : List ℕ → ℕ → Window → ℕ → Bool
+reaches s k w m = diskReaches k (edgesOf w) (turnedPlace (w .turn) (placeAt s m)) (usedAt s m)
+
+-- The same without that distance: the place (x, y) lies in the window, edges included, and in the disk at z = k/64 about mark m's turned
+-- place. Laws has that the disk reaches the window exactly where there is such a place.
+pub record CommonPlace (s : List ℕ) (k : ℕ) (w : Window) (m : ℕ) : Type 0 where
   pub x : ℤ
   pub y : ℤ
-  pub from-x0 : leZ (e .x0) x ≡ true
-  pub to-x1 : leZ x (e .x1) ≡ true
-  pub from-y0 : leZ (e .y0) y ≡ true
-  pub to-y1 : leZ y (e .y1) ≡ true
-  pub near : 4096 * distance (apart (xAt s m) x) (apart (yAt s m) y) ≤ k * k * (usedAt s m * usedAt s m)
+  pub from-x0 : leZ (w .x0) x ≡ true
+  pub to-x1 : leZ x (w .x1) ≡ true
+  pub from-y0 : leZ (w .y0) y ≡ true
+  pub to-y1 : leZ y (w .y1) ≡ true
+  pub near : (let q = turnedPlace (w .turn) (placeAt s m) in 4096 * distance (apart (q .x) x) (apart (q .y) y) ≤ k * k * (usedAt s m * usedAt s m))
 
 -- "a mark is shown if it lives and its disk at z reaches the rectangle"; 01: "The view uses the schedule as the sheet has it."
-unfoldable pub shown : List ℕ → List ℕ → ℕ → Rectangle → ℕ → Bool
-shown s p k e m = livesAt k (valueAt p m) && reaches s k e m
+unfoldable pub shown : List ℕ → List ℕ → ℕ → Window → ℕ → Bool
+shown s p k w m = livesAt k (valueAt p m) && reaches s k w m

@@ -1,58 +1,149 @@
 // Who is shown: the search down the index, the map and the count. `marks`, `schedule` and `index` are the bytes of parts 1, 2 and 3 of a
 // sheet; an `axis` is true for x.
+use turns::Place;
 ghost use mathlib.Core.Path.{_≡_};
+ghost use mathlib.Core.Bool.{true};
 ghost use mathlib.Core.List.{[], _∷_};
-ghost use Prim.Native.Nat.{_+_, _*_, _/_, _<_, _≤_};
+ghost use Prim.Native.Nat.{_+_, _-_, _*_, _/_, _<_, _≤_};
 ghost use lib.ListN.{length};
-ghost use lib.IntN.{pos, _-ℤ_};
+ghost use lib.IntN.{pos};
 ghost use Rattle.lists.specs.Blocks.{block};
 ghost use Rattle.zoom.specs.Zoom.{largestScale};
-ghost use Rattle.marks.specs.Marks.{markSize};
+ghost use Rattle.marks.specs.Marks.{markSize, shifted};
 ghost use Rattle.elimination.specs.Records.{recordSize};
 ghost use Rattle.index.specs.Index.{indexEntrySize};
 ghost use Rattle.index.specs.Blocks.{entryAt};
 ghost use Rattle.index.specs.Check.{AllMarked};
-ghost use Rattle.view.specs.Shown.{above, gap, reaches, shown};
+ghost use Rattle.view.specs.Shown.{shown};
+ghost use Rattle.view.specs.Questions.{isEdge, IsEdge, question20, question11};
 ghost use Rattle.view.specs.View.{Viewable, Viewed};
+ghost use Rattle.view.specs.Turning.{cornerOf, lower, higher, turnedBack, Edged, gapHere, reachesHere, shownHere};
 ghost use Rattle.view.specs.Search.{wider, widestLiving, moved, boundsOf, boundOn, isBeyond, sizeToSearch, BitsSet, Searchable};
+
+// ---- windows
+
+// What a view asks for: the edges, in places that are turned by so many quarter turns.
+pub struct Window {
+    pub x0: i32,
+    pub x1: i32,
+    pub y0: i32,
+    pub y1: i32,
+    pub turn: u8,
+}
+
+fn is_edge(v: i32) -> bool
+    ensures { λ r. ⌜ r ≡ isEdge v ⌝ }
+{
+    (-32768 <= v) & (v <= 32768)
+}
+
+// 20. Is the turn one of 0 to 3, and does each edge lie in the range of turned places?
+pub fn is_window(window: Window) -> bool
+    ensures { λ r. ⌜ r ≡ question20 window ⌝ }
+{
+    let x = is_edge(window.x0) & is_edge(window.x1);
+    let y = is_edge(window.y0) & is_edge(window.y1);
+    (window.turn <= 3) & x & y
+}
+
+// 11. Is x0 ≤ x1 and y0 ≤ y1?
+pub fn is_ordered(window: Window) -> bool
+    ensures { λ r. ⌜ r ≡ question11 window ⌝ }
+{
+    (window.x0 <= window.x1) & (window.y0 <= window.y1)
+}
+
+// Edges as the index orders places, shifted to be at least 0: those of a window, which decide who is shown, or those widened on each side, so
+// that the point of every shown mark lies in them, which decide which halves are searched.
+pub struct Bounds {
+    pub x0: u64,
+    pub x1: u64,
+    pub y0: u64,
+    pub y1: u64,
+}
+
+// A corner of a window, shifted likewise.
+struct Corner {
+    x: u64,
+    y: u64,
+}
+
+fn shifted(v: i32) -> u64
+    requires { ⌜ IsEdge v ⌝ }
+    ensures { λ r. ⌜ r ≡ shifted v ⌝ }
+{
+    (v + 32768) as u64
+}
+
+// A corner, turned.
+fn turned_corner(quarters: u8, x: i32, y: i32) -> Corner
+    requires { ⌜ (quarters ≤ 4) × IsEdge x × IsEdge y ⌝ }
+    ensures { λ r. ⌜ r ≡ cornerOf quarters x y ⌝ }
+{
+    let place = turns::applied(turns::turn(quarters), Place { x, y });
+    Corner {
+        x: shifted(place.x),
+        y: shifted(place.y),
+    }
+}
+
+fn lower(a: u64, b: u64) -> u64
+    ensures { λ r. ⌜ r ≡ lower a b ⌝ }
+{
+    if a <= b { a } else { b }
+}
+
+fn higher(a: u64, b: u64) -> u64
+    ensures { λ r. ⌜ r ≡ higher a b ⌝ }
+{
+    if a <= b { b } else { a }
+}
+
+// The window in the sheet's own places: two corners are turned on until all four quarter turns are made, which change no place. So the marks
+// need not be turned, nor the index.
+fn turned_back(window: Window) -> Bounds
+    requires { ⌜ question20 window ≡ true ⌝ }
+    ensures { λ r. ⌜ r ≡ turnedBack window ⌝ }
+{
+    let quarters = 4 - window.turn;
+    let a = turned_corner(quarters, window.x0, window.y0);
+    let b = turned_corner(quarters, window.x1, window.y1);
+    Bounds {
+        x0: lower(a.x, b.x),
+        x1: higher(a.x, b.x),
+        y0: lower(a.y, b.y),
+        y1: higher(a.y, b.y),
+    }
+}
 
 // ---- who is shown
 
-// "the edges x0, x1, y0, y1": a view's rectangle.
-pub struct Rectangle {
-    pub x0: i16,
-    pub x1: i16,
-    pub y0: i16,
-    pub y1: i16,
-}
-
-// How far place a lies above place b: 0 where it does not.
-fn above(a: i16, b: i16) -> u64
-    ensures { λ r. ⌜ (r ≡ above (a -ℤ b)) × (r ≤ 65535) ⌝ }
+// How far a lies above b: 0 where it does not.
+fn above(a: u64, b: u64) -> u64
+    ensures { λ r. ⌜ r ≡ a - b ⌝ }
 {
-    let p = marks::shifted(a);
-    let q = marks::shifted(b);
-    if q < p {
-        return (p - q) as u64;
+    if b < a {
+        return a - b;
     }
     0
 }
 
-// How far, on an axis, a place lies from the interval from `low` to `high`: 0 in it. One of the two differences is 0 where low ≤ high.
-fn gap(low: i16, high: i16, place: i16) -> i32
-    ensures { λ r. ⌜ (r ≡ pos (gap low high place)) × (gap low high place ≤ 131070) ⌝ }
+// How far, on an axis, a coordinate lies from the interval from `low` to `high`: 0 in it. One of the two differences is 0 where low ≤ high.
+fn gap(low: u64, high: u64, coordinate: u64) -> i32
+    requires { ⌜ (low ≤ 65536) × (coordinate ≤ 65536) ⌝ }
+    ensures { λ r. ⌜ (r ≡ pos (gapHere low high coordinate)) × (gapHere low high coordinate ≤ 131072) ⌝ }
 {
-    (above(low, place) + above(place, high)) as i32
+    (above(low, coordinate) + above(coordinate, high)) as i32
 }
 
-// Does mark m's disk at z = k/64 reach the rectangle, touching included? Both products fit 64 bits. Where the point lies inside the radius
+// Does mark m's disk at z = k/64 reach the window, touching included? Both products fit 64 bits. Where the point lies inside the radius
 // is not read: in a view of all places no mark's is.
-pub fn reaches(marks: &[u8], rectangle: Rectangle, k: u32, m: usize) -> bool
-    requires { ⌜ (markSize * m + markSize ≤ length (now marks)) × (k ≤ largestScale) ⌝ }
-    ensures { λ r. ⌜ r ≡ reaches (now (marks .entry)) k rectangle m ⌝ }
+fn reaches(marks: &[u8], edges: Bounds, k: u32, m: usize) -> bool
+    requires { ⌜ (markSize * m + markSize ≤ length (now marks)) × (k ≤ largestScale) × Edged edges ⌝ }
+    ensures { λ r. ⌜ r ≡ reachesHere (now (marks .entry)) k edges m ⌝ }
 {
-    let x = gap(rectangle.x0, rectangle.x1, marks::place_x(marks, m));
-    let y = gap(rectangle.y0, rectangle.y1, marks::place_y(marks, m));
+    let x = gap(edges.x0, edges.x1, index::coordinate(marks, true, m));
+    let y = gap(edges.y0, edges.y1, index::coordinate(marks, false, m));
     let squared = marks::distance(x, y);
     if squared == 0 {
         return true;
@@ -62,26 +153,17 @@ pub fn reaches(marks: &[u8], rectangle: Rectangle, k: u32, m: usize) -> bool
     4096 * squared <= scale * scale * (radius * radius)
 }
 
-// Sets mark m's bit if its disk at z reaches the rectangle.
-fn visit(marks: &[u8], rectangle: Rectangle, k: u32, m: usize, map: &mut [u8])
-    requires { ⌜ (markSize * m + markSize ≤ length (now marks)) × (k ≤ largestScale) × (m / 8 < length (now map)) ⌝ }
-    ensures { λ _. ⌜ BitsSet (reaches (now (marks .entry)) k rectangle) (m ∷ []) (now (map .entry)) (now (map .exit)) ⌝ }
+// Sets mark m's bit if its disk at z reaches the window.
+fn visit(marks: &[u8], edges: Bounds, k: u32, m: usize, map: &mut [u8])
+    requires { ⌜ (markSize * m + markSize ≤ length (now marks)) × (k ≤ largestScale) × Edged edges × (m / 8 < length (now map)) ⌝ }
+    ensures { λ _. ⌜ BitsSet (reachesHere (now (marks .entry)) k edges) (m ∷ []) (now (map .entry)) (now (map .exit)) ⌝ }
 {
-    if reaches(marks, rectangle, k, m) {
+    if reaches(marks, edges, k, m) {
         bitmap::set_bit(map, m);
     }
 }
 
 // ---- the search
-
-// The rectangle widened on each side, so that the point of every shown mark lies in it. The rectangle decides who is shown, the bounds
-// which halves are searched. They are coordinates as the index orders them, shifted to be at least 0.
-pub struct Bounds {
-    pub x0: u64,
-    pub x1: u64,
-    pub y0: u64,
-    pub y1: u64,
-}
 
 // The greater of `widest` and mark m's used radius, where m lives. Living is asked last: it takes a product, and most marks are not wider.
 fn wider(marks: &[u8], schedule: &[u8], k: u32, widest: u16, m: usize) -> u16
@@ -115,31 +197,27 @@ fn widest_living(marks: &[u8], schedule: &[u8], k: u32, n: usize) -> u16
 }
 
 // An edge moved down by `by`, at most to 0, or up.
-fn moved(edge: i16, low: bool, by: u64) -> u64
-    requires { ⌜ by ≤ largestScale * 65535 ⌝ }
+fn moved(edge: u64, low: bool, by: u64) -> u64
+    requires { ⌜ (edge ≤ 65536) × (by ≤ largestScale * 65535) ⌝ }
     ensures { λ r. ⌜ r ≡ moved edge low by ⌝ }
 {
-    let at = marks::shifted(edge) as u64;
     if !low {
-        return at + by;
+        return edge + by;
     }
-    if at < by {
-        return 0;
-    }
-    at - by
+    above(edge, by)
 }
 
-// The rectangle widened by what a disk of the radius `widest` takes up at z = k/64, rounded down: distances on an axis are whole.
-fn bounds_of(rectangle: Rectangle, k: u32, widest: u16) -> Bounds
-    requires { ⌜ k ≤ largestScale ⌝ }
-    ensures { λ r. ⌜ r ≡ boundsOf rectangle k widest ⌝ }
+// The edges widened by what a disk of the radius `widest` takes up at z = k/64, rounded down: distances on an axis are whole.
+fn bounds_of(edges: Bounds, k: u32, widest: u16) -> Bounds
+    requires { ⌜ Edged edges × (k ≤ largestScale) ⌝ }
+    ensures { λ r. ⌜ r ≡ boundsOf edges k widest ⌝ }
 {
     let by = k as u64 * widest as u64 / 64;
     Bounds {
-        x0: moved(rectangle.x0, true, by),
-        x1: moved(rectangle.x1, false, by),
-        y0: moved(rectangle.y0, true, by),
-        y1: moved(rectangle.y1, false, by),
+        x0: moved(edges.x0, true, by),
+        x1: moved(edges.x1, false, by),
+        y0: moved(edges.y0, true, by),
+        y1: moved(edges.y1, false, by),
     }
 }
 
@@ -193,12 +271,12 @@ fn size_to_search(
 }
 
 // Sets the bits of the shown marks of a block: the `size` numbers of the index from number `lo` on. A block's root is removed last, so
-// where it does not live no mark of the block lives. A root that does not reach the rectangle ends nothing: others of its block may.
+// where it does not live no mark of the block lives. A root that does not reach the window ends nothing: others of its block may.
 fn search(
     marks: &[u8],
     schedule: &[u8],
     index: &[u8],
-    rectangle: Rectangle,
+    edges: Bounds,
     bounds: Bounds,
     k: u32,
     map: &mut [u8],
@@ -206,8 +284,8 @@ fn search(
     size: usize,
     axis: bool,
 )
-    requires { ⌜ Searchable (shown (now marks) (now schedule) k rectangle) (now marks) (now schedule) (now index) (now map) bounds k lo size axis ⌝ }
-    ensures { λ _. ⌜ BitsSet (shown (now (marks .entry)) (now (schedule .entry)) k rectangle) (block (entryAt (now (index .entry))) lo size) (now (map .entry)) (now (map .exit)) ⌝ }
+    requires { ⌜ Searchable (shownHere (now marks) (now schedule) k edges) (now marks) (now schedule) (now index) (now map) bounds k lo size axis × Edged edges ⌝ }
+    ensures { λ _. ⌜ BitsSet (shownHere (now (marks .entry)) (now (schedule .entry)) k edges) (block (entryAt (now (index .entry))) lo size) (now (map .entry)) (now (map .exit)) ⌝ }
 {
     if size == 0 {
         return;
@@ -216,7 +294,7 @@ fn search(
     if !zoom::lives(elimination::value_at(schedule, root), k) {
         return;
     }
-    visit(marks, rectangle, k, root, map);
+    visit(marks, edges, k, root, map);
     // Of the others the first half is the larger: half of `size`, rounded down, since `size` counts the root too.
     let first = size / 2;
     let second = size - 1 - first;
@@ -227,7 +305,7 @@ fn search(
         marks,
         schedule,
         index,
-        rectangle,
+        edges,
         bounds,
         k,
         map,
@@ -240,7 +318,7 @@ fn search(
         marks,
         schedule,
         index,
-        rectangle,
+        edges,
         bounds,
         k,
         map,
@@ -256,27 +334,18 @@ pub fn show(
     schedule: &[u8],
     index: &[u8],
     n: usize,
-    rectangle: Rectangle,
+    window: Window,
     k: u32,
     map: &mut [u8],
 ) -> u32
     requires { ⌜ Viewable (now marks) (now schedule) (now index) (now map) n × (k ≤ largestScale) ⌝ }
-    ensures { λ r. ⌜ Viewed (shown (now (marks .entry)) (now (schedule .entry)) k rectangle) n (now (map .entry)) (now (map .exit)) r ⌝ }
+    requires { ⌜ (question20 window ≡ true) × (question11 window ≡ true) ⌝ }
+    ensures { λ r. ⌜ Viewed (shown (now (marks .entry)) (now (schedule .entry)) k window) n (now (map .entry)) (now (map .exit)) r ⌝ }
 {
+    let edges = turned_back(window);
     let size = (n + 7) / 8;
     bitmap::clear(map, size);
-    let bounds = bounds_of(rectangle, k, widest_living(marks, schedule, k, n));
-    search(
-        marks,
-        schedule,
-        index,
-        rectangle,
-        bounds,
-        k,
-        map,
-        0,
-        n,
-        true,
-    );
+    let bounds = bounds_of(edges, k, widest_living(marks, schedule, k, n));
+    search(marks, schedule, index, edges, bounds, k, map, 0, n, true);
     bitmap::count(map, size) as u32
 }

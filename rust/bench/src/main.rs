@@ -12,8 +12,11 @@ use oracle::mark::{write_marks, Mark};
 use oracle::rank::Edition;
 use oracle::sample::{marks, Shape};
 use oracle::sheet::{join, join_parts};
-use oracle::view::Edges;
-use rollmap::{map_bytes, scheduled_bytes, work_bytes, Refusal, View, Work, Zoom, EDITION_BYTES};
+use oracle::view::{Edges, Window};
+use rollmap::{
+    map_bytes, scheduled_bytes, work_bytes, Refusal, Turn, View, Work, Zoom, EDITION_BYTES,
+    FARTHEST_EDGE,
+};
 
 use plain::schedule::Desk;
 use race::{race, Micros};
@@ -51,9 +54,6 @@ const SMALL: [usize; 2] = [16, 64];
 
 /// The largest of them.
 const MOST: usize = 4_096;
-
-/// The rectangle of all places.
-const WHOLE: View = View::whole(Zoom::Stop(0));
 
 /// Rounds of scheduling that the least time is taken of.
 const ROUNDS: usize = 15;
@@ -406,43 +406,70 @@ fn checking() {
 }
 
 /// A square of so many map units about a place, as much of it as there is.
-fn square_about(x: i16, y: i16, half: i16) -> View {
-    View {
-        x0: x.saturating_sub(half),
-        x1: x.saturating_add(half),
-        y0: y.saturating_sub(half),
-        y1: y.saturating_add(half),
-        zoom: Zoom::Stop(0),
+fn square_about(x: i16, y: i16, half: i32) -> Edges {
+    let side = |at: i16| {
+        let edge = |edge: i32| edge.clamp(-FARTHEST_EDGE, FARTHEST_EDGE);
+        [edge(i32::from(at) - half), edge(i32::from(at) + half)]
+    };
+    let ([x0, x1], [y0, y1]) = (side(x), side(y));
+    Edges { x0, x1, y0, y1 }
+}
+
+/// The edges to which a quarter turn takes these.
+fn quarter_turned(edges: Edges) -> Edges {
+    let Edges { x0, x1, y0, y1 } = edges;
+    Edges {
+        x0: -y1,
+        x1: -y0,
+        y0: x0,
+        y1: x1,
     }
 }
 
-/// The least times of a view at k/64: proved, plain, and of the proved check alone. The
-/// first two are seen to show the same. Answers how many marks are shown and looked at, too.
-fn time_view(sheet: &[u8], rectangle: View, k: u32) -> ([usize; 2], [Micros; 3]) {
-    let wheel = k as f32 / 64.0;
-    let View { x0, x1, y0, y1, .. } = rectangle;
-    let ours = View {
+/// A window as the bindings have it, at a wheel value.
+fn bound(window: Window, wheel: f32) -> View {
+    let Edges { x0, x1, y0, y1 } = window.edges;
+    View {
+        x0,
+        x1,
+        y0,
+        y1,
+        turn: Turn::from_quarters(window.turn).expect("there is such a turn"),
         zoom: Zoom::Wheel(wheel),
-        ..rectangle
-    };
-    let (edges, zoom) = (Edges { x0, x1, y0, y1 }, oracle::zoom::Zoom::Wheel(wheel));
-    let mut map = vec![0; map_bytes(MOST)];
-    let mut plain_map = map.clone();
-    let count = rollmap::view(sheet, ours, &mut map);
-    let plain_count = plain::view::view(sheet, edges, zoom, &mut plain_map);
-    assert_eq!(count.ok(), plain_count.ok());
-    assert_eq!(map, plain_map);
+    }
+}
+
+/// The least times of a view at k/64: proved, plain, and of the proved check alone; then
+/// proved and plain with a quarter turn, of the same places. All views are seen to show the
+/// same. Answers how many marks are shown and looked at, too.
+fn time_view(sheet: &[u8], edges: Edges, k: u32) -> ([usize; 2], [Micros; 5]) {
+    let wheel = k as f32 / 64.0;
+    let zoom = oracle::zoom::Zoom::Wheel(wheel);
+    let (upright, turned) = (edges.unturned(), quarter_turned(edges).of_turned(1));
+    let [ours, ours_turned] = [upright, turned].map(|window| bound(window, wheel));
+    let mut maps = [(); 4].map(|()| vec![0; map_bytes(MOST)]);
+    let [map, plain_map, map_turned, plain_map_turned] = &mut maps;
+    let counts = [
+        rollmap::view(sheet, ours, map).ok(),
+        plain::view::view(sheet, upright, zoom, plain_map).ok(),
+        rollmap::view(sheet, ours_turned, map_turned).ok(),
+        plain::view::view(sheet, turned, zoom, plain_map_turned).ok(),
+    ];
     let times = race(
         QUICK_ROUNDS,
         1,
         [
-            &mut || _ = black_box(rollmap::view(sheet, ours, &mut map)),
-            &mut || _ = black_box(plain::view::view(sheet, edges, zoom, &mut plain_map)),
+            &mut || _ = black_box(rollmap::view(sheet, ours, map)),
+            &mut || _ = black_box(plain::view::view(sheet, upright, zoom, plain_map)),
             &mut || _ = black_box(rollmap::check(sheet)),
+            &mut || _ = black_box(rollmap::view(sheet, ours_turned, map_turned)),
+            &mut || _ = black_box(plain::view::view(sheet, turned, zoom, plain_map_turned)),
         ],
     );
-    let visited = plain::view::visited(sheet, edges, zoom);
-    let count = plain_count.expect("the view is taken") as usize;
+    assert!(maps.iter().all(|map| *map == maps[0]), "all show the same");
+    assert_eq!(counts, [counts[0]; 4]);
+    let visited = plain::view::visited(sheet, upright, zoom);
+    let count = counts[0].expect("the view is taken") as usize;
     ([count, visited.expect("the view is taken")], times)
 }
 
@@ -459,21 +486,31 @@ fn viewing() {
             "plain Rust, µs",
             "ratio",
             "times the check alone",
+            "proved with a quarter turn, µs",
+            "times the view without it",
+            "plain Rust with it, µs",
+            "ratio",
         ],
     );
     for (name, shape) in VIEWED {
         let sheet = scheduled(shape, MOST);
         let first = marks(shape, MOST, 1)[0];
         let small = square_about(first.x, first.y, 500);
-        for (size, rectangle) in [("1,000 wide", small), ("whole", WHOLE)] {
+        for (size, edges) in [("1,000 wide", small), ("whole", Edges::WHOLE)] {
             for k in [1, 64, 1_024, 16_384] {
-                let ([count, visited], [ours, theirs, check]) = time_view(&sheet, rectangle, k);
+                let ([count, visited], times) = time_view(&sheet, edges, k);
+                let [ours, theirs, check, turned, theirs_turned] = times;
                 println!(
-                    "| {name} | {size} | {k} | {count} | {visited} | {:.1} | {:.1} | {:.2} | {:.2} |",
+                    "| {name} | {size} | {k} | {count} | {visited} | {:.1} | {:.1} | {:.2} | {:.2} \
+                     | {:.1} | {:.2} | {:.1} | {:.2} |",
                     ours.0,
                     theirs.0,
                     ours.over(theirs),
                     ours.over(check),
+                    turned.0,
+                    turned.over(ours),
+                    theirs_turned.0,
+                    turned.over(theirs_turned),
                 );
             }
         }

@@ -2,6 +2,7 @@
 //! removal').
 
 use crate::fraction::Fraction;
+use crate::turn::turned;
 
 /// A place in map units and a used radius in screen pixels: at zoom z the label is a
 /// disk about the place, of z times the radius.
@@ -24,6 +25,12 @@ impl Label {
             denominator: reach * reach,
         }
     }
+
+    /// The label with its place turned so many quarter turns (02, request 8).
+    pub fn turned(self, turn: u8) -> Self {
+        let (x, y) = turned(turn, self.x, self.y);
+        Self { x, y, ..self }
+    }
 }
 
 /// The squared distance of two places that lie so far apart along x and along y.
@@ -43,6 +50,19 @@ mod tests {
             assert_eq!(squared_distance(d, 0), 4_294_836_225);
             assert_eq!(squared_distance(0, d), 4_294_836_225);
             assert_eq!(squared_distance(d, -d), 8_589_672_450);
+        }
+        // From a turned place to an edge it is one more.
+        assert_eq!(squared_distance(65_536, -65_536), 1 << 33);
+    }
+
+    #[test]
+    fn a_turned_label_keeps_its_radius_and_its_distances() {
+        let of = |x, y, radius| Label { x, y, radius };
+        let (a, b) = (of(-32_768, 32_767, 40), of(300, -7, 16_383));
+        assert_eq!(a.turned(3), of(32_767, 32_768, 40));
+        for turn in 0..=3 {
+            let value = a.turned(turn).touching_value(b.turned(turn));
+            assert_eq!(value, a.touching_value(b));
         }
     }
 

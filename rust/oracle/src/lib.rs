@@ -13,7 +13,8 @@
 //!
 //! A call that 01 can refuse answers `Result<_, Refusal>`; the error is the
 //! number of the first question of 01, 'Questions put in turn', whose answer is
-//! no. Where a comment says that 4 to 9 are asked, 02's question 19 is asked after 7.
+//! no. Where a comment says that 4 to 9 are asked, 02's question 19 is asked after 7, and
+//! where it says that 10 and 11 are, 02's question 20 between them.
 //! Buffers are not written here: a call takes the lengths of the buffers it would
 //! borrow and answers the bytes it would write.
 
@@ -35,6 +36,7 @@ pub mod rules;
 pub mod sample;
 pub mod sheet;
 pub mod tree;
+pub mod turn;
 pub mod view;
 pub mod zoom;
 

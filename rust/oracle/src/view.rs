@@ -1,46 +1,80 @@
-//! The view and who is shown in it (01, 'The view and its map'; 02, request 1).
+//! The view and who is shown in it (01, 'The view and its map'; 02, requests 1 and 8).
 
 use crate::fraction::Removal;
-use crate::label::squared_distance;
+use crate::label::{squared_distance, Label};
 use crate::map::{map_bytes, set_bit};
 use crate::mark::Mark;
 use crate::record::removals;
 use crate::sheet::open;
+use crate::turn::MOST_TURNS;
 use crate::zoom::{lives, zoom_in_64ths, Zoom};
 use crate::{ask, Refusal};
+
+/// How far out an edge lies at most, on either side of 0.
+pub const FARTHEST_EDGE: i32 = 32_768;
 
 /// The edges of a view, all of them inside it.
 #[derive(Clone, Copy, Debug, PartialEq, Eq)]
 pub struct Edges {
-    pub x0: i16,
-    pub x1: i16,
-    pub y0: i16,
-    pub y1: i16,
+    pub x0: i32,
+    pub x1: i32,
+    pub y0: i32,
+    pub y1: i32,
 }
 
 impl Edges {
-    /// The edges of all places.
+    /// The edges of all places, turned ones too.
     pub const WHOLE: Self = Self {
-        x0: i16::MIN,
-        x1: i16::MAX,
-        y0: i16::MIN,
-        y1: i16::MAX,
+        x0: -FARTHEST_EDGE,
+        x1: FARTHEST_EDGE,
+        y0: -FARTHEST_EDGE,
+        y1: FARTHEST_EDGE,
     };
+
+    /// The view's rectangle without a turn.
+    pub const fn unturned(self) -> Window {
+        self.of_turned(0)
+    }
+
+    /// The view's rectangle of places that are turned so many quarter turns.
+    pub const fn of_turned(self, turn: u8) -> Window {
+        Window { edges: self, turn }
+    }
 }
 
-/// Whether a mark's disk at zoom k/64 reaches the rectangle, touching included: the
-/// squared distance from the mark's point to the rectangle, times 4096, is at most k²
-/// times the squared radius. The nearest place of the rectangle is the point itself
-/// where it lies inside.
+/// What a view looks at: its edges, which "refer to turned places", and the turn.
+#[derive(Clone, Copy, Debug, PartialEq, Eq)]
+pub struct Window {
+    pub edges: Edges,
+    pub turn: u8,
+}
+
+impl Window {
+    /// All places without a turn.
+    pub const WHOLE: Self = Edges::WHOLE.unturned();
+}
+
+/// Whether a mark's disk at zoom k/64 reaches the rectangle, once its place is turned.
 ///
 /// # Panics
 ///
 /// On marks that question 5 refuses, and edges that question 11 refuses.
+pub fn reaches(mark: &Mark, window: Window, k: u32) -> bool {
+    disk_reaches(mark.label().turned(window.turn), window.edges, k)
+}
+
+/// Whether a label's disk at zoom k/64 reaches the rectangle, touching included: the
+/// squared distance from the label's place to the rectangle, times 4096, is at most k²
+/// times the squared radius. The nearest place of the rectangle is the place itself
+/// where it lies inside.
+///
+/// # Panics
+///
+/// On edges that question 11 refuses.
 #[inline]
-pub fn reaches(mark: &Mark, edges: Edges, k: u32) -> bool {
-    let label = mark.label();
-    let dx = label.x - i32::from(mark.x.clamp(edges.x0, edges.x1));
-    let dy = label.y - i32::from(mark.y.clamp(edges.y0, edges.y1));
+pub fn disk_reaches(label: Label, edges: Edges, k: u32) -> bool {
+    let dx = label.x - label.x.clamp(edges.x0, edges.x1);
+    let dy = label.y - label.y.clamp(edges.y0, edges.y1);
     let (k, radius) = (u64::from(k), u64::from(label.radius));
     4_096 * squared_distance(dx, dy) <= k * k * (radius * radius)
 }
@@ -50,40 +84,52 @@ pub fn reaches(mark: &Mark, edges: Edges, k: u32) -> bool {
 /// # Panics
 ///
 /// As [`reaches`] does.
-pub fn shown(mark: &Mark, removal: Removal, edges: Edges, k: u32) -> bool {
-    lives(removal, k) && reaches(mark, edges, k)
+pub fn shown(mark: &Mark, removal: Removal, window: Window, k: u32) -> bool {
+    lives(removal, k) && reaches(mark, window, k)
 }
 
 /// Answers a view by looking at every mark: the bytes written to the map, and the
 /// count of shown marks. Asks 1 to 13.
 pub fn view(
     sheet: &[u8],
-    edges: Edges,
+    window: Window,
     zoom: Zoom,
     map_length: usize,
 ) -> Result<(Vec<u8>, u32), Refusal> {
     let opened = open(sheet)?;
     let records = opened.indexed_records()?;
-    let k = ask_view(edges, zoom)?;
+    let k = ask_view(window, zoom)?;
     ask(13, map_length >= map_bytes(opened.marks.len()))?;
-    Ok(map_and_count(&opened.marks, &removals(records), edges, k))
+    Ok(map_and_count(&opened.marks, &removals(records), window, k))
 }
 
 /// The map of the shown marks, and their count.
-pub fn map_and_count(marks: &[Mark], removals: &[Removal], edges: Edges, k: u32) -> (Vec<u8>, u32) {
+pub fn map_and_count(
+    marks: &[Mark],
+    removals: &[Removal],
+    window: Window,
+    k: u32,
+) -> (Vec<u8>, u32) {
     let mut map = vec![0; map_bytes(marks.len())];
     let mut count = 0;
     for (number, (mark, &removal)) in marks.iter().zip(removals).enumerate() {
-        let shown = shown(mark, removal, edges, k);
+        let shown = shown(mark, removal, window, k);
         set_bit(&mut map, number, shown);
         count += u32::from(shown);
     }
     (map, count)
 }
 
-/// The zoom of a view in 64ths. Asks 11 of the edges, and 12.
-pub fn ask_view(edges: Edges, zoom: Zoom) -> Result<u32, Refusal> {
-    ask(11, edges.x0 <= edges.x1 && edges.y0 <= edges.y1)?;
+/// The zoom of a view in 64ths. Asks 20 of the turn and the edges, 11 of the edges, and
+/// 12.
+pub fn ask_view(window: Window, zoom: Zoom) -> Result<u32, Refusal> {
+    let Edges { x0, x1, y0, y1 } = window.edges;
+    let within = |edge| (-FARTHEST_EDGE..=FARTHEST_EDGE).contains(&edge);
+    ask(
+        20,
+        window.turn <= MOST_TURNS && [x0, x1, y0, y1].into_iter().all(within),
+    )?;
+    ask(11, x0 <= x1 && y0 <= y1)?;
     zoom_in_64ths(zoom)
 }
 
@@ -91,7 +137,14 @@ pub fn ask_view(edges: Edges, zoom: Zoom) -> Result<u32, Refusal> {
 mod tests {
     use super::*;
 
-    fn edges(x0: i16, x1: i16, y0: i16, y1: i16) -> Edges {
+    /// These edges, without a turn.
+    fn window(x0: i32, x1: i32, y0: i32, y1: i32) -> Window {
+        Edges { x0, x1, y0, y1 }.unturned()
+    }
+
+    /// The edges of one place.
+    fn about(x: i32, y: i32) -> Edges {
+        let (x0, x1, y0, y1) = (x, x, y, y);
         Edges { x0, x1, y0, y1 }
     }
 
@@ -100,12 +153,12 @@ mod tests {
 
     #[test]
     fn a_disk_that_touches_the_rectangle_reaches_it() {
-        let beside = |d: i16| {
+        let beside = |d: i32| {
             [
-                edges(d, 200, -9, 9),
-                edges(-200, -d, -9, 9),
-                edges(-9, 9, d, 200),
-                edges(-9, 9, -200, -d),
+                window(d, 200, -9, 9),
+                window(-200, -d, -9, 9),
+                window(-9, 9, d, 200),
+                window(-9, 9, -200, -d),
             ]
         };
         assert!(beside(50).iter().all(|&e| reaches(&TEN_WIDE, e, 320)));
@@ -116,26 +169,26 @@ mod tests {
     #[test]
     fn towards_a_corner_both_axes_count() {
         // 30, 40 and 50 are the sides of a right triangle.
-        let corner = edges(30, 99, 40, 99);
+        let corner = window(30, 99, 40, 99);
         assert!(reaches(&TEN_WIDE, corner, 320));
         assert!(!reaches(&TEN_WIDE, corner, 319));
-        assert!(!reaches(&TEN_WIDE, edges(31, 99, 40, 99), 320));
-        assert!(!reaches(&TEN_WIDE, edges(30, 99, 41, 99), 320));
+        assert!(!reaches(&TEN_WIDE, window(31, 99, 40, 99), 320));
+        assert!(!reaches(&TEN_WIDE, window(30, 99, 41, 99), 320));
     }
 
     #[test]
     fn a_disk_reaches_the_rectangles_that_have_a_place_in_it() {
         let mark = Mark::plain(0, 0, 3, 0);
-        let side = |low: i16| (low..=6).map(move |high| (low, high));
+        let side = |low: i32| (low..=6).map(move |high| (low, high));
         for k in [1, 40, 64, 100] {
-            let in_disk = |x: i16, y: i16| {
+            let in_disk = |x: i32, y: i32| {
                 let squared = i64::from(x).pow(2) + i64::from(y).pow(2);
                 4_096 * squared <= i64::from(k).pow(2) * 9
             };
             for (x0, x1) in (-6..=6).flat_map(side) {
                 for (y0, y1) in (-6..=6).flat_map(side) {
                     let any = (x0..=x1).any(|x| (y0..=y1).any(|y| in_disk(x, y)));
-                    assert_eq!(reaches(&mark, edges(x0, x1, y0, y1), k), any);
+                    assert_eq!(reaches(&mark, window(x0, x1, y0, y1), k), any);
                 }
             }
         }
@@ -148,18 +201,75 @@ mod tests {
             kind: 10,
             ..TEN_WIDE
         };
-        assert!(reaches(&patch, edges(60, 99, 0, 0), 64));
-        assert!(!reaches(&patch, edges(61, 99, 0, 0), 64));
+        assert!(reaches(&patch, window(60, 99, 0, 0), 64));
+        assert!(!reaches(&patch, window(61, 99, 0, 0), 64));
     }
 
     #[test]
     fn the_widest_disks_are_compared_without_wrapping() {
-        let (low, high) = (i16::MIN, i16::MAX);
-        let far = edges(high, high, high, high);
+        let low = i16::MIN;
         let widest = Mark::plain(low, low, 16_383, 0);
-        assert!(!reaches(&widest, far, 362));
-        assert!(reaches(&widest, far, 363));
-        assert!(reaches(&widest, far, 65_536));
-        assert!(!reaches(&Mark::plain(low, low, 1, 0), far, 65_536));
+        for high in [32_767, 32_768] {
+            let far = window(high, high, high, high);
+            assert!(!reaches(&widest, far, 362));
+            assert!(reaches(&widest, far, 363));
+            assert!(reaches(&widest, far, 65_536));
+            assert!(!reaches(&Mark::plain(low, low, 1, 0), far, 65_536));
+        }
+    }
+
+    #[test]
+    fn a_disk_reaches_a_rectangle_of_turned_places() {
+        // At zoom 5 its disk has radius 50, about (70, -20).
+        let mark = Mark::plain(70, -20, 10, 0);
+        let at = |turn, x, y| reaches(&mark, about(x, y).of_turned(turn), 320);
+        for (turn, x, y) in [(0, 70, -20), (1, 20, 70), (2, -70, 20), (3, -20, -70)] {
+            for (dx, dy) in [(50, 0), (-50, 0), (0, 50), (30, -40), (-40, -30)] {
+                assert!(at(turn, x + dx, y + dy));
+                assert!(!at(turn, x + dx + dx.signum(), y + dy + dy.signum()));
+            }
+        }
+    }
+
+    #[test]
+    fn a_place_that_is_turned_beyond_the_range_of_places_is_reached() {
+        let mark = Mark::plain(i16::MIN, i16::MIN, 1, 0);
+        let unturned = Edges {
+            x1: 32_767,
+            y1: 32_767,
+            ..Edges::WHOLE
+        };
+        // The turned place, and the least k at which a place that is not turned is near.
+        for (turn, x, y, near) in [
+            (1, 32_768, -32_768, 64),
+            (2, 32_768, 32_768, 91),
+            (3, -32_768, 32_768, 64),
+        ] {
+            assert!(reaches(&mark, about(x, y).of_turned(turn), 1));
+            assert!(reaches(&mark, Edges::WHOLE.of_turned(turn), 1));
+            assert!(!reaches(&mark, unturned.of_turned(turn), near - 1));
+            assert!(reaches(&mark, unturned.of_turned(turn), near));
+        }
+    }
+
+    #[test]
+    fn question_20_takes_three_turns_and_edges_up_to_the_farthest() {
+        let zoom = Zoom::Stop(0);
+        for turn in 0..=255 {
+            let expected = if turn <= 3 { Ok(1) } else { Err(20) };
+            assert_eq!(ask_view(Edges::WHOLE.of_turned(turn), zoom), expected);
+        }
+        let beyond = [32_769, -32_769, i32::MAX, i32::MIN, 65_536, -65_536];
+        for (turn, edge) in (0..=3).flat_map(|turn| beyond.map(|edge| (turn, edge))) {
+            let whole = Edges::WHOLE;
+            for edges in [
+                Edges { x0: edge, ..whole },
+                Edges { x1: edge, ..whole },
+                Edges { y0: edge, ..whole },
+                Edges { y1: edge, ..whole },
+            ] {
+                assert_eq!(ask_view(edges.of_turned(turn), zoom), Err(20));
+            }
+        }
     }
 }

@@ -17,16 +17,16 @@ use oracle::rules::{keep_both, Breach};
 use oracle::sample::{P1, TIED_IN_TREE, TIED_RECORDS};
 use oracle::sheet::{check, open, split};
 use oracle::tree;
-use oracle::view::{reaches, view, Edges};
+use oracle::view::{reaches, view, Edges, Window};
 use oracle::zoom::Zoom;
 
 /// The rectangle of P3 and P4.
-const P3: Edges = Edges {
-    x0: 50,
-    x1: 250,
-    y0: -10,
-    y1: 10,
-};
+const P3: Window = edges(50, 250, -10, 10).unturned();
+
+/// These edges.
+const fn edges(x0: i32, x1: i32, y0: i32, y1: i32) -> Edges {
+    Edges { x0, x1, y0, y1 }
+}
 
 /// The records that scheduling these marks writes.
 fn records(marks: &[Mark]) -> Vec<Record> {
@@ -266,17 +266,17 @@ fn false_that_a_removed_mark_still_blocks_others() {
 
 /// The marks that reach the rectangle and that a search down the tree comes to, the
 /// living left aside; a cut search ends where a root does not reach it.
-fn search(marks: &[Mark], tree: &[u16], edges: Edges, k: u32, cut: bool) -> Vec<usize> {
+fn search(marks: &[Mark], tree: &[u16], window: Window, k: u32, cut: bool) -> Vec<usize> {
     let Some((&root, left, right)) = tree::branches(tree) else {
         return Vec::new();
     };
     let root = usize::from(root);
-    let reached = reaches(&marks[root], edges, k);
+    let reached = reaches(&marks[root], window, k);
     if cut && !reached {
         return Vec::new();
     }
-    let mut found = search(marks, left, edges, k, cut);
-    found.extend(search(marks, right, edges, k, cut));
+    let mut found = search(marks, left, window, k, cut);
+    found.extend(search(marks, right, window, k, cut));
     found.extend(reached.then_some(root));
     found
 }
@@ -297,19 +297,19 @@ fn search_halves(
     marks: &[Mark],
     tree: &[u16],
     edges: Edges,
-    widened: fn(&Mark) -> i16,
+    widened: fn(&Mark) -> i32,
 ) -> Vec<usize> {
     let mark = |number: u16| marks[usize::from(number)];
     let (&root, left, right) = tree::branches(tree).unwrap();
     let by = widened(&mark(root));
     let mut numbers = vec![root];
-    if mark(right[0]).x >= edges.x0 - by {
+    if mark(right[0]).label().x >= edges.x0 - by {
         numbers.extend(left);
     }
-    if mark(left[0]).x <= edges.x1 + by {
+    if mark(left[0]).label().x <= edges.x1 + by {
         numbers.extend(right);
     }
-    let reached = |&number: &usize| reaches(&marks[number], edges, 64);
+    let reached = |&number: &usize| reaches(&marks[number], edges.unturned(), 64);
     numbers
         .into_iter()
         .map(usize::from)
@@ -325,19 +325,14 @@ fn false_that_halves_may_be_cut_by_the_rectangle_or_by_a_roots_own_radius() {
         Mark::plain(-1_000, 0, 500, 5),
         Mark::plain(-700, 0, 1, 4),
     ];
-    let edges = Edges {
-        x0: -600,
-        x1: -550,
-        y0: 0,
-        y1: 0,
-    };
-    let seen = view(&scheduled(&marks), edges, Zoom::Wheel(1.0), 1);
+    let edges = edges(-600, -550, 0, 0);
+    let seen = view(&scheduled(&marks), edges.unturned(), Zoom::Wheel(1.0), 1);
     assert_eq!(seen, Ok((vec![0x02], 1)));
     let tree = tree::build(&marks, &records(&marks));
     assert_eq!(tree, [0, 1, 2]);
     assert_eq!(search_halves(&marks, &tree, edges, |_| 500), [1]);
     assert!(search_halves(&marks, &tree, edges, |_| 0).is_empty());
-    assert!(search_halves(&marks, &tree, edges, |root| root.radius as i16).is_empty());
+    assert!(search_halves(&marks, &tree, edges, |root| root.radius.into()).is_empty());
 }
 
 // ---- editions
@@ -436,4 +431,34 @@ fn an_edition_is_kept() {
     assert_eq!(split(&kept).unwrap().get(4), Some(&[2][..]));
     assert_eq!(kept[..2], [4, 0]);
     assert_eq!(kept.last(), Some(&2));
+}
+
+// ---- turns
+
+#[test]
+fn p3_and_p4_with_every_turn() {
+    let sheet = scheduled(&P1);
+    for (turn, edges) in [
+        (0, edges(50, 250, -10, 10)),
+        (1, edges(-10, 10, 50, 250)),
+        (2, edges(-250, -50, -10, 10)),
+        (3, edges(-10, 10, -250, -50)),
+    ] {
+        let view = |turn, wheel| view(&sheet, edges.of_turned(turn), Zoom::Wheel(wheel), 1);
+        assert_eq!(view(turn, 1.0), Ok((vec![0x06], 2)));
+        assert_eq!(view(turn, 5.0), Ok((vec![0x05], 2)));
+        // Turned the other way, the marks lie on the other side.
+        assert_eq!(view((turn + 2) % 4, 1.0), Ok((vec![0x00], 0)));
+    }
+}
+
+#[test]
+fn false_that_a_turn_goes_the_other_way() {
+    // The place (0, 3) of mark 3 is turned to (-3, 0), and not to (3, 0).
+    let sheet = scheduled(&P1);
+    let at = |x, turn| view(&sheet, edges(x, x, 0, 0).of_turned(turn), Zoom::Stop(0), 1);
+    assert_eq!(at(-3, 1), Ok((vec![0x08], 1)));
+    assert_eq!(at(3, 1), Ok((vec![0x00], 0)));
+    assert_eq!(at(3, 3), Ok((vec![0x08], 1)));
+    assert_eq!(at(-3, 3), Ok((vec![0x00], 0)));
 }

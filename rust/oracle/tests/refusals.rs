@@ -15,7 +15,7 @@ use oracle::report::print;
 use oracle::sample::{each_list, marks, raw_sheet, refused_sheets, Shape, CODES_TAKEN, P1};
 use oracle::sheet::{assemble, check, join, join_parts, schedule};
 use oracle::tree;
-use oracle::view::{view, Edges};
+use oracle::view::{view, Edges, Window};
 use oracle::zoom::Zoom;
 
 const UNKNOWN_KIND: Mark = Mark {
@@ -466,7 +466,7 @@ fn question_9_comes_after_8() {
 
 /// What a view answers that shows all it can.
 fn view_all(sheet: &[u8]) -> Result<(Vec<u8>, u32), u32> {
-    view(sheet, Edges::WHOLE, Zoom::Stop(0), 512)
+    view(sheet, Window::WHOLE, Zoom::Stop(0), 512)
 }
 
 #[test]
@@ -487,7 +487,7 @@ fn question_10_there_is_not_longer_than_0() {
     assert_eq!(view_all(&join(&[&[], &[]])), Err(10));
     let empty = join(&[&[], &[], &[]]);
     assert_eq!(
-        view(&empty, Edges::WHOLE, Zoom::Stop(0), 0),
+        view(&empty, Window::WHOLE, Zoom::Stop(0), 0),
         Ok((vec![], 0))
     );
 }
@@ -496,18 +496,44 @@ fn question_10_there_is_not_longer_than_0() {
 fn question_11_edges_in_order() {
     let sheet = three_parts(&P1, &p1_records());
     let number = |x0, x1, y0, y1| {
-        let edges = Edges { x0, x1, y0, y1 };
-        view(&sheet, edges, Zoom::Stop(0), 1).map(|(_, count)| count)
+        let window = Edges { x0, x1, y0, y1 }.unturned();
+        view(&sheet, window, Zoom::Stop(0), 1).map(|(_, count)| count)
     };
     assert_eq!(number(100, 100, 0, 0), Ok(1));
     assert_eq!(number(101, 100, 0, 0), Err(11));
     assert_eq!(number(100, 100, 1, 0), Err(11));
-    assert_eq!(number(i16::MAX, i16::MIN, 0, 0), Err(11));
-    assert_eq!(number(i16::MIN, i16::MAX, i16::MIN, i16::MAX), Ok(4));
+    assert_eq!(number(32_767, -32_768, 0, 0), Err(11));
+    assert_eq!(number(32_768, -32_768, 0, 0), Err(11));
+    assert_eq!(number(-32_768, 32_767, -32_768, 32_767), Ok(4));
+    assert_eq!(number(-32_768, 32_768, -32_768, 32_768), Ok(4));
 }
 
 #[test]
-fn view_puts_9_to_13_in_order() {
+fn question_20_a_turn_that_there_is_and_edges_within_the_range() {
+    let sheet = three_parts(&P1, &p1_records());
+    let number = |edges: Edges, turn| {
+        let answer = view(&sheet, edges.of_turned(turn), Zoom::Stop(0), 1);
+        answer.map(|(_, count)| count)
+    };
+    for turn in 0..=255 {
+        let expected = if turn <= 3 { Ok(4) } else { Err(20) };
+        assert_eq!(number(Edges::WHOLE, turn), expected);
+    }
+    for turn in 0..=3 {
+        for beyond in [-32_769, 32_769, i32::MIN, i32::MAX, 65_536, -65_536] {
+            let each = [0, 1, 2, 3].map(|at| {
+                let mut edges = [-32_768, 32_768, -32_768, 32_768];
+                edges[at] = beyond;
+                let [x0, x1, y0, y1] = edges;
+                Edges { x0, x1, y0, y1 }
+            });
+            assert_eq!(each.map(|edges| number(edges, turn)), [Err(20); 4]);
+        }
+    }
+}
+
+#[test]
+fn view_puts_9_10_20_and_11_to_13_in_order() {
     let sheet = three_parts(&P1, &p1_records());
     let wrong_tree = with_tree(&P1, &p1_records(), &[0, 1, 2, 3]);
     let crossed = Edges {
@@ -515,19 +541,27 @@ fn view_puts_9_to_13_in_order() {
         x1: 0,
         ..Edges::WHOLE
     };
+    let far = Edges {
+        y0: 32_769,
+        ..crossed
+    };
     let (bad, good) = (Zoom::Stop(17), Zoom::Stop(16));
-    assert_eq!(view(&wrong_tree, crossed, bad, 0), Err(9));
-    assert_eq!(view(&one_part(&P1), crossed, bad, 0), Err(10));
-    assert_eq!(view(&sheet, crossed, bad, 0), Err(11));
-    assert_eq!(view(&sheet, Edges::WHOLE, bad, 0), Err(12));
-    assert_eq!(view(&sheet, Edges::WHOLE, good, 0), Err(13));
-    assert_eq!(view(&sheet, Edges::WHOLE, good, 1), Ok((vec![0x01], 1)));
+    for outside in [crossed.of_turned(4), far.unturned(), far.of_turned(255)] {
+        assert_eq!(view(&wrong_tree, outside, bad, 0), Err(9));
+        assert_eq!(view(&one_part(&P1), outside, bad, 0), Err(10));
+        assert_eq!(view(&sheet, outside, bad, 0), Err(20));
+        assert_eq!(view(&sheet, outside, good, 1), Err(20));
+    }
+    assert_eq!(view(&sheet, crossed.of_turned(3), bad, 0), Err(11));
+    assert_eq!(view(&sheet, Window::WHOLE, bad, 0), Err(12));
+    assert_eq!(view(&sheet, Window::WHOLE, good, 0), Err(13));
+    assert_eq!(view(&sheet, Window::WHOLE, good, 1), Ok((vec![0x01], 1)));
 }
 
 #[test]
 fn question_12_zooms() {
     let sheet = three_parts(&P1, &p1_records());
-    let number = |zoom| view(&sheet, Edges::WHOLE, zoom, 1).map(|(_, count)| count);
+    let number = |zoom| view(&sheet, Window::WHOLE, zoom, 1).map(|(_, count)| count);
     assert_eq!(number(Zoom::Stop(0)), Ok(4));
     assert_eq!(number(Zoom::Stop(80)), Err(12));
     assert_eq!(number(Zoom::Wheel(0.0)), Err(12));
@@ -544,9 +578,9 @@ fn question_13_of_a_map() {
         let marks = marks(Shape::Line, n, 1);
         let sheet = three_parts(&marks, &vec![Record::NEVER; n]);
         let bytes = n.div_ceil(8);
-        let short = view(&sheet, Edges::WHOLE, Zoom::Stop(16), bytes - 1);
+        let short = view(&sheet, Window::WHOLE, Zoom::Stop(16), bytes - 1);
         assert_eq!(short, Err(13));
-        let (map, count) = view(&sheet, Edges::WHOLE, Zoom::Stop(16), bytes).unwrap();
+        let (map, count) = view(&sheet, Window::WHOLE, Zoom::Stop(16), bytes).unwrap();
         assert_eq!((map.len(), count as usize), (bytes, n));
     }
 }

@@ -18,7 +18,7 @@ use oracle::rules::keep_both;
 use oracle::sample::{marks, Generator, Shape, CODES_TAKEN};
 use oracle::sheet::{assemble, check, join, join_parts, open, part_extent, schedule, split};
 use oracle::tree;
-use oracle::view::{reaches, view, Edges};
+use oracle::view::{reaches, view, Edges, Window};
 use oracle::zoom::{lives, zoom_in_64ths, Zoom};
 
 /// The numbers of marks that are tried: about whole bytes of a map, and more.
@@ -102,7 +102,7 @@ fn without_part_4_all_is_as_in_the_first_edition() {
         assert_eq!(four, with_edition(&three, Edition::First));
         assert_eq!(print(&bare), print(&named));
         for stop in 0..=16 {
-            let view = |sheet| view(sheet, Edges::WHOLE, Zoom::Stop(stop), 512);
+            let view = |sheet| view(sheet, Window::WHOLE, Zoom::Stop(stop), 512);
             assert_eq!(view(&three), view(&four));
         }
     });
@@ -127,7 +127,7 @@ fn putting_the_bodies_of_a_sheet_together_gives_the_sheet() {
 
 /// The marks that a search down the tree shows. It ends at a root that does not
 /// live, since all below it are removed no later.
-fn search(marks: &[Mark], records: &[Record], tree: &[u16], edges: Edges, k: u32) -> Vec<usize> {
+fn search(marks: &[Mark], records: &[Record], tree: &[u16], window: Window, k: u32) -> Vec<usize> {
     let Some((&root, left, right)) = tree::branches(tree) else {
         return Vec::new();
     };
@@ -135,10 +135,10 @@ fn search(marks: &[Mark], records: &[Record], tree: &[u16], edges: Edges, k: u32
     if !lives(records[root].removal(), k) {
         return Vec::new();
     }
-    let reached = reaches(&marks[root], edges, k);
+    let reached = reaches(&marks[root], window, k);
     let mut found: Vec<usize> = reached.then_some(root).into_iter().collect();
-    found.extend(search(marks, records, left, edges, k));
-    found.extend(search(marks, records, right, edges, k));
+    found.extend(search(marks, records, left, window, k));
+    found.extend(search(marks, records, right, window, k));
     found.sort_unstable();
     found
 }
@@ -159,15 +159,17 @@ fn walked(map: &[u8], n: usize) -> Vec<usize> {
     }
 }
 
-/// A rectangle between the places of two marks.
-fn rectangle(generator: &mut Generator, marks: &[Mark]) -> Edges {
-    let (a, b) = (generator.choose(marks), generator.choose(marks));
-    Edges {
+/// A rectangle between the turned places of two marks.
+fn rectangle(generator: &mut Generator, marks: &[Mark], turn: u8) -> Window {
+    let mut place = || generator.choose(marks).label().turned(turn);
+    let (a, b) = (place(), place());
+    let edges = Edges {
         x0: a.x.min(b.x),
         x1: a.x.max(b.x),
         y0: a.y.min(b.y),
         y1: a.y.max(b.y),
-    }
+    };
+    edges.of_turned(turn)
 }
 
 #[test]
@@ -180,13 +182,13 @@ fn a_view_shows_what_a_search_down_the_tree_finds() {
         let opened = open(&sheet).unwrap();
         let (records, tree) = (opened.records.unwrap(), opened.tree.unwrap());
         for stop in 0..=if n == 0 { 0 } else { 16 } {
-            let edges = match n {
-                0 => Edges::WHOLE,
-                _ => rectangle(&mut generator, marks),
+            let window = match n {
+                0 => Window::WHOLE,
+                _ => rectangle(&mut generator, marks, stop % 4),
             };
             let k = zoom_in_64ths(Zoom::Stop(stop)).unwrap();
-            let (map, count) = view(&sheet, edges, Zoom::Stop(stop), n.div_ceil(8)).unwrap();
-            let found = search(marks, &records, &tree, edges, k);
+            let (map, count) = view(&sheet, window, Zoom::Stop(stop), n.div_ceil(8)).unwrap();
+            let found = search(marks, &records, &tree, window, k);
             assert_eq!(walked(&map, n), found);
             assert_eq!(count as usize, found.len());
             assert!((n..8 * map.len()).all(|unused| !is_set(&map, unused)));
@@ -202,7 +204,7 @@ fn a_view_shows_what_a_search_down_the_tree_finds() {
 #[test]
 fn a_view_uses_the_schedule_as_the_sheet_has_it() {
     let marks = marks(Shape::OnePlace, 10, 4);
-    let count = |sheet: &[u8]| view(sheet, Edges::WHOLE, Zoom::Stop(16), 2).unwrap();
+    let count = |sheet: &[u8]| view(sheet, Window::WHOLE, Zoom::Stop(16), 2).unwrap();
     let (_, ours) = count(&scheduled(&marks));
     assert_eq!(ours, 1);
     let records = [Record::NEVER; 10];
@@ -273,7 +275,7 @@ fn all_jobs_refuse_a_changed_sheet_by_the_number_that_checking_gives() {
         let sheet = changed_sheet(&mut generator);
         let number = check(&sheet);
         numbers.insert(number);
-        let viewed = view(&sheet, Edges::WHOLE, Zoom::Stop(3), 512);
+        let viewed = view(&sheet, Window::WHOLE, Zoom::Stop(3), 512);
         if number == 0 {
             assert_eq!(check(&schedule_large(&sheet).unwrap()), 0);
             assert_eq!(assemble_again(&sheet), Ok(sheet));
@@ -294,7 +296,7 @@ fn the_largest_sheet_is_scheduled() {
     let marks = marks(Shape::OnePlace, 4_096, 1);
     let sheet = scheduled(&marks);
     assert_eq!(sheet.len(), 110_624);
-    let (_, count) = view(&sheet, Edges::WHOLE, Zoom::Stop(0), 512).unwrap();
+    let (_, count) = view(&sheet, Window::WHOLE, Zoom::Stop(0), 512).unwrap();
     assert_eq!(count, 1);
     let named = with_edition(&sheet, Edition::First);
     assert_eq!(schedule(&named, WORK, OUT + EDITION), Ok(named.clone()));

@@ -114,10 +114,11 @@ extern "C" {
     fn rollmap_view_stop(
         sheet: *const u8,
         sheet_length: usize,
-        x0: i16,
-        x1: i16,
-        y0: i16,
-        y1: i16,
+        x0: i32,
+        x1: i32,
+        y0: i32,
+        y1: i32,
+        turn: u8,
         stop: u8,
         map: *mut u8,
         map_length: usize,
@@ -126,10 +127,11 @@ extern "C" {
     fn rollmap_view_wheel(
         sheet: *const u8,
         sheet_length: usize,
-        x0: i16,
-        x1: i16,
-        y0: i16,
-        y1: i16,
+        x0: i32,
+        x1: i32,
+        y0: i32,
+        y1: i32,
+        turn: u8,
         wheel: f32,
         map: *mut u8,
         map_length: usize,
@@ -238,14 +240,17 @@ pub(crate) fn marks_to_log(marks: &[u8], out: &mut [u8]) -> Answer {
 
 pub(crate) fn view(sheet: &[u8], view: View, map: &mut [u8]) -> Answer {
     let View { x0, x1, y0, y1, .. } = view;
+    let turn = view.turn.quarters();
     let (bytes, length) = (sheet.as_ptr(), sheet.len());
     let (to, room) = (map.as_mut_ptr(), map.len());
     // SAFETY: pointers and lengths are slices' (see the top of this file).
     unsafe {
         match view.zoom {
-            Zoom::Stop(stop) => rollmap_view_stop(bytes, length, x0, x1, y0, y1, stop, to, room),
+            Zoom::Stop(stop) => {
+                rollmap_view_stop(bytes, length, x0, x1, y0, y1, turn, stop, to, room)
+            }
             Zoom::Wheel(wheel) => {
-                rollmap_view_wheel(bytes, length, x0, x1, y0, y1, wheel, to, room)
+                rollmap_view_wheel(bytes, length, x0, x1, y0, y1, turn, wheel, to, room)
             }
         }
     }

@@ -7,11 +7,11 @@
 //!
 //! A call asks the questions that its comment names, in turn; the first no is its
 //! [`Refusal`], and then no buffer is written. Where these are 4 to 9, question
-//! [19](Refusal::Edition) is asked after 7.
+//! [19](Refusal::Edition) is asked after 7; a view asks [20](Refusal::Window) after 10.
 //!
 //! ```
 //! use rollmap::{assemble_to_vec, marks_to_vec, records, schedule_to_vec, view_to_map};
-//! use rollmap::{Code, Mark, Record, View, Zoom};
+//! use rollmap::{Code, Mark, Record, Turn, View, Zoom};
 //!
 //! // Two marks at (0, 0) and (100, 0); the first has the higher priority. They touch at
 //! // zoom 5.
@@ -20,11 +20,17 @@
 //! let sheet = assemble_to_vec(&[(Code::Marks, &marks)])?;
 //! let scheduled = schedule_to_vec(&sheet)?;
 //!
-//! let at = |wheel| View { x0: 0, x1: 200, y0: 0, y1: 0, zoom: Zoom::Wheel(wheel) };
-//! let near = view_to_map(&scheduled, at(4.0))?;
+//! let (turn, zoom) = (Turn::None, Zoom::Wheel(4.0));
+//! let view = View { x0: 0, x1: 200, y0: 0, y1: 0, turn, zoom };
+//! let near = view_to_map(&scheduled, view)?;
 //! assert!(near.iter().eq([0, 1]));
-//! let far = view_to_map(&scheduled, at(5.0))?;
+//! let far = view_to_map(&scheduled, View { zoom: Zoom::Wheel(5.0), ..view })?;
 //! assert!(far.iter().eq([0]));
+//!
+//! // A quarter turn takes x, y to -y, x, and the edges refer to turned places.
+//! assert_eq!(Turn::Quarter.turned(100, 0), (0, 100));
+//! let turned = View { x0: 0, x1: 0, y0: 50, y1: 200, turn: Turn::Quarter, zoom };
+//! assert!(view_to_map(&scheduled, turned)?.iter().eq([1]));
 //!
 //! let gone = Record::Removed { eliminator: 0, numerator: 10_000, denominator: 400 };
 //! assert!(records(&scheduled).unwrap().eq([Record::Never, gone]));
@@ -43,6 +49,7 @@ mod part;
 mod record;
 mod refusal;
 mod sheet;
+mod turn;
 mod view;
 mod walk;
 
@@ -58,7 +65,8 @@ pub use sheet::{
     assemble, assemble_to_vec, check, contents_bytes, mark_count, schedule, schedule_to_vec,
     scheduled_bytes, work_bytes, Work, MOST_MARKS,
 };
-pub use view::{map_bytes, view, view_to_map, Map, View, Zoom};
+pub use turn::Turn;
+pub use view::{map_bytes, view, view_to_map, Map, View, Zoom, FARTHEST_EDGE};
 pub use walk::{is_shown, shown, walk, Shown};
 
 /// The README's example, run as a documentation test.

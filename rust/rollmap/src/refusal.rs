@@ -31,7 +31,7 @@ pub enum Refusal {
     Index = 9,
     /// 10: parts 2 and 3, which a view needs, and a change of the marks.
     Unscheduled = 10,
-    /// 11: the edges of a view.
+    /// 11: the edges of a view, whether they are in order.
     Edges = 11,
     /// 12: the zoom of a view.
     Zoom = 12,
@@ -49,6 +49,8 @@ pub enum Refusal {
     Full = 18,
     /// 19: the edition in part 4.
     Edition = 19,
+    /// 20: the turn of a view, or how far out its edges lie.
+    Window = 20,
 }
 
 impl Refusal {
@@ -73,6 +75,7 @@ impl Refusal {
         Self::Missing,
         Self::Full,
         Self::Edition,
+        Self::Window,
     ];
 
     /// The question's number.
@@ -129,6 +132,9 @@ impl Refusal {
             Self::Missing => "is the number of the mark to be taken out below n?",
             Self::Full => "are fewer than 4,096 marks held already?",
             Self::Edition => "is part 4, if present, one byte of 1 or 2?",
+            Self::Window => {
+                "is the turn 0 to 3 quarter turns, and each edge from -32,768 to 32,768?"
+            }
         }
     }
 }
@@ -163,14 +169,14 @@ mod tests {
     use super::*;
 
     #[test]
-    fn numbers_are_1_to_19_in_order() {
+    fn numbers_are_1_to_20_in_order() {
         let numbers = Refusal::ALL.iter().map(|refusal| refusal.number());
-        assert!(numbers.eq(1..=19));
+        assert!(numbers.eq(1..=20));
         for &refusal in Refusal::ALL {
             assert_eq!(Refusal::from_number(refusal.number()), Some(refusal));
         }
         assert_eq!(Refusal::from_number(0), None);
-        assert_eq!(Refusal::from_number(20), None);
+        assert_eq!(Refusal::from_number(21), None);
     }
 
     #[test]

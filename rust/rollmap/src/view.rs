@@ -1,30 +1,39 @@
 //! Views of a scheduled sheet, and their maps.
 
-use crate::{ffi, is_shown, mark_count, shown, Refusal, Shown};
+use crate::{ffi, is_shown, mark_count, shown, Refusal, Shown, Turn};
 
-/// A rectangle, edges included, and a zoom.
+/// How far out an edge of a [`View`] lies at most, on either side of 0: as far as a turn
+/// takes a place.
+pub const FARTHEST_EDGE: i32 = 32_768;
+
+/// A rectangle of turned places, edges included, and a zoom. Each edge is from -32,768 to
+/// 32,768, with a turn or without.
 #[derive(Clone, Copy, Debug, PartialEq)]
 pub struct View {
     /// The least x inside.
-    pub x0: i16,
+    pub x0: i32,
     /// The greatest x inside.
-    pub x1: i16,
+    pub x1: i32,
     /// The least y inside.
-    pub y0: i16,
+    pub y0: i32,
     /// The greatest y inside.
-    pub y1: i16,
+    pub y1: i32,
+    /// How the places are turned that the edges refer to.
+    pub turn: Turn,
     /// Map units per pixel.
     pub zoom: Zoom,
 }
 
 impl View {
-    /// The view of all places.
+    /// The view of all places, without a turn. With another turn in its place it is the
+    /// view of all places, too.
     pub const fn whole(zoom: Zoom) -> Self {
         Self {
-            x0: i16::MIN,
-            x1: i16::MAX,
-            y0: i16::MIN,
-            y1: i16::MAX,
+            x0: -FARTHEST_EDGE,
+            x1: FARTHEST_EDGE,
+            y0: -FARTHEST_EDGE,
+            y1: FARTHEST_EDGE,
+            turn: Turn::None,
             zoom,
         }
     }
@@ -46,12 +55,18 @@ pub const fn map_bytes(n: usize) -> usize {
 
 /// Answers a view: writes which marks are shown to `map`, mark m as bit m mod 8 of
 /// byte m / 8, and answers their count. A mark is shown if it lives at the zoom and its
-/// disk there reaches the rectangle, touching included. Unused bits of the last byte
-/// become 0, and bytes past the first [`map_bytes`] of the marks stay as they are.
+/// disk there, about its turned place, reaches the rectangle, touching included. Unused
+/// bits of the last byte become 0, and bytes past the first [`map_bytes`] of the marks
+/// stay as they are.
+///
+/// Of a sheet that scheduling wrote, a view with a turn gives what a view without one
+/// gives of the sheet that is scheduled from the marks at their [turned](Turn::turned)
+/// places, where these fit 16 bits, and the parts beyond 3.
 ///
 /// # Errors
 ///
-/// Asks [1 to 13](Refusal). A refused call writes nothing.
+/// Asks [1 to 10](Refusal), [20](Refusal::Window) of the turn and the edges, and [11 to
+/// 13](Refusal). A refused call writes nothing.
 pub fn view(sheet: &[u8], view: View, map: &mut [u8]) -> Result<u32, Refusal> {
     ffi::view(sheet, view, map).settle(0)
 }
@@ -61,7 +76,7 @@ pub fn view(sheet: &[u8], view: View, map: &mut [u8]) -> Result<u32, Refusal> {
 ///
 /// # Errors
 ///
-/// Asks [1 to 12](Refusal).
+/// Asks what [`view`](crate::view()) asks, but for 13.
 pub fn view_to_map(sheet: &[u8], view: View) -> Result<Map, Refusal> {
     let marks = mark_count(sheet).unwrap_or(0);
     let mut bytes = vec![0; map_bytes(marks)];

@@ -10,11 +10,11 @@ use std::process::{Command, Stdio};
 
 use common::{one_part, scheduled, scheduled_with, some_room, some_sheet, SomeBodies, NAMED};
 use oracle::map::map_bytes;
-use oracle::sample::{each_list, marks, Generator, Shape, P1};
-use oracle::view::{view, Edges};
+use oracle::sample::{each_list, marks, refused_sheets, Generator, Shape, P1};
+use oracle::view::{view, Edges, Window};
 use oracle::zoom::Zoom;
 
-use rollmap::{Code, Edition, Refusal};
+use rollmap::{Code, Edition, Refusal, Turn, FARTHEST_EDGE};
 
 /// The archive that this crate was built with.
 const ARCHIVE: &str = env!("ROLLMAP_ARCHIVE");
@@ -36,6 +36,12 @@ wheel 1: 0, count 2, map 06 ee, marks 1 2
 wheel 5: 0, count 2, map 05 ee, marks 0 2
 stop 0: 0, count 4, map 0f ee, marks 0 1 2 3
 stop 17: 12, count 0, map 0f ee, marks 0 1 2 3
+turn 1: 0, count 2, map 06 ee, marks 1 2
+turn 2: 0, count 2, map 06 ee, marks 1 2
+turn 3: 0, count 2, map 06 ee, marks 1 2
+turn 1, the place of 3: 0, count 1, map 08 ee, marks 3
+turn 4: 20, count 0, map 08 ee, marks 3
+edge 32769: 20, count 0, map 08 ee, marks 3
 cut short: 3 0
 its part 1 at 0, 0 bytes
 crossed edges: 11 0, map ee
@@ -146,6 +152,17 @@ fn the_header_names_every_code_and_every_edition() {
 }
 
 #[test]
+fn the_header_names_no_turn_and_the_farthest_edge() {
+    assert_eq!(
+        defined("#define ROLLMAP_NO_"),
+        [("MARK", 65_535), ("TURN", Turn::None.quarters().into()),]
+    );
+    // It has a sign.
+    let edge = format!("#define ROLLMAP_FARTHEST_EDGE {FARTHEST_EDGE}\n");
+    assert!(HEADER.contains(&edge));
+}
+
+#[test]
 fn the_header_has_the_sizes_and_the_version_of_this_crate() {
     let sizes = [
         ("MOST_MARKS", rollmap::MOST_MARKS),
@@ -189,13 +206,14 @@ fn every_call_takes_less_stack_than_the_header_says() {
 
 /// A view as the program `stops.c` reads it, and what it is to print: the oracle's answer
 /// at the stops 0 to 17, with a byte behind the map that nobody writes.
-fn stops_case(sheet: &[u8], edges: Edges, map_length: usize) -> (Vec<u8>, String) {
-    let lengths = [sheet.len(), map_length].map(|length| (length as u32).to_ne_bytes());
-    let Edges { x0, x1, y0, y1 } = edges;
-    let edge_bytes = [x0, x1, y0, y1].map(i16::to_ne_bytes);
-    let input = [lengths.as_flattened(), edge_bytes.as_flattened(), sheet].concat();
+fn stops_case(sheet: &[u8], window: Window, map_length: usize) -> (Vec<u8>, String) {
+    let Edges { x0, x1, y0, y1 } = window.edges;
+    let lengths = [sheet.len(), map_length].map(four);
+    let edges = [x0, x1, y0, y1].map(i32::to_ne_bytes);
+    let turn = four(window.turn.into());
+    let input = [lengths.as_flattened(), edges.as_flattened(), &turn, sheet].concat();
     let line = |stop| {
-        let (number, (written, count)) = match view(sheet, edges, Zoom::Stop(stop), map_length) {
+        let (number, (written, count)) = match view(sheet, window, Zoom::Stop(stop), map_length) {
             Ok(answered) => (0, answered),
             Err(number) => (number, (Vec::new(), 0)),
         };
@@ -207,34 +225,96 @@ fn stops_case(sheet: &[u8], edges: Edges, map_length: usize) -> (Vec<u8>, String
     (input, (0..=17).map(line).collect())
 }
 
-#[test]
-fn every_stop_is_its_wheel_value_through_c() {
-    let edges = |[x0, x1, y0, y1]: [i16; 4]| Edges { x0, x1, y0, y1 };
-    let mut cases = Vec::new();
-    for shape in Shape::ALL {
-        for n in [0, 1, 9, 40] {
-            let sample = marks(shape, n, 11);
-            let (sheet, needed) = (scheduled(&sample), map_bytes(n));
-            cases.push(stops_case(&sheet, Edges::WHOLE, needed));
-            cases.push(stops_case(&sheet, edges([-900, 900, 0, 0]), needed + 1));
-            cases.push(stops_case(&sheet, edges([1, 0, 0, 0]), needed));
-            cases.push(stops_case(&sheet, Edges::WHOLE, needed.saturating_sub(1)));
-            cases.push(stops_case(&one_part(&sample), Edges::WHOLE, needed));
-        }
-    }
-    let mut generator = Generator::new(50);
-    for _ in 0..500 {
-        let sheet = some_sheet(&mut generator);
-        cases.push(stops_case(&sheet, Edges::WHOLE, 6));
-    }
+/// Sees that the program `stops.c` prints what is expected for each case.
+fn assert_stops(name: &str, cases: Vec<(Vec<u8>, String)>) {
     let (inputs, expected): (Vec<_>, Vec<_>) = cases.into_iter().unzip();
-    let program = compile("stops.c", "stops", "cc", &["-std=c99"]);
+    let program = compile("stops.c", name, "cc", &["-std=c99"]);
     let printed = run(&mut Command::new(program), &inputs.concat());
     let expected = expected.concat();
     let lines = printed.lines().zip(expected.lines()).enumerate();
     let differing = lines.into_iter().find(|(_, (ours, theirs))| ours != theirs);
     assert_eq!(differing, None);
     assert_eq!(printed.len(), expected.len());
+}
+
+/// These edges.
+const fn edges(x0: i32, x1: i32, y0: i32, y1: i32) -> Edges {
+    Edges { x0, x1, y0, y1 }
+}
+
+#[test]
+fn every_stop_is_its_wheel_value_through_c() {
+    let mut cases = Vec::new();
+    for shape in Shape::ALL {
+        for n in [0, 1, 9, 40] {
+            let sample = marks(shape, n, 11);
+            let (sheet, needed) = (scheduled(&sample), map_bytes(n));
+            let near = edges(-900, 900, 0, 0);
+            for turn in 0..=3 {
+                cases.push(stops_case(&sheet, near.of_turned(turn), needed + 1));
+            }
+            let crossed = edges(1, 0, 0, 0).unturned();
+            cases.push(stops_case(&sheet, Window::WHOLE, needed));
+            cases.push(stops_case(&sheet, crossed, needed));
+            cases.push(stops_case(&sheet, Window::WHOLE, needed.saturating_sub(1)));
+            cases.push(stops_case(&one_part(&sample), Window::WHOLE, needed));
+        }
+    }
+    let mut generator = Generator::new(50);
+    for _ in 0..500 {
+        let sheet = some_sheet(&mut generator);
+        cases.push(stops_case(&sheet, Window::WHOLE, 6));
+    }
+    assert_stops("stops", cases);
+}
+
+#[test]
+fn every_turn_through_c() {
+    let (sheet, bare) = (scheduled(&P1), one_part(&P1));
+    let (whole, crossed) = (Edges::WHOLE, edges(1, 0, 0, 0));
+    let far = edges(-32_769, 0, 0, 0);
+    let mut cases = Vec::new();
+    for turn in 0..=255 {
+        cases.push(stops_case(&sheet, whole.of_turned(turn), 1));
+        cases.push(stops_case(&sheet, edges(-3, 0, 0, 100).of_turned(turn), 1));
+        // 20 is asked before 11 and 13, and after 10.
+        cases.push(stops_case(&sheet, crossed.of_turned(turn), 0));
+        cases.push(stops_case(&sheet, far.of_turned(turn), 0));
+        cases.push(stops_case(&bare, crossed.of_turned(turn), 0));
+    }
+    // A refused sheet gets its own number, whatever the turn.
+    for (_, sheet) in refused_sheets() {
+        for turn in [0, 3, 4, 5, 128, 255] {
+            cases.push(stops_case(&sheet, crossed.of_turned(turn), 0));
+        }
+    }
+    let mut generator = Generator::new(53);
+    for _ in 0..500 {
+        let sheet = some_sheet(&mut generator);
+        let turn = generator.draw() as u8;
+        cases.push(stops_case(&sheet, whole.of_turned(turn), 6));
+    }
+    assert_stops("turns", cases);
+}
+
+#[test]
+fn every_bit_of_an_edge_counts_through_c() {
+    let sheet = scheduled(&P1);
+    let mut cases = Vec::new();
+    for bit in 0..32 {
+        // 0 with one bit set, and -1 with one cleared.
+        for edge in [1_i32 << bit, !(1 << bit)] {
+            for edges in [
+                edges(edge, 32_768, -32_768, 32_768),
+                edges(-32_768, edge, -32_768, 32_768),
+                edges(-32_768, 32_768, edge, 32_768),
+                edges(-32_768, 32_768, -32_768, edge),
+            ] {
+                cases.push(stops_case(&sheet, edges.of_turned(bit % 4), 1));
+            }
+        }
+    }
+    assert_stops("edges", cases);
 }
 
 /// A number as the program `parts.c` reads it.

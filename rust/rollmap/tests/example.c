@@ -58,12 +58,28 @@ static void print_view(const char *name, struct rollmap_answer answer, const uin
 
 static void print_views(const uint8_t *sheet, size_t length)
 {
+    const int32_t far = ROLLMAP_FARTHEST_EDGE;
     uint8_t map[2] = {0xee, 0xee};
 
-    print_view("wheel 1", rollmap_view_wheel(sheet, length, 50, 250, -10, 10, 1.0f, map, 2), map);
-    print_view("wheel 5", rollmap_view_wheel(sheet, length, 50, 250, -10, 10, 5.0f, map, 2), map);
-    print_view("stop 0", rollmap_view_stop(sheet, length, -32768, 32767, -32768, 32767, 0, map, 2), map);
-    print_view("stop 17", rollmap_view_stop(sheet, length, -32768, 32767, -32768, 32767, 17, map, 2), map);
+    print_view("wheel 1", rollmap_view_wheel(sheet, length, 50, 250, -10, 10, ROLLMAP_NO_TURN, 1.0f, map, 2), map);
+    print_view("wheel 5", rollmap_view_wheel(sheet, length, 50, 250, -10, 10, ROLLMAP_NO_TURN, 5.0f, map, 2), map);
+    print_view("stop 0", rollmap_view_stop(sheet, length, -far, far, -far, far, ROLLMAP_NO_TURN, 0, map, 2), map);
+    print_view("stop 17", rollmap_view_stop(sheet, length, -far, far, -far, far, ROLLMAP_NO_TURN, 17, map, 2), map);
+}
+
+/* The first view of the above with every turn, and what is refused. A quarter turn takes the marks
+   to (0, 0), (0, 100), (0, 200) and (-3, 0). */
+static void print_turned_views(const uint8_t *sheet, size_t length)
+{
+    const int32_t far = ROLLMAP_FARTHEST_EDGE;
+    uint8_t map[2] = {0xee, 0xee};
+
+    print_view("turn 1", rollmap_view_wheel(sheet, length, -10, 10, 50, 250, 1, 1.0f, map, 2), map);
+    print_view("turn 2", rollmap_view_wheel(sheet, length, -250, -50, -10, 10, 2, 1.0f, map, 2), map);
+    print_view("turn 3", rollmap_view_wheel(sheet, length, -10, 10, -250, -50, 3, 1.0f, map, 2), map);
+    print_view("turn 1, the place of 3", rollmap_view_stop(sheet, length, -3, -3, 0, 0, 1, 0, map, 2), map);
+    print_view("turn 4", rollmap_view_stop(sheet, length, -far, far, -far, far, 4, 0, map, 2), map);
+    print_view("edge 32769", rollmap_view_stop(sheet, length, -far, far, -far, far + 1, 1, 0, map, 2), map);
 }
 
 /* A fifth mark comes, with something in every field, and the first one goes. */
@@ -177,7 +193,7 @@ static void print_refusals(const uint8_t *sheet, size_t length)
     printf("cut short: %u %u\n", answer.number, answer.value);
     extent = rollmap_part(sheet, length - 1, 1);
     printf("its part 1 at %u, %u bytes\n", extent.offset, extent.length);
-    answer = rollmap_view_stop(sheet, length, 1, 0, 0, 0, 0, map, 1);
+    answer = rollmap_view_stop(sheet, length, 1, 0, 0, 0, ROLLMAP_NO_TURN, 0, map, 1);
     printf("crossed edges: %u %u, map %02x\n", answer.number, answer.value, map[0]);
     answer = rollmap_walk(map, 1, 9, 0);
     printf("short map: %u %u\n", answer.number, answer.value);
@@ -238,6 +254,7 @@ int main(void)
     printf("check: %u %u\n", answer.number, answer.value);
     print_schedule(out, sizeof out - 1);
     print_views(out, sizeof out - 1);
+    print_turned_views(out, sizeof out - 1);
     print_refusals(out, sizeof out - 1);
     print_changes(out, sizeof out - 1);
     print_rows(out);

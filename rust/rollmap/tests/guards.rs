@@ -9,10 +9,11 @@ use common::{bound, one_part, rivals, three_parts, with_part_4, PROGRAM};
 use oracle::mark::{read_marks, touching_value, Mark};
 use oracle::record::{read_records, removals, Record};
 use oracle::sample::{marks, Generator, Shape, P1};
+use oracle::turn::turned_marks;
 use oracle::view::{map_and_count, Edges};
 use rollmap::{
     add_to_vec, map_bytes, schedule_to_vec, scheduled_bytes, take_out_to_vec, view_to_map,
-    work_bytes, Code, Edition, Refusal, View, Work, Zoom, EDITION_BYTES,
+    work_bytes, Code, Edition, Refusal, Turn, View, Work, Zoom, EDITION_BYTES,
 };
 
 const GUARDS: &str = include_str!("../../../docs/GUARDS.md");
@@ -77,7 +78,7 @@ fn every_test_that_the_page_names_is_here() {
     let sentences = GUARDS.lines().filter_map(|line| line.split_once("Test: "));
     let named = cells.chain(sentences.map(|(_, name)| name.trim_end_matches('.')));
     let names: Vec<&str> = named.flat_map(|names| names.split(", ")).collect();
-    assert_eq!(names.len(), 29);
+    assert_eq!(names.len(), 30);
     for name in names {
         let test = format!("#[test]\nfn {}()", name.trim_matches('`'));
         assert!(own.contains(&test), "{name}");
@@ -381,20 +382,23 @@ fn a_view_is_the_full_scan() {
             rollmap::part(&sheet, Code::Schedule).unwrap(),
         ));
         for k in [1, 17, 64, 1_000, 65_536] {
-            for (low, high) in [(i16::MIN, i16::MAX), (-5_000, 5_000), (0, 0)] {
-                let (x0, x1, y0, y1) = (low, high, low, high);
-                let zoom = wheel(k);
-                let view = View {
-                    x0,
-                    x1,
-                    y0,
-                    y1,
-                    zoom,
-                };
-                let map = view_to_map(&sheet, view).unwrap();
-                let edges = Edges { x0, x1, y0, y1 };
-                let (scanned, _) = map_and_count(&marks, &removals, edges, k);
-                assert_eq!(map.as_bytes(), scanned);
+            for half in [32_768, 5_000, 0] {
+                let (x0, x1, y0, y1) = (-half, half, -half, half);
+                for turn in Turn::ALL {
+                    let zoom = wheel(k);
+                    let view = View {
+                        x0,
+                        x1,
+                        y0,
+                        y1,
+                        turn,
+                        zoom,
+                    };
+                    let map = view_to_map(&sheet, view).unwrap();
+                    let window = Edges { x0, x1, y0, y1 }.of_turned(turn.quarters());
+                    let (scanned, _) = map_and_count(&marks, &removals, window, k);
+                    assert_eq!(map.as_bytes(), scanned);
+                }
             }
         }
         let mut wrong = sheet.clone();
@@ -451,6 +455,31 @@ fn an_old_map_is_lent_as_it_is() {
     let refused = View::whole(Zoom::Stop(17));
     assert_eq!(rollmap::view(&sheet, refused, &mut map), Err(Refusal::Zoom));
     assert_eq!(map, [0b0101]);
+}
+
+#[test]
+fn a_turned_view_needs_no_turned_sheet() {
+    for turn in Turn::ALL {
+        let places = marks(Shape::Clustered, 120, 5);
+        let sheet = scheduled(&places);
+        let copy = scheduled(&turned_marks(turn.quarters(), &places).unwrap());
+        for k in [1, 64, 1_000] {
+            let zoom = wheel(k);
+            for low in [-32_768, 0] {
+                let asked = View {
+                    x0: low,
+                    y1: -low,
+                    turn,
+                    ..View::whole(zoom)
+                };
+                let unturned = View {
+                    turn: Turn::None,
+                    ..asked
+                };
+                assert_eq!(view_to_map(&sheet, asked), view_to_map(&copy, unturned));
+            }
+        }
+    }
 }
 
 #[test]

@@ -52,12 +52,12 @@ static uint32_t check(void)
 
 static uint32_t view_stop(void)
 {
-    return rollmap_view_stop(out, sizeof out, -32768, 32767, -32768, 32767, 0, map, sizeof map).number;
+    return rollmap_view_stop(out, sizeof out, -32768, 32768, -32768, 32768, 3, 0, map, sizeof map).number;
 }
 
 static uint32_t view_wheel(void)
 {
-    return rollmap_view_wheel(out, sizeof out, -32768, 32767, -32768, 32767, 1, map, sizeof map).number;
+    return rollmap_view_wheel(out, sizeof out, -32768, 32768, -32768, 32768, 3, 1, map, sizeof map).number;
 }
 
 static uint32_t walk(void)

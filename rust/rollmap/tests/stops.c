@@ -1,5 +1,5 @@
 /* Reads views on standard input and answers each at every stop. A view is the lengths of the
-   sheet and of the map, 4 bytes each, the edges, 2 bytes each, and the sheet, all in this
+   sheet and of the map, the edges and the turn, 4 bytes each, and the sheet, all in this
    machine's byte order. Prints a line a stop from 0 to 17: number, count, and the map with a byte
    behind it. Ends with 1 where the wheel value of the same zoom gives anything else, or a
    stop above 17 anything else than 17. */
@@ -13,7 +13,8 @@
 
 struct view {
     uint32_t sheet_length, map_length;
-    int16_t x0, x1, y0, y1;
+    int32_t x0, x1, y0, y1;
+    uint32_t turn;
 };
 
 struct result {
@@ -28,8 +29,8 @@ static struct result at_stop(const struct view *v, uint8_t stop)
     struct result r;
 
     memset(&r, 0xee, sizeof r);
-    r.answer = rollmap_view_stop(sheet, v->sheet_length, v->x0, v->x1, v->y0, v->y1, stop,
-                                 r.map, v->map_length);
+    r.answer = rollmap_view_stop(sheet, v->sheet_length, v->x0, v->x1, v->y0, v->y1,
+                                 (uint8_t)v->turn, stop, r.map, v->map_length);
     return r;
 }
 
@@ -38,8 +39,8 @@ static struct result at_wheel(const struct view *v, float wheel)
     struct result r;
 
     memset(&r, 0xee, sizeof r);
-    r.answer = rollmap_view_wheel(sheet, v->sheet_length, v->x0, v->x1, v->y0, v->y1, wheel,
-                                  r.map, v->map_length);
+    r.answer = rollmap_view_wheel(sheet, v->sheet_length, v->x0, v->x1, v->y0, v->y1,
+                                  (uint8_t)v->turn, wheel, r.map, v->map_length);
     return r;
 }
 
@@ -67,7 +68,7 @@ int main(void)
     float wheel;
 
     while (fread(&v, sizeof v, 1, stdin) == 1) {
-        if (v.sheet_length > SHEET_BYTES || v.map_length >= MAP_BYTES
+        if (v.sheet_length > SHEET_BYTES || v.map_length >= MAP_BYTES || v.turn > UINT8_MAX
             || fread(sheet, 1, v.sheet_length, stdin) != v.sheet_length)
             return 2;
         for (stop = 0, wheel = 1 / 64.0f; stop <= 16; stop++, wheel *= 2) {

@@ -2,210 +2,22 @@
 
 mod common;
 
+use common::views::{
+    anywhere, assert_view, beside_a_disk, in_64ths, some_zoom, touches, view, wheel, window, zoom,
+    Scheduled, WHOLE,
+};
 use common::{
     foreign_records, number, one_part, our_records, scheduled, some_marks, some_records,
-    some_sheet, three_parts, Lent, Tally,
+    some_sheet, Tally,
 };
 use oracle::fraction::Removal;
 use oracle::map::{is_set, map_bytes};
 use oracle::mark::Mark;
 use oracle::rank::Edition::First;
-use oracle::record::{removals, Record};
+use oracle::record::Record;
 use oracle::sample::{marks, Generator, Shape, P1};
-use oracle::view::{map_and_count, Edges};
-use oracle::zoom::{removal_zoom_in_64ths, zoom_in_64ths};
-use rollmap::{View, Zoom};
-
-/// The whole range of places, at stop 0.
-const WHOLE: View = View::whole(Zoom::Stop(0));
-
-/// The edges of a view as the oracle has them.
-fn edges(view: View) -> Edges {
-    let View { x0, x1, y0, y1, .. } = view;
-    Edges { x0, x1, y0, y1 }
-}
-
-/// The zoom of a view as the oracle has it.
-fn zoom(view: View) -> oracle::zoom::Zoom {
-    match view.zoom {
-        Zoom::Stop(stop) => oracle::zoom::Zoom::Stop(stop),
-        Zoom::Wheel(wheel) => oracle::zoom::Zoom::Wheel(wheel),
-    }
-}
-
-/// A zoom that is taken, in 64ths.
-fn in_64ths(taken: Zoom) -> u32 {
-    let zoom = zoom(View {
-        zoom: taken,
-        ..WHOLE
-    });
-    zoom_in_64ths(zoom).unwrap()
-}
-
-/// The zoom that is k 64ths, on the wheel.
-fn wheel(k: u32) -> Zoom {
-    Zoom::Wheel(k as f32 / 64.0)
-}
-
-/// Answers a view in a map of so many bytes, and sees that the number, the count and
-/// every byte are as expected. Answers the number.
-fn assert_view(
-    sheet: &[u8],
-    view: View,
-    map_length: usize,
-    expected: &Result<(Vec<u8>, u32), u32>,
-) -> u32 {
-    let mut map = Lent::new(map_length, (sheet.len() + map_length) as u64);
-    let answer = rollmap::view(sheet, view, map.slice());
-    match expected {
-        Ok((bytes, count)) => {
-            assert_eq!(answer, Ok(*count), "{view:?} {sheet:02x?}");
-            map.assert_written(bytes);
-        }
-        Err(expected) => {
-            assert_eq!(number(&answer), *expected, "{view:?} {sheet:02x?}");
-            map.assert_untouched();
-        }
-    }
-    number(&answer)
-}
-
-/// Answers a view as the oracle does. Answers the number.
-fn view(sheet: &[u8], view: View, map_length: usize) -> u32 {
-    let expected = oracle::view::view(sheet, edges(view), zoom(view), map_length);
-    assert_view(sheet, view, map_length, &expected)
-}
-
-/// A sheet of three parts, and what it says, so that larger ones need not be opened
-/// for each view.
-struct Scheduled {
-    sheet: Vec<u8>,
-    marks: Vec<Mark>,
-    removals: Vec<Removal>,
-}
-
-impl Scheduled {
-    fn new(marks: Vec<Mark>, records: &[Record]) -> Self {
-        Self {
-            sheet: three_parts(&marks, records),
-            removals: removals(records),
-            marks,
-        }
-    }
-
-    /// The map and the count of a view that is taken.
-    fn expected(&self, view: View) -> (Vec<u8>, u32) {
-        let k = in_64ths(view.zoom);
-        map_and_count(&self.marks, &self.removals, edges(view), k)
-    }
-
-    /// Some view of it that is taken.
-    fn some_view(&self, generator: &mut Generator) -> View {
-        let zoom = some_zoom(generator, &self.removals);
-        let k = in_64ths(zoom);
-        View {
-            zoom,
-            ..some_rectangle(generator, &self.marks, k)
-        }
-    }
-
-    /// Answers a view that is taken, as looking at every mark does. Answers the count.
-    fn view(&self, view: View) -> u32 {
-        let expected = self.expected(view);
-        let count = expected.1;
-        assert_view(&self.sheet, view, expected.0.len(), &Ok(expected));
-        count
-    }
-}
-
-/// A rectangle: all places, one between the places of two marks, one that a disk just
-/// reaches or just misses at k/64, or a small one anywhere.
-fn some_rectangle(generator: &mut Generator, marks: &[Mark], k: u32) -> View {
-    if marks.is_empty() || generator.below(12) == 0 {
-        return WHOLE;
-    }
-    match generator.below(3) {
-        0 => between_marks(generator, marks),
-        1 => beside_a_disk(generator, marks, k).0,
-        _ => anywhere(generator),
-    }
-}
-
-/// The rectangle with these edges, put in order.
-fn rectangle(x: [i16; 2], y: [i16; 2]) -> View {
-    View {
-        x0: x[0].min(x[1]),
-        x1: x[0].max(x[1]),
-        y0: y[0].min(y[1]),
-        y1: y[0].max(y[1]),
-        zoom: Zoom::Stop(0),
-    }
-}
-
-/// A rectangle between the places of two marks, moved by a unit or not.
-fn between_marks(generator: &mut Generator, marks: &[Mark]) -> View {
-    let (a, b) = (generator.choose(marks), generator.choose(marks));
-    let nudged = |edge: i16| edge.saturating_add(generator.choose(&[0, 0, 0, 1, -1]));
-    let [x0, x1, y0, y1] = [a.x, b.x, a.y, b.y].map(nudged);
-    rectangle([x0, x1], [y0, y1])
-}
-
-/// A rectangle of up to 9 places a side, which most disks are wider than.
-fn anywhere(generator: &mut Generator) -> View {
-    let mut side = || {
-        let low = generator.between(i16::MIN, i16::MAX);
-        [low, low.saturating_add(generator.between(0, 8))]
-    };
-    rectangle(side(), side())
-}
-
-/// A rectangle whose nearest place is as far from a mark as its disk at k/64 reaches, as
-/// near as whole numbers allow, or one unit further; with the mark's number.
-fn beside_a_disk(generator: &mut Generator, marks: &[Mark], k: u32) -> (View, usize) {
-    let number = generator.below(marks.len() as u32) as usize;
-    let mark = marks[number];
-    let radius = u64::from(mark.used_radius().unwrap());
-    let reach = u64::from(k) * radius / 64;
-    let along = match generator.below(3) {
-        0 => 0, // beside an edge, not a corner
-        1 => reach * 3 / 5,
-        _ => u64::from(generator.below(reach.min(65_535) as u32 + 1)),
-    };
-    let squared = u64::from(k).pow(2) * radius.pow(2) / 4_096;
-    let across = (squared - along * along).isqrt() + u64::from(generator.below(2));
-    let mut side = |place: i16, distance: u64| {
-        let distance = distance.min(65_535) as i32 * generator.choose(&[1, -1]);
-        let near = i32::from(place) + distance;
-        let far = near + distance.signum() * generator.choose(&[0, 3, 1_000, 40_000]);
-        let fitting = |edge: i32| edge.clamp(i16::MIN.into(), i16::MAX.into()) as i16;
-        [fitting(near), fitting(far)]
-    };
-    let (one, other) = (side(mark.x, along), side(mark.y, across));
-    (rectangle(one, other), number)
-}
-
-/// Whether a mark's disk at k/64 touches the rectangle from outside.
-fn touches(mark: &Mark, view: View, k: u32) -> bool {
-    let dx = i64::from(mark.x) - i64::from(mark.x.clamp(view.x0, view.x1));
-    let dy = i64::from(mark.y) - i64::from(mark.y.clamp(view.y0, view.y1));
-    let reach = i64::from(k) * i64::from(mark.used_radius().unwrap());
-    (64 * dx).pow(2) + (64 * dy).pow(2) == reach.pow(2)
-}
-
-/// A zoom: a stop, any wheel value that is taken, or one about which a mark goes.
-fn some_zoom(generator: &mut Generator, removals: &[Removal]) -> Zoom {
-    let choice = generator.below(4);
-    if let (2.., false) = (choice, removals.is_empty()) {
-        if let Removal::At(value) = generator.choose(removals) {
-            let k = removal_zoom_in_64ths(value) + u64::from(generator.below(3));
-            return wheel(k.saturating_sub(1).clamp(1, 65_536) as u32);
-        }
-    }
-    match choice {
-        0 => Zoom::Stop(generator.below(17) as u8),
-        _ => wheel(1 + (generator.below(65_536) >> generator.below(16))),
-    }
-}
+use oracle::zoom::removal_zoom_in_64ths;
+use rollmap::{Turn, View, Zoom, FARTHEST_EDGE};
 
 #[test]
 fn proved_examples() {
@@ -215,6 +27,7 @@ fn proved_examples() {
         x1: 250,
         y0: -10,
         y1: 10,
+        turn: Turn::None,
         zoom,
     };
     let p3 = Ok((vec![0x06], 2));
@@ -287,7 +100,7 @@ fn a_stop_and_its_wheel_value_give_the_same_of_any_sheet() {
     let mut numbers = Tally::default();
     for _ in 0..6_000 {
         let sheet = some_sheet(&mut generator);
-        let small = anywhere(&mut generator);
+        let small = anywhere(&mut generator, Turn::None);
         let rectangle = generator.choose(&[WHOLE, small]);
         let length = generator.choose(&[0, 1, 6, 6]);
         let number = stops_and_wheel_values(&sheet, rectangle, length);
@@ -378,35 +191,30 @@ fn a_mark_is_gone_at_its_own_removal_zoom() {
 fn every_rectangle_about_the_places_of_a_few_marks() {
     let sample = [P1[0], P1[1], Mark::plain(i16::MAX, i16::MIN, 7, 3), P1[3]];
     let sheet = scheduled(&sample);
-    let near = |places: [i16; 4]| -> Vec<i16> {
+    let near = |places: [i32; 4]| -> Vec<i32> {
         let each = places.into_iter();
-        each.flat_map(|at| [at.saturating_sub(1), at, at.saturating_add(1)])
+        each.flat_map(|at| [at - 1, at, at + 1])
+            .filter(|edge| edge.abs() <= FARTHEST_EDGE)
             .collect()
     };
-    let (xs, ys) = (
-        near([0, 100, i16::MAX, i16::MIN]),
-        near([0, 3, i16::MIN, 50]),
-    );
+    let (xs, ys) = (near([0, 100, 32_767, -32_768]), near([0, 3, -32_768, 50]));
     let mut numbers = Tally::default();
     for (&x0, &x1) in xs.iter().flat_map(|x0| xs.iter().map(move |x1| (x0, x1))) {
         for (&y0, &y1) in ys.iter().flat_map(|y0| ys.iter().map(move |y1| (y0, y1))) {
-            let zoom = Zoom::Stop(5);
-            let number = view(
-                &sheet,
-                View {
-                    x0,
-                    x1,
-                    y0,
-                    y1,
-                    zoom,
-                },
-                1,
-            );
+            let asked = View {
+                x0,
+                x1,
+                y0,
+                y1,
+                turn: Turn::None,
+                zoom: Zoom::Stop(5),
+            };
+            let number = view(&sheet, asked, 1);
             assert_eq!(number, if x0 <= x1 && y0 <= y1 { 0 } else { 11 });
             numbers.add(number);
         }
     }
-    numbers.assert_reached([0, 11], 5_000);
+    numbers.assert_reached([0, 11], 4_000);
 }
 
 #[test]
@@ -422,24 +230,26 @@ fn every_length_of_the_map() {
 }
 
 #[test]
-fn questions_9_to_13_are_put_in_turn() {
+fn questions_9_to_13_and_20_are_put_in_turn() {
     let sample = marks(Shape::Grid, 12, 7);
     let whole = scheduled(&sample);
     let mut wrong_tree = whole.clone();
     wrong_tree[32 + 25 * 12] ^= 1;
     let bare = one_part(&sample);
     for (sheet, first) in [(&whole, 0), (&bare, 10), (&wrong_tree, 9)] {
-        for faults in 0..16 {
+        for faults in 0..64 {
             let fault = |bit: u32| faults >> bit & 1 == 1;
             let asked = View {
-                x1: if fault(0) { i16::MIN } else { i16::MAX },
-                x0: -5,
-                y1: if fault(1) { -6 } else { i16::MAX },
-                y0: -5,
+                x1: if fault(0) { -32_768 } else { 32_768 },
+                x0: if fault(4) { 32_769 } else { -5 },
+                y1: if fault(1) { -6 } else { 32_767 },
+                y0: if fault(5) { -32_769 } else { -5 },
+                turn: Turn::None,
                 zoom: Zoom::Stop(if fault(2) { 17 } else { 3 }),
             };
             let questions = [
                 (first, first > 0),
+                (20, fault(4) || fault(5)),
                 (11, fault(0) || fault(1)),
                 (12, fault(2)),
                 (13, fault(3)),
@@ -471,7 +281,7 @@ fn many_small_sheets() {
         let records = some_records(&mut generator, First.reel(&sample));
         let scheduled = Scheduled::new(sample, &records);
         for _ in 0..4 {
-            let view = scheduled.some_view(&mut generator);
+            let view = scheduled.some_view(&mut generator, Turn::None);
             let count = scheduled.view(view);
             partly += usize::from(count > 0 && (count as usize) < scheduled.marks.len());
         }
@@ -496,7 +306,7 @@ fn larger_sheets_ours_and_foreign() {
             for records in lists {
                 let scheduled = Scheduled::new(sample.clone(), &records);
                 for _ in 0..60 {
-                    let view = scheduled.some_view(&mut generator);
+                    let view = scheduled.some_view(&mut generator, Turn::None);
                     scheduled.view(view);
                 }
             }
@@ -520,7 +330,8 @@ fn disks_that_just_reach_the_rectangle_and_that_just_miss_it() {
                     _ => some_zoom(&mut generator, &[]),
                 };
                 let k = in_64ths(zoom);
-                let (beside, number) = beside_a_disk(&mut generator, &scheduled.marks, k);
+                let (beside, number) =
+                    beside_a_disk(&mut generator, &scheduled.marks, Turn::None, k);
                 let asked = View { zoom, ..beside };
                 let expected = scheduled.expected(asked);
                 let shown = is_set(&expected.0, number);
@@ -544,7 +355,7 @@ fn the_largest_sheets() {
         let records = foreign_records(&mut generator, First.reel(&sample));
         let scheduled = Scheduled::new(sample, &records);
         for _ in 0..60 {
-            let view = scheduled.some_view(&mut generator);
+            let view = scheduled.some_view(&mut generator, Turn::None);
             scheduled.view(view);
         }
         assert_view(&scheduled.sheet, WHOLE, 511, &Err(13));
@@ -557,7 +368,7 @@ fn refused_sheets_write_nothing() {
     let mut numbers = Tally::default();
     for _ in 0..30_000 {
         let sheet = some_sheet(&mut generator);
-        let small = anywhere(&mut generator);
+        let small = anywhere(&mut generator, Turn::None);
         let asked = View {
             zoom: some_zoom(&mut generator, &[]),
             ..generator.choose(&[WHOLE, small])
@@ -578,7 +389,7 @@ fn a_map_of_its_own() {
                 ..WHOLE
             };
             let map = rollmap::view_to_map(&sheet, asked).unwrap();
-            let expected = oracle::view::view(&sheet, edges(asked), zoom(asked), map_bytes(n));
+            let expected = oracle::view::view(&sheet, window(asked), zoom(asked), map_bytes(n));
             assert_eq!(Ok((map.as_bytes().to_vec(), map.count())), expected);
             assert_eq!(map.marks() as usize, n);
             assert_eq!(map.iter().count(), map.count() as usize);

@@ -97,6 +97,25 @@ module _ (shown : ℕ → Bool) (n : ℕ) where
   map-small rest i h =
       rw (front-byte (λ m. ltb m n && shown m) (mapSize n) rest i h) (byte-small (λ m. ltb m n && shown m) (8 * i) 8)
 
+-- tests that agree have the same map
+module _ (p q : ℕ → Bool) (same : (m : ℕ) → p m ≡ q m) where
+  same-byte-of : (from width : ℕ) → mapByte p from width ≡ mapByte q from width
+  unfolding mapByte
+  same-byte-of from zero = refl
+  same-byte-of from (suc width) = rw (same-byte-of from width, same (from + width))
+
+  same-part : (size : ℕ) → mapPart p size ≡ mapPart q size
+  unfolding mapPart
+  same-part zero = refl
+  same-part (suc size) = rw (same-part size, same-byte-of (8 * size) 8)
+
+pub map-same : (p q : ℕ → Bool) (n : ℕ) → ((m : ℕ) → m < n → p m ≡ q m) → mapBytes p n ≡ mapBytes q n
+unfolding mapBytes
+map-same p q n h = same-part (λ m. ltb m n && p m) (λ m. ltb m n && q m) agree (mapSize n)
+  where
+    agree : (m : ℕ) → ltb m n && p m ≡ ltb m n && q m
+    agree m = dite (decLt m n) (λ l. rw (h m l)) (λ l. rw (le-ltb m n (omega arith)))
+
 -- two lists that show the same marks have the same bits below 8 * mapSize n
 same-bits : {shown : ℕ → Bool} {n : ℕ} {a b : List ℕ} → Shows shown n a → Shows shown n b
     → (m : ℕ) → m < 8 * mapSize n → bitAt a m ≡ bitAt b m

@@ -11,7 +11,7 @@ use Rattle.lists.specs.Stores.{over}
 use Rattle.lists.specs.TestLaws.{both-iff}
 use Rattle.contents.specs.Contents.{has, split, marksPart, schedulePart, indexPart}
 use Rattle.contents.specs.Asking.{Question, _asks_, answer}
-use Rattle.contents.specs.Laws.{append-yes, append-no}
+use Rattle.contents.specs.Laws.{append-no}
 use Rattle.sheet.specs.Questions.{sheetCount, check, question10, indexedQuestions}
 use Rattle.sheet.specs.Laws.{indexed-numbered, accepted-iff}
 use Rattle.bitmap.specs.Map.{mapSize, mapBytes, countShown}
@@ -19,10 +19,11 @@ use Rattle.bitmap.specs.Laws.{map-length}
 use Rattle.zoom.specs.declared.Zoom.{Zoom}
 use Rattle.zoom.specs.declared.Scale.the-variants.{Taken, Refused}
 use Rattle.zoom.specs.Zoom.{scaleOf}
-use Rattle.view.specs.declared.Rectangle.{Rectangle}
+use Rattle.view.specs.declared.Window.{Window}
 use Rattle.view.specs.Shown.{shown}
 use Rattle.view.specs.View.{Viewable, Viewed}
-use Rattle.view.specs.Questions.{question11, isTaken, viewQuestions}
+use Rattle.view.specs.Laws.{view-asked}
+use Rattle.view.specs.Questions.{question20, question11, isTaken, viewQuestions}
 use Rattle.jobs.specs.declared.Answer.{Answer}
 use Rattle.jobs.specs.Jobs.{outcome, shownIn, viewJob}
 use Rattle.jobs.specs.Answers.{refusal, Gives}
@@ -31,7 +32,7 @@ use Rattle.jobs.specs.Laws.Outcomes.{refused-gives, written-gives}
 
 -- ---- question 13, the map and the count
 
-module _ (s : List ℕ) (e : Rectangle) (k : ℕ) (buffer : List ℕ) where
+module _ (s : List ℕ) (e : Window) (k : ℕ) (buffer : List ℕ) where
   abbrev show : ℕ → Bool
   show = shown (marksPart (split s)) (schedulePart (split s)) k e
 
@@ -47,11 +48,11 @@ module _ (s : List ℕ) (e : Rectangle) (k : ℕ) (buffer : List ℕ) where
       written-gives ((13 asks leb (mapSize (sheetCount s)) (length buffer)) ∷ []) (countShown show (sheetCount s)) (mapBytes show (sheetCount s)) buffer (rw (le-leb (mapSize (sheetCount s)) (length buffer) room))
       (rw (v .count-is) at is) (rw (map-length show (sheetCount s)) (v .map-is))
 
--- ---- questions 1 to 12
+-- ---- questions 1 to 12, and 20
 
-module _ (s : List ℕ) (e : Rectangle) (zoom : Zoom) (buffer : List ℕ) where
+module _ (s : List ℕ) (e : Window) (zoom : Zoom) (buffer : List ℕ) where
   abbrev later : List Question
-  later = (11 asks question11 e) ∷ (12 asks isTaken (scaleOf zoom)) ∷ (13 asks leb (mapSize (sheetCount s)) (length buffer)) ∷ []
+  later = (20 asks question20 e) ∷ (11 asks question11 e) ∷ (12 asks isTaken (scaleOf zoom)) ∷ (13 asks leb (mapSize (sheetCount s)) (length buffer)) ∷ []
 
   refused-at : {r : Answer} (number : ℕ) → answer (viewQuestions s e zoom (length buffer)) ≡ number → 0 < number → r ≡ refusal number
       → Gives (viewJob s e zoom (length buffer)) buffer r buffer
@@ -67,22 +68,26 @@ module _ (s : List ℕ) (e : Rectangle) (zoom : Zoom) (buffer : List ℕ) where
 
   module _ (ok : answer (indexedQuestions s) ≡ 0) where
     asked : answer (viewQuestions s e zoom (length buffer)) ≡ answer later
-    unfolding viewQuestions
-    asked = append-yes (indexedQuestions s) later (indexed-numbered s) ok
+    asked = view-asked s e zoom (length buffer) ok
 
-    pub view-no-rectangle : {r : Answer} → question11 e ≡ false → r ≡ refusal 11 → Gives (viewJob s e zoom (length buffer)) buffer r buffer
+    pub view-no-window : {r : Answer} → question20 e ≡ false → r ≡ refusal 20 → Gives (viewJob s e zoom (length buffer)) buffer r buffer
     unfolding answer
-    view-no-rectangle wrong is = refused-at 11 (asked ∙ rw wrong) (omega arith) is
+    view-no-window wrong is = refused-at 20 (asked ∙ rw wrong) (omega arith) is
 
-    module _ (right : question11 e ≡ true) where
-      pub view-no-zoom : {r : Answer} → scaleOf zoom ≡ Refused → r ≡ refusal 12 → Gives (viewJob s e zoom (length buffer)) buffer r buffer
+    module _ (taken : question20 e ≡ true) where
+      pub view-no-order : {r : Answer} → question11 e ≡ false → r ≡ refusal 11 → Gives (viewJob s e zoom (length buffer)) buffer r buffer
       unfolding answer
-      view-no-zoom refused is = refused-at 12 (asked ∙ rw (right, refused)) (omega arith) is
+      view-no-order wrong is = refused-at 11 (asked ∙ rw (taken, wrong)) (omega arith) is
 
-      -- the zoom is taken: 13 is all that is left to ask
-      pub view-taken : (k : ℕ) → scaleOf zoom ≡ Taken k → viewJob s e zoom (length buffer) ≡ viewAt s e k (length buffer)
-      unfolding viewJob viewAt shownIn outcome answer
-      view-taken k taken = rw (asked, right, taken)
+      module _ (right : question11 e ≡ true) where
+        pub view-no-zoom : {r : Answer} → scaleOf zoom ≡ Refused → r ≡ refusal 12 → Gives (viewJob s e zoom (length buffer)) buffer r buffer
+        unfolding answer
+        view-no-zoom refused is = refused-at 12 (asked ∙ rw (taken, right, refused)) (omega arith) is
+
+        -- the zoom is taken: 13 is all that is left to ask
+        pub view-taken : (k : ℕ) → scaleOf zoom ≡ Taken k → viewJob s e zoom (length buffer) ≡ viewAt s e k (length buffer)
+        unfolding viewJob viewAt shownIn outcome answer
+        view-taken k zoomed = rw (asked, taken, right, zoomed)
 
 -- ---- what the search asks for
 

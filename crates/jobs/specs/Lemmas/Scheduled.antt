@@ -30,7 +30,6 @@ use Rattle.bodies.specs.Questions.{markCount, editionOf, namesRight, recordRigh
 use Rattle.bodies.specs.Fitting.{Fitting}
 use Rattle.sheet.specs.Questions.{sheetCount, check}
 use Rattle.sheet.specs.Laws.{accepted-iff}
-use Rattle.bitmap.specs.Map.{countShown}
 use Rattle.jobs.specs.Jobs.{newSchedule, newIndex, newParts}
 use Rattle.jobs.specs.Laws.Kept.{KeptRight}
 
@@ -45,11 +44,6 @@ later-same v w f e = cases (later v (At f)) (later w (At f)) refl refl
     cases false false p q = p ∙ sym q
     cases true false p q = absurd (true≢false (sym (later-iff w f .1 (e .0 (later-iff v f .0 p))) ∙ q))
     cases false true p q = absurd (true≢false (sym (later-iff v f .1 (e .1 (later-iff w f .0 q))) ∙ p))
-
-pub count-same : (p q : ℕ → Bool) (n : ℕ) → ((m : ℕ) → m < n → p m ≡ q m) → countShown p n ≡ countShown q n
-unfolding countShown
-count-same p q zero h = refl
-count-same p q (suc n) h = rw (count-same p q n (λ m k. h m (omega arith)), h n (omega arith))
 
 -- ---- the parts that scheduling writes for the marks `s`, with parts that are kept
 

@@ -2,6 +2,7 @@
 use borrow.Author.Needs.{needs}
 use mir.Facts.{toZ-ofZ}
 use Rattle.jobs.specs.Theorems.{view-whole}
+use Rattle.jobs.specs.Turns.{turn-meets}
 use Rattle.rollmap.proofs.rollmap_view_wheel.Statement.{statement}
 use Rattle.rollmap.proofs.rollmap_view_wheel.Tie as tie
 
@@ -14,8 +15,9 @@ same-length c = search needs
 returns : tie.Need-returns
 returns c =
     let b = c .before .before .before .before .before .before in
-    view-whole
-    (rw (toZ-ofZ {z = b .args .x0} (b .fits .x0), toZ-ofZ {z = b .args .x1} (b .fits .x1), toZ-ofZ {z = b .args .y0} (b .fits .y0), toZ-ofZ {z = b .args .y1} (b .fits .y1)) at (c .before .before .view .ensures))
+    let gives = rw (toZ-ofZ {z = b .args .x0} (b .fits .x0), toZ-ofZ {z = b .args .x1} (b .fits .x1), toZ-ofZ {z = b .args .y0} (b .fits .y0), toZ-ofZ {z = b .args .y1} (b .fits .y1)) at (c .before .before .view .ensures) in
+    let told = view-whole gives in
+    (told .0, (told .1, turn-meets gives))
 
 pub rollmap-view-wheel-spec : {M : Type 1} → statement M
 rollmap-view-wheel-spec = tie.close (tie.spec view-requires same-length returns)

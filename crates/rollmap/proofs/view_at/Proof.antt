@@ -14,7 +14,7 @@ use Rattle.rollmap.proofs.view_at.Tie as tie
 
 -- what is cut by the layout is the part
 is : (s : tie.Start) (code : ℕ) {l : List ℕ} → l ≡ cutOf (now (s .args .sheet)) (placeOf (s .args .layout) code) → l ≡ find (split (now (s .args .sheet))) code
-is s code e = e ∙ rw (s .pre .1) (layout-part (now (s .args .sheet)) (accepted-iff _ .0 (s .pre .0) .laid) code)
+is s code e = e ∙ rw (s .pre .0 .1) (layout-part (now (s .args .sheet)) (accepted-iff _ .0 (s .pre .0 .0) .laid) code)
 
 marks-are : (c : tie.After-part) → now (c .part .result) ≡ marksPart (split (now (c .before .before .before .args .sheet)))
 marks-are c = is (c .before .before .before) 1 (c .part .ensures)
@@ -41,9 +41,11 @@ part-requires-3 c κs = search needs
 show-requires : tie.Need-show-requires
 show-requires c κs =
     let b = c .before .before .before .before in
-    let s = b .before .before .before in
-    rw (marks-are b, is s 2 (c .before .before .part2 .ensures), is s 3 (c .before .part3 .ensures))
-    (viewable (now (s .args .sheet)) _ (s .pre .0) (s .pre .2) (rw (marks-are b) at (c .before .before .before .if1 .left)), s .pre .3)
+    let s = b .before .before .before in (
+      rw (marks-are b, is s 2 (c .before .before .part2 .ensures), is s 3 (c .before .part3 .ensures))
+          (viewable (now (s .args .sheet)) _ (s .pre .0 .0) (s .pre .0 .2) (rw (marks-are b) at (c .before .before .before .if1 .left)), s .pre .0 .3),
+      s .pre .1,
+    )
 
 same-length : tie.Need-same-length
 same-length c = search needs

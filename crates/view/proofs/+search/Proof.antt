@@ -62,7 +62,7 @@ module _ (t : ℕ) where
   entry-requires c κs = omega arith
 
   value-at-requires : lts.Need-value-at-requires claims given reads.Post
-  value-at-requires c κs = root-fits (start c .pre .1) (some c) (c .entry .ensures .0) .1
+  value-at-requires c κs = root-fits (start c .pre .1 .0) (some c) (c .entry .ensures .0) .1
 
   lives-requires : lts.Need-lives-requires claims given reads.Post
   lives-requires c κs = search needs
@@ -72,14 +72,14 @@ module _ (t : ℕ) where
       let v = c .before .before in
       let e = v .before in
       let dead = sym (rw (v .value-at .ensures) at (c .before .lives .ensures)) ∙ not-true _ (c .if2 .taken) in
-      block-none (start e .pre .1) (some e) (e .entry .ensures .0) dead
+      block-none (start e .pre .1 .0) (some e) (e .entry .ensures .0) dead
 
   visit-requires : lts.Need-visit-requires claims given reads.Post
   visit-requires c κs =
       let e = c .before .before .before .before in
-      let r = start e .pre .1 in
+      let r = start e .pre .1 .0 in
       let f = root-fits r (some e) (e .entry .ensures .0) in
-      (f .0, r .taken, f .2)
+      (f .0, r .taken, start e .pre .1 .1, f .2)
 
   sub-second : lts.Need-sub-second claims given reads.Post
   sub-second c = omega arith
@@ -100,26 +100,29 @@ module _ (t : ℕ) where
   size-to-search-requires : lts.Need-size-to-search-requires claims given reads.Post
   size-to-search-requires c κs =
       let e = found (c .before .before) in
-      (all-marked (start e .pre .1) (some e), omega arith)
+      (all-marked (start e .pre .1 .0) (some e), omega arith)
 
   search-requires : lts.Need-search-requires claims given reads.Post
   search-requires c κs =
       let v = c .before .before .before .before in
       let e = found v in
-      half-call (start e .pre .1) (some e) true (c .before .size-to-search .ensures) (start e .pre .0) (v .visit .ensures .long)
+      let h = half-call (start e .pre .1 .0) (some e) true (c .before .size-to-search .ensures) (start e .pre .0) (v .visit .ensures .long) in
+      (h .0, (h .1, start e .pre .1 .1))
 
   size-to-search-requires-2 : lts.Need-size-to-search-requires-2 claims given reads.Post
   size-to-search-requires-2 c κs =
       let e = found (c .before .before .before .before .before .before .before) in
-      (all-marked (start e .pre .1) (some e), omega arith)
+      (all-marked (start e .pre .1 .0) (some e), omega arith)
 
   search-requires-2 : lts.Need-search-requires-2 claims given reads.Post
   search-requires-2 c κs =
       let w = c .before .before .before .before in
       let v = w .before .before .before .before .before in
       let e = found v in
-      half-call (start e .pre .1) (some e) false (c .before .size-to-search2 .ensures) (start e .pre .0)
-      (w .search .ensures .long ∙ v .visit .ensures .long)
+      let h =
+      half-call (start e .pre .1 .0) (some e) false (c .before .size-to-search2 .ensures) (start e .pre .0)
+      (w .search .ensures .long ∙ v .visit .ensures .long) in
+      (h .0, (h .1, start e .pre .1 .1))
 
   same-length : lts.Need-same-length claims given reads.Post
   same-length c =
@@ -135,8 +138,8 @@ module _ (t : ℕ) where
       let a = start e .args in
       let l = v .before .before .before in
       let alive = sym (rw (l .before .value-at .ensures) at (l .lives .ensures)) ∙ not-false _ (v .before .before .if2 .left) in
-      let same = living-shown (now (a .marks)) (now (a .schedule)) (a .k) (a .rectangle) _ alive in
-      block-set (start e .pre .1) (some e) (e .entry .ensures .0) (set-same _ same (v .visit .ensures))
+      let same = living-shown (now (a .marks)) (now (a .schedule)) (a .k) (a .edges) _ alive in
+      block-set (start e .pre .1 .0) (some e) (e .entry .ensures .0) (set-same _ same (v .visit .ensures))
       (w .before .before .size-to-search .ensures) (w .search .ensures)
       (c .before .before .before .before .size-to-search2 .ensures) (c .before .before .search2 .ensures)
 

@@ -1,9 +1,8 @@
--- `view::gap` meets its contract: the gap is at most 131,070. Assumes nothing.
+-- `view::gap` meets its contract: the gap is at most 131,072. Assumes nothing.
 use mathlib.Core.Path.{_∙_}
 use native.Mathlib.Omega.{arith}
 use borrow.Author.Needs.{needs}
 use mir.Facts.{toZ-ofZ}
-use Rattle.view.specs.Shown.{gap}
 use Rattle.view.proofs.gap.Statement.{statement}
 use Rattle.view.proofs.gap.Tie as tie
 
@@ -20,12 +19,7 @@ cast-result : tie.Need-cast-result
 cast-result c = record { sfits = omega arith }
 
 returns : tie.Need-returns
-unfolding gap
-returns c =
-    let f = c .before .before .fits in
-    let low = rw (toZ-ofZ (f .low), toZ-ofZ (f .place)) at (c .before .above .ensures .0) in
-    let high = rw (toZ-ofZ (f .place), toZ-ofZ (f .high)) at (c .above2 .ensures .0) in
-    (toZ-ofZ (cast-result c) ∙ rw (low, high), rw (← low, ← high) (omega arith))
+returns c = (toZ-ofZ (cast-result c) ∙ rw (c .before .above .ensures, c .above2 .ensures), omega arith)
 
 pub gap-spec : {M : Type 1} → statement M
 gap-spec = tie.close (tie.spec above-requires above-requires-2 add-result cast-result returns)

@@ -1,17 +1,19 @@
 -- `view::reaches` meets its contract: k² times the squared radius fits 64 bits, whatever the radius. Assumes nothing.
 use Prim.Native.Nat.{ℕ, _*_, _≤_}
-use mathlib.Core.Path.{_≡_, _∙_}
+use mathlib.Core.Path.{_≡_, _∙_, subst}
+use mathlib.Core.Bool.{true, false}
 use mathlib.Core.List.{List}
 use native.Mathlib.Omega.{arith}
 use native.Mathlib.Nat.{mul-le-mul}
 use borrow.Author.Needs.{needs, sfits-of}
 use mir.Facts.{toZ-ofZ}
-use mir.Syntax.{w16, w32}
+use mir.Syntax.{w32}
 use lib.IntN.{pos}
 use denote.Ref.{now}
-use Rattle.marks.specs.Marks.{xAt, yAt, distance}
+use Rattle.marks.specs.Marks.{distance}
 use Rattle.marks.specs.Laws.{distance-most}
-use Rattle.view.specs.Shown.{gap, distanceSquared}
+use Rattle.index.specs.Index.{coordinate}
+use Rattle.view.specs.Turning.{gapHere, distanceHere}
 use Rattle.view.specs.Lemmas.Reaching.{reached, reached-inside}
 use Rattle.view.proofs.reaches.Statement.{statement}
 use Rattle.view.proofs.reaches.Tie as tie
@@ -19,11 +21,11 @@ use Rattle.view.proofs.reaches.Tie as tie
 -- ---- the distance is had
 
 module _ (d : tie.After-distance) where
-  abbrev y-read : tie.After-place-y
-  y-read = d .before .before .before .before
+  abbrev y-read : tie.After-coordinate2
+  y-read = d .before .before
 
-  abbrev x-read : tie.After-place-x
-  x-read = y-read .before .before .before .before
+  abbrev x-read : tie.After-coordinate
+  x-read = y-read .before .before
 
   abbrev start : tie.Start
   start = x-read .before .before
@@ -32,30 +34,20 @@ module _ (d : tie.After-distance) where
   marks-bytes = now (start .args .marks)
 
   abbrev x-gap : ℕ
-  x-gap = gap (start .args .rectangle .x0) (start .args .rectangle .x1) (xAt marks-bytes (start .args .m))
+  x-gap = gapHere (start .args .edges .x0) (start .args .edges .x1) (coordinate marks-bytes true (start .args .m))
 
   abbrev y-gap : ℕ
-  y-gap = gap (start .args .rectangle .y0) (start .args .rectangle .y1) (yAt marks-bytes (start .args .m))
+  y-gap = gapHere (start .args .edges .y0) (start .args .edges .y1) (coordinate marks-bytes false (start .args .m))
 
-  x-is : (y-read .before .gap .result ≡ pos x-gap) × (x-gap ≤ 131070)
+  x-is : (y-read .before .gap .result ≡ pos x-gap) × (x-gap ≤ 131072)
   x-is =
-      let e = start .args .rectangle in
-      let told = y-read .before .before .before .struct-told .given in
-      rw (
-        toZ-ofZ {z = e .x0} (sfits-of (told .0 .1)),
-        toZ-ofZ {z = e .x1} (sfits-of (told .1 .0 .1)),
-        toZ-ofZ {w = w16} {z = x-read .place-x .result} (sfits-of (x-read .place-x .ok)) ∙ x-read .place-x .ensures,
-      ) at (y-read .before .gap .ensures)
+      subst (λ (z : ℕ). let g = gapHere (start .args .edges .x0) (start .args .edges .x1) z in (y-read .before .gap .result ≡ pos g) × (g ≤ 131072))
+      (x-read .coordinate .ensures .0) (y-read .before .gap .ensures)
 
-  y-is : (d .before .gap2 .result ≡ pos y-gap) × (y-gap ≤ 131070)
+  y-is : (d .before .gap2 .result ≡ pos y-gap) × (y-gap ≤ 131072)
   y-is =
-      let e = start .args .rectangle in
-      let told = y-read .before .before .before .struct-told .given in
-      rw (
-        toZ-ofZ {z = e .y0} (sfits-of (told .1 .1 .0 .1)),
-        toZ-ofZ {z = e .y1} (sfits-of (told .1 .1 .1 .0 .1)),
-        toZ-ofZ {w = w16} {z = y-read .place-y .result} (sfits-of (y-read .place-y .ok)) ∙ y-read .place-y .ensures,
-      ) at (d .before .gap2 .ensures)
+      subst (λ (z : ℕ). let g = gapHere (start .args .edges .y0) (start .args .edges .y1) z in (d .before .gap2 .result ≡ pos g) × (g ≤ 131072))
+      (y-read .coordinate2 .ensures .0) (d .before .gap2 .ensures)
 
   distance-is : d .distance .result ≡ distance x-gap y-gap
   distance-is =
@@ -64,11 +56,11 @@ module _ (d : tie.After-distance) where
         toZ-ofZ {w = w32} {z = d .before .gap2 .result} (sfits-of (d .before .gap2 .ok)) ∙ y-is .0,
       ) at (d .distance .ensures)
 
-  squared-is : d .distance .result ≡ distanceSquared marks-bytes (start .args .rectangle) (start .args .m)
-  unfolding distanceSquared
+  squared-is : d .distance .result ≡ distanceHere marks-bytes (start .args .edges) (start .args .m)
+  unfolding distanceHere
   squared-is = distance-is
 
-  squared-most : d .distance .result ≤ 2 * (131070 * 131070)
+  squared-most : d .distance .result ≤ 2 * (131072 * 131072)
   squared-most =
       let x = x-is .1 in
       let y = y-is .1 in
@@ -76,17 +68,17 @@ module _ (d : tie.After-distance) where
 
 -- ---- the needs
 
-place-x-requires : tie.Need-place-x-requires
-place-x-requires c κs = search needs
+coordinate-requires : tie.Need-coordinate-requires
+coordinate-requires c κs = search needs
 
 gap-requires : tie.Need-gap-requires
-gap-requires c κs = search needs
+gap-requires c κs = (c .before .before .pre .2 .x0-most, omega (arith, c .coordinate .ensures .1))
 
-place-y-requires : tie.Need-place-y-requires
-place-y-requires c κs = search needs
+coordinate-requires-2 : tie.Need-coordinate-requires-2
+coordinate-requires-2 c κs = search needs
 
 gap-requires-2 : tie.Need-gap-requires-2
-gap-requires-2 c κs = search needs
+gap-requires-2 c κs = (c .before .before .before .before .pre .2 .y0-most, omega (arith, c .coordinate2 .ensures .1))
 
 distance-requires : tie.Need-distance-requires
 distance-requires c κs = search needs
@@ -95,7 +87,7 @@ returns : tie.Need-returns
 returns c =
     let d = c .before in
     let a = start d .args in
-    reached-inside (marks-bytes d) (a .k) (a .rectangle) (a .m) (squared-is d) (c .if1 .taken)
+    reached-inside (marks-bytes d) (a .k) (a .edges) (a .m) (squared-is d) (c .if1 .taken)
 
 radius-at-requires : tie.Need-radius-at-requires
 radius-at-requires c κs = search needs
@@ -126,15 +118,15 @@ returns-2 : tie.Need-returns-2
 returns-2 c =
     let d = c .before .before in
     let a = start d .args in
-    reached (marks-bytes d) (a .k) (a .rectangle) (a .m) (squared-is d) (c .radius-at .ensures)
+    reached (marks-bytes d) (a .k) (a .edges) (a .m) (squared-is d) (c .radius-at .ensures)
 
 pub reaches-spec : {M : Type 1} → statement M
 reaches-spec =
     tie.close
     (tie.spec
-    place-x-requires
+    coordinate-requires
     gap-requires
-    place-y-requires
+    coordinate-requires-2
     gap-requires-2
     distance-requires
     returns

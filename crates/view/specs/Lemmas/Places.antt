@@ -1,14 +1,13 @@
 -- Places counted from n below 0, where omega reads them: their differences and their order, as long as n is below them all.
 use Prim.Native.Nat.{ℕ, zero, suc, _+_, _-_, _<_, _≤_}
 use native.Mathlib.Omega.{arith}
-use mathlib.Core.Path.{_≡_, refl}
+use mathlib.Core.Path.{_≡_}
 use mathlib.Core.Bool.{true, false}
 use lib.Dec.{ltb}
 use lib.IntN.{ℤ, pos, negsuc, subℕ, _-ℤ_, natAbs}
 use lib.Signed.{mag, leZ}
 use borrow.Author.Tests.{ltb-true, ltb-false, leb-true, leb-false}
 use Rattle.lists.specs.TestLaws.{by-cases}
-use Rattle.marks.specs.Marks.{shifted}
 use Rattle.view.specs.Shown.{above}
 
 pub above-sub : (a b : ℕ) → above (subℕ a b) ≡ a - b
@@ -22,10 +21,6 @@ abs-sub a b =
 abbrev pub from : ℕ → ℤ → ℕ
 from n (pos a) = a + n
 from n (negsuc a) = n - suc a
-
-pub shifted-from : (z : ℤ) → shifted z ≡ from 32768 z
-shifted-from (pos a) = refl
-shifted-from (negsuc a) = refl
 
 module _ (n : ℕ) where
   pub from-above : (a b : ℤ) → mag a < n → mag b < n → above (a -ℤ b) ≡ from n a - from n b

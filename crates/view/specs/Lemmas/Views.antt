@@ -19,11 +19,14 @@ use Rattle.index.specs.Blocks.{entryAt}
 use Rattle.index.specs.Laws.{index-below, index-once, index-block, block-tree, index-entries}
 use Rattle.bitmap.specs.Map.{mapSize, bitAt}
 use Rattle.bitmap.specs.Facts.{Shows, MapCleared, countBits}
-use Rattle.bitmap.specs.Laws.{map-is, cleared-bit, count-shown, count-bits-le}
+use Rattle.bitmap.specs.Laws.{map-same, count-same, map-is, cleared-bit, count-shown, count-bits-le}
 use Rattle.view.specs.View.{Viewable, Viewed}
 use Rattle.view.specs.declared.Bounds.{Bounds}
-use Rattle.view.specs.declared.Rectangle.{Rectangle}
+use Rattle.view.specs.declared.Window.{Window}
 use Rattle.view.specs.Shown.{shown}
+use Rattle.view.specs.Questions.{question20, question11}
+use Rattle.view.specs.Turning.{turnedBack, shownHere}
+use Rattle.view.specs.Lemmas.Turned.{shown-back}
 use Rattle.view.specs.Search.{widestLiving, boundsOf, inByte, BitsSet, Searchable}
 use Rattle.view.specs.Lemmas.Reaching.{shown-lives, shown-within}
 
@@ -32,8 +35,8 @@ module _ {s p t map : List ℕ} {n : ℕ} (v : Viewable s p t map n) where
   few = omega arith
 
   -- `b` is what the code has worked out
-  pub whole-searchable : {cleared : List ℕ} (k : ℕ) (e : Rectangle) {b : Bounds} → length cleared ≡ length map → k ≤ largestScale
-      → b ≡ boundsOf e k (widestLiving s p k n) → Searchable (shown s p k e) s p t cleared b k 0 n true
+  pub whole-searchable : {cleared : List ℕ} (k : ℕ) (e : Bounds) {b : Bounds} → length cleared ≡ length map → k ≤ largestScale
+      → b ≡ boundsOf e k (widestLiving s p k n) → Searchable (shownHere s p k e) s p t cleared b k 0 n true
   whole-searchable k e long taken is =
       record {
         n = n;
@@ -86,6 +89,16 @@ module _ {s p t map : List ℕ} {n : ℕ} (v : Viewable s p t map n) where
     pub viewed : Bytes after → {r : ℕ} → r ≡ countBits (bitAt after) (8 * mapSize n) → Viewed shown n map after r
     viewed bytes r =
         record { map-is = map-is shows bytes map (v .room) (set .long ∙ c .long) rest; count-is = r ∙ count-shown shows }
+
+-- tests that agree are viewed alike
+viewed-same : {p q : ℕ → Bool} {n : ℕ} {before after : List ℕ} {r : ℕ} → ((m : ℕ) → m < n → p m ≡ q m) → Viewed p n before after r → Viewed q n before after r
+viewed-same {p} {q} {n} h v =
+    record { map-is = rw (← map-same p q n h) (v .map-is); count-is = v .count-is ∙ count-same p q n h }
+
+-- What is found in the window turned back is what is shown in the window.
+pub viewed-back : (s p : List ℕ) → Bytes s → (k : ℕ) {n : ℕ} (w : Window) {e : Bounds} → question20 w ≡ true → question11 w ≡ true → e ≡ turnedBack w
+    → {before after : List ℕ} {r : ℕ} → Viewed (shownHere s p k e) n before after r → Viewed (shown s p k w) n before after r
+viewed-back s p bytes k w taken order is v = viewed-same (λ m h. rw is (sym (shown-back w taken order s bytes k m p))) v
 
 -- the count of a map fits 32 bits
 pub count-fits : (map : List ℕ) {n r : ℕ} → n ≤ 4096 → r ≡ countBits (bitAt map) (8 * mapSize n) → r < 4294967296

@@ -10,12 +10,12 @@ use oracle::record::write_records;
 use oracle::sample::{marks, Generator, Shape};
 use oracle::sheet::{check, join, join_parts, split};
 use oracle::tree;
-use oracle::view::Edges;
+use oracle::view::{Edges, Window};
 use oracle::zoom::Zoom;
 
 use super::schedule::Desk;
 use super::sheet::open;
-use super::view::{view, walk};
+use super::view::{turned_back, view, walk};
 
 /// The sheet of one part with these marks, and the scheduled one.
 fn sheets(marks: &[Mark]) -> [Vec<u8>; 2] {
@@ -113,19 +113,21 @@ fn trees_with_two_numbers_exchanged_are_refused() {
     }
 }
 
-/// A small rectangle about as far from some mark as its label reaches at a stop, or
-/// nearer; or one of which the edges are crossed.
-fn some_edges(generator: &mut Generator, marks: &[Mark], stop: u8) -> Edges {
-    let Label { x, y, radius } = generator.choose(marks).label();
+/// A small rectangle about as far from some turned mark as its label reaches at a stop, or
+/// nearer; or one of which the edges are crossed. Some of them have a turn or an edge that
+/// is refused.
+fn some_window(generator: &mut Generator, marks: &[Mark], stop: u8) -> Window {
+    let turn = generator.choose(&[0, 0, 1, 1, 2, 2, 3, 3, 4]);
+    let Label { x, y, radius } = generator.choose(marks).label().turned(turn);
     let reach = (radius << stop.min(16)) / 64 + 2;
     let mut side = |place: i32| {
         let away = generator.below(reach) as i32 * generator.choose(&[1, -1]);
         let size = generator.choose(&[-1, 0, 5, 300, 300]);
-        let edge = |at: i32| at.clamp(i16::MIN.into(), i16::MAX.into()) as i16;
+        let edge = |at: i32| at.clamp(-32_769, 32_768);
         [edge(place + away), edge(place + away + size)]
     };
     let ([x0, x1], [y0, y1]) = (side(x), side(y));
-    Edges { x0, x1, y0, y1 }
+    Edges { x0, x1, y0, y1 }.of_turned(turn)
 }
 
 #[test]
@@ -138,28 +140,47 @@ fn views_show_what_looking_at_every_mark_shows() {
     {
         let sample = marks(shape, n, 6);
         let [bare, sheet] = sheets(&sample);
-        let compare = |sheet: &[u8], edges, stop| {
+        let compare = |sheet: &[u8], window, stop| {
             let zoom = Zoom::Stop(stop);
             let mut map = vec![0xee; map_bytes(n)];
-            let answer = view(sheet, edges, zoom, &mut map);
-            let expected = oracle::view::view(sheet, edges, zoom, map.len());
+            let answer = view(sheet, window, zoom, &mut map);
+            let expected = oracle::view::view(sheet, window, zoom, map.len());
             assert_eq!(
                 answer.map(|count| (map, count)),
                 expected,
-                "{shape:?} {edges:?} {stop}"
+                "{shape:?} {window:?} {stop}"
             );
         };
         for stop in 0..=17 {
-            compare(&bare, Edges::WHOLE, stop);
-            compare(&sheet, Edges::WHOLE, stop);
+            compare(&bare, Window::WHOLE, stop);
+            compare(&sheet, Window::WHOLE, stop);
             for _ in 0..50 {
-                compare(&sheet, some_edges(&mut generator, &sample, stop), stop);
+                compare(&sheet, some_window(&mut generator, &sample, stop), stop);
             }
         }
     }
     let [bare, empty] = sheets(&[]);
-    assert_eq!(view(&bare, Edges::WHOLE, Zoom::Stop(0), &mut []), Err(10));
-    assert_eq!(view(&empty, Edges::WHOLE, Zoom::Stop(0), &mut []), Ok(0));
+    assert_eq!(view(&bare, Window::WHOLE, Zoom::Stop(0), &mut []), Err(10));
+    assert_eq!(view(&empty, Window::WHOLE, Zoom::Stop(0), &mut []), Ok(0));
+}
+
+#[test]
+fn a_window_is_turned_back_to_the_places_that_it_shows() {
+    let edges = Edges {
+        x0: -7,
+        x1: 2,
+        y0: 1,
+        y1: 5,
+    };
+    for turn in 0..=3 {
+        let window = edges.of_turned(turn);
+        let unturned = turned_back(window).unturned();
+        for (x, y) in (-9..=9).flat_map(|x| (-9..=9).map(move |y| (x, y))) {
+            let mark = Mark::plain(x, y, 1, 0);
+            let reaches = |window| oracle::view::reaches(&mark, window, 1);
+            assert_eq!(reaches(unturned), reaches(window));
+        }
+    }
 }
 
 #[test]

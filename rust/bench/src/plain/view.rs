@@ -2,7 +2,8 @@
 
 use oracle::map::{map_bytes, set_bit};
 use oracle::tree::{branches, Axis};
-use oracle::view::{ask_view, reaches, Edges};
+use oracle::turn::turned;
+use oracle::view::{ask_view, disk_reaches, Edges, Window};
 use oracle::zoom::{lives, Zoom};
 use oracle::{ask, Refusal};
 
@@ -10,8 +11,8 @@ use super::index::{number, Block, Indexed};
 use super::sheet::open;
 
 /// Answers a view: writes its map and answers the count. Asks 1 to 13.
-pub fn view(sheet: &[u8], edges: Edges, zoom: Zoom, map: &mut [u8]) -> Result<u32, Refusal> {
-    let search = search(sheet, edges, zoom)?;
+pub fn view(sheet: &[u8], window: Window, zoom: Zoom, map: &mut [u8]) -> Result<u32, Refusal> {
+    let search = search(sheet, window, zoom)?;
     let bytes = map_bytes(search.indexed.index.len());
     ask(13, map.len() >= bytes)?;
     map[..bytes].fill(0);
@@ -19,20 +20,35 @@ pub fn view(sheet: &[u8], edges: Edges, zoom: Zoom, map: &mut [u8]) -> Result<u3
 }
 
 /// How many marks a view looks at. Asks 1 to 12.
-pub fn visited(sheet: &[u8], edges: Edges, zoom: Zoom) -> Result<usize, Refusal> {
-    let search = search(sheet, edges, zoom)?;
+pub fn visited(sheet: &[u8], window: Window, zoom: Zoom) -> Result<usize, Refusal> {
+    let search = search(sheet, window, zoom)?;
     Ok(search.visited(search.indexed.index, Axis::TOP))
 }
 
 /// The search of a view. Asks 1 to 12.
-fn search(sheet: &[u8], edges: Edges, zoom: Zoom) -> Result<Search<'_>, Refusal> {
+fn search(sheet: &[u8], window: Window, zoom: Zoom) -> Result<Search<'_>, Refusal> {
     let indexed = Indexed::of(&open(sheet)?).ok_or(10_u32)?;
-    let k = ask_view(edges, zoom)?;
-    Ok(Search::new(indexed, edges, k))
+    let k = ask_view(window, zoom)?;
+    Ok(Search::new(indexed, turned_back(window), k))
 }
 
-/// A search down the tree. The rectangle decides who is shown, and the widened one, from
-/// `low` to `high` on each axis, which halves are searched.
+/// The rectangle that a window's turn takes to its own: by as many quarter turns as are
+/// left of four, its corners come to where places are not turned.
+pub fn turned_back(window: Window) -> Edges {
+    let Edges { x0, x1, y0, y1 } = window.edges;
+    let corner = |x, y| turned(4 - window.turn, x, y);
+    let ((ax, ay), (bx, by)) = (corner(x0, y0), corner(x1, y1));
+    Edges {
+        x0: ax.min(bx),
+        x1: ax.max(bx),
+        y0: ay.min(by),
+        y1: ay.max(by),
+    }
+}
+
+/// A search down the tree, in places that are not turned. The rectangle decides who is
+/// shown, and the widened one, from `low` to `high` on each axis, which halves are
+/// searched.
 struct Search<'a> {
     indexed: Indexed<'a>,
     edges: Edges,
@@ -49,8 +65,8 @@ impl<'a> Search<'a> {
             indexed,
             edges,
             k,
-            low: [edges.x0, edges.y0].map(|edge| i32::from(edge) - by),
-            high: [edges.x1, edges.y1].map(|edge| i32::from(edge) + by),
+            low: [edges.x0, edges.y0].map(|edge| edge - by),
+            high: [edges.x1, edges.y1].map(|edge| edge + by),
         }
     }
 
@@ -63,7 +79,7 @@ impl<'a> Search<'a> {
         if !lives(self.indexed.removal(root), self.k) {
             return 0;
         }
-        let reached = reaches(&self.indexed.mark(root), self.edges, self.k);
+        let reached = disk_reaches(self.indexed.mark(root).label(), self.edges, self.k);
         set_bit(map, root, reached);
         let mut count = u32::from(reached);
         for half in self.halves(left, right, axis) {

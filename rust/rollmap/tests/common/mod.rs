@@ -3,6 +3,8 @@
 
 #![allow(dead_code)]
 
+pub mod views;
+
 use std::collections::BTreeMap;
 
 use oracle::contents::Part;

@@ -1,0 +1,20 @@
+-- What does not move the process: other marks of the same ranks and pair values. For any rank and any pair value. Assumes nothing.
+use Prim.Native.Nat.{ℕ, _<_}
+use mathlib.Core.Path.{_≡_, ap, _∙_}
+use Rattle.elimination.specs.Marks.{Marks}
+use Rattle.elimination.specs.Process.{process}
+use Rattle.elimination.specs.Alike.{Alike}
+use Rattle.elimination.specs.Records.{records}
+use Rattle.elimination.specs.Reel.{Reel, marksOf, scheduleOf}
+use Rattle.elimination.specs.Lemmas.Alike.{same-process, records-same}
+
+-- The process sees only the order of the ranks and the pair values: where these are the same, so is every removal, to the record.
+pub alike-process : (M N : Marks) → Alike M N → (m : ℕ) → m < M .count → process M m ≡ process N m
+alike-process = same-process
+
+-- Reels whose marks are alike have the same schedule, byte for byte.
+pub alike-schedule : (r q : Reel) → Alike (marksOf r) (marksOf q) → scheduleOf r ≡ scheduleOf q
+unfolding scheduleOf
+alike-schedule r q like =
+    records-same (process (marksOf r)) (process (marksOf q)) (r .count) (alike-process (marksOf r) (marksOf q) like)
+    ∙ ap (records (process (marksOf q))) (like .counts)

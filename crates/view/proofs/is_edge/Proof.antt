@@ -1,0 +1,12 @@
+-- `view::is_edge` meets its contract: the two tests of the range. Assumes nothing.
+use borrow.Author.Needs.{needs}
+use Rattle.view.specs.Questions.{isEdge}
+use Rattle.view.proofs.is_edge.Statement.{statement}
+use Rattle.view.proofs.is_edge.Tie as tie
+
+returns : tie.Need-returns
+unfolding isEdge
+returns c = search needs
+
+pub is-edge-spec : {M : Type 1} → statement M
+is-edge-spec = tie.close (tie.spec returns)

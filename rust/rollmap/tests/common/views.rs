@@ -1,0 +1,223 @@
+//! Views: what the oracle answers to them, and windows and zooms at which it matters what
+//! is asked.
+
+use oracle::fraction::Removal;
+use oracle::mark::Mark;
+use oracle::record::{removals, Record};
+use oracle::sample::Generator;
+use oracle::view::{map_and_count, Edges, Window};
+use oracle::zoom::{removal_zoom_in_64ths, zoom_in_64ths};
+use rollmap::{Turn, View, Zoom, FARTHEST_EDGE};
+
+use super::{number, three_parts, Lent};
+
+/// All places at stop 0, without a turn.
+pub const WHOLE: View = View::whole(Zoom::Stop(0));
+
+// ---- what the oracle answers
+
+/// The edges of a view and its turn as the oracle has them.
+pub fn window(view: View) -> Window {
+    let View { x0, x1, y0, y1, .. } = view;
+    Edges { x0, x1, y0, y1 }.of_turned(view.turn.quarters())
+}
+
+/// The zoom of a view as the oracle has it.
+pub fn zoom(view: View) -> oracle::zoom::Zoom {
+    match view.zoom {
+        Zoom::Stop(stop) => oracle::zoom::Zoom::Stop(stop),
+        Zoom::Wheel(wheel) => oracle::zoom::Zoom::Wheel(wheel),
+    }
+}
+
+/// A zoom that is taken, in 64ths.
+pub fn in_64ths(taken: Zoom) -> u32 {
+    let zoom = zoom(View {
+        zoom: taken,
+        ..WHOLE
+    });
+    zoom_in_64ths(zoom).unwrap()
+}
+
+/// The zoom that is k 64ths, on the wheel.
+pub fn wheel(k: u32) -> Zoom {
+    Zoom::Wheel(k as f32 / 64.0)
+}
+
+/// Answers a view in a map of so many bytes, and sees that the number, the count and
+/// every byte are as expected. Answers the number.
+pub fn assert_view(
+    sheet: &[u8],
+    view: View,
+    map_length: usize,
+    expected: &Result<(Vec<u8>, u32), u32>,
+) -> u32 {
+    let mut map = Lent::new(map_length, (sheet.len() + map_length) as u64);
+    let answer = rollmap::view(sheet, view, map.slice());
+    match expected {
+        Ok((bytes, count)) => {
+            assert_eq!(answer, Ok(*count), "{view:?} {sheet:02x?}");
+            map.assert_written(bytes);
+        }
+        Err(expected) => {
+            assert_eq!(number(&answer), *expected, "{view:?} {sheet:02x?}");
+            map.assert_untouched();
+        }
+    }
+    number(&answer)
+}
+
+/// Answers a view as the oracle does. Answers the number.
+pub fn view(sheet: &[u8], view: View, map_length: usize) -> u32 {
+    let expected = oracle::view::view(sheet, window(view), zoom(view), map_length);
+    assert_view(sheet, view, map_length, &expected)
+}
+
+/// A sheet of three parts, and what it says, so that larger ones need not be opened
+/// for each view.
+pub struct Scheduled {
+    pub sheet: Vec<u8>,
+    pub marks: Vec<Mark>,
+    pub removals: Vec<Removal>,
+}
+
+impl Scheduled {
+    pub fn new(marks: Vec<Mark>, records: &[Record]) -> Self {
+        Self {
+            sheet: three_parts(&marks, records),
+            removals: removals(records),
+            marks,
+        }
+    }
+
+    /// The map and the count of a view that is taken.
+    pub fn expected(&self, view: View) -> (Vec<u8>, u32) {
+        let k = in_64ths(view.zoom);
+        map_and_count(&self.marks, &self.removals, window(view), k)
+    }
+
+    /// Some view of it with this turn that is taken.
+    pub fn some_view(&self, generator: &mut Generator, turn: Turn) -> View {
+        let zoom = some_zoom(generator, &self.removals);
+        let k = in_64ths(zoom);
+        View {
+            zoom,
+            ..some_window(generator, &self.marks, turn, k)
+        }
+    }
+
+    /// Answers a view that is taken, as looking at every mark does. Answers the count.
+    pub fn view(&self, view: View) -> u32 {
+        let expected = self.expected(view);
+        let count = expected.1;
+        assert_view(&self.sheet, view, expected.0.len(), &Ok(expected));
+        count
+    }
+}
+
+// ---- windows
+
+/// All places with this turn, a rectangle between the turned places of two marks, one that
+/// a disk just reaches or just misses at k/64, or a small one anywhere.
+pub fn some_window(generator: &mut Generator, marks: &[Mark], turn: Turn, k: u32) -> View {
+    if marks.is_empty() || generator.below(12) == 0 {
+        return View { turn, ..WHOLE };
+    }
+    match generator.below(3) {
+        0 => between_marks(generator, marks, turn),
+        1 => beside_a_disk(generator, marks, turn, k).0,
+        _ => anywhere(generator, turn),
+    }
+}
+
+/// The rectangle with these edges, put in order and into the range of edges.
+fn rectangle(x: [i32; 2], y: [i32; 2], turn: Turn) -> View {
+    let fitting = |edge: i32| edge.clamp(-FARTHEST_EDGE, FARTHEST_EDGE);
+    let ([x0, x1], [y0, y1]) = (x.map(fitting), y.map(fitting));
+    View {
+        x0: x0.min(x1),
+        x1: x0.max(x1),
+        y0: y0.min(y1),
+        y1: y0.max(y1),
+        turn,
+        ..WHOLE
+    }
+}
+
+/// A rectangle between the turned places of two marks, moved by a unit or not.
+pub fn between_marks(generator: &mut Generator, marks: &[Mark], turn: Turn) -> View {
+    let mut place = || generator.choose(marks).label().turned(turn.quarters());
+    let (a, b) = (place(), place());
+    let nudged = |edge: i32| edge + generator.choose(&[0, 0, 0, 1, -1]);
+    let [x0, x1, y0, y1] = [a.x, b.x, a.y, b.y].map(nudged);
+    rectangle([x0, x1], [y0, y1], turn)
+}
+
+/// An edge from the whole range.
+pub fn some_edge(generator: &mut Generator) -> i32 {
+    generator.below(2 * FARTHEST_EDGE as u32 + 1) as i32 - FARTHEST_EDGE
+}
+
+/// A rectangle of up to 9 places a side, which most disks are wider than.
+pub fn anywhere(generator: &mut Generator, turn: Turn) -> View {
+    let mut side = || {
+        let low = some_edge(generator);
+        [low, low + generator.below(9) as i32]
+    };
+    rectangle(side(), side(), turn)
+}
+
+/// A rectangle whose nearest place is as far from a turned mark as its disk at k/64
+/// reaches, as near as whole numbers allow, or one unit further; with the mark's number.
+pub fn beside_a_disk(
+    generator: &mut Generator,
+    marks: &[Mark],
+    turn: Turn,
+    k: u32,
+) -> (View, usize) {
+    let number = generator.below(marks.len() as u32) as usize;
+    let label = marks[number].label().turned(turn.quarters());
+    let radius = u64::from(label.radius);
+    let reach = u64::from(k) * radius / 64;
+    let along = match generator.below(3) {
+        0 => 0, // beside an edge, not a corner
+        1 => reach * 3 / 5,
+        _ => u64::from(generator.below(reach.min(65_535) as u32 + 1)),
+    };
+    let squared = u64::from(k).pow(2) * radius.pow(2) / 4_096;
+    let across = (squared - along * along).isqrt() + u64::from(generator.below(2));
+    let mut side = |place: i32, distance: u64| {
+        let distance = distance.min(65_536) as i32 * generator.choose(&[1, -1]);
+        let near = place + distance;
+        let far = near + distance.signum() * generator.choose(&[0, 3, 1_000, 40_000]);
+        [near, far]
+    };
+    let (one, other) = (side(label.x, along), side(label.y, across));
+    (rectangle(one, other, turn), number)
+}
+
+/// Whether a turned mark's disk at k/64 touches the rectangle from outside.
+pub fn touches(mark: &Mark, view: View, k: u32) -> bool {
+    let label = mark.label().turned(view.turn.quarters());
+    let dx = i64::from(label.x - label.x.clamp(view.x0, view.x1));
+    let dy = i64::from(label.y - label.y.clamp(view.y0, view.y1));
+    let reach = i64::from(k) * i64::from(label.radius);
+    (64 * dx).pow(2) + (64 * dy).pow(2) == reach.pow(2)
+}
+
+// ---- zooms
+
+/// A zoom: a stop, any wheel value that is taken, or one about which a mark goes.
+pub fn some_zoom(generator: &mut Generator, removals: &[Removal]) -> Zoom {
+    let choice = generator.below(4);
+    if let (2.., false) = (choice, removals.is_empty()) {
+        if let Removal::At(value) = generator.choose(removals) {
+            let k = removal_zoom_in_64ths(value) + u64::from(generator.below(3));
+            return wheel(k.saturating_sub(1).clamp(1, 65_536) as u32);
+        }
+    }
+    match choice {
+        0 => Zoom::Stop(generator.below(17) as u8),
+        _ => wheel(1 + (generator.below(65_536) >> generator.below(16))),
+    }
+}
