@@ -6,7 +6,7 @@ use native.Mathlib.Omega.{arith}
 use lib.ListN.{length}
 use Rattle.numbers.specs.Little.{leAt, signed, Bytes}
 use Rattle.numbers.specs.Laws.{le-bound}
-use Rattle.marks.specs.Marks.{markSize, radiusOffset, priorityOffset, kindOffset, tagOffset, usedAt, markBytes, touchingOf, touching, rankRadius, rankKey}
+use Rattle.marks.specs.Marks.{markSize, usedAt, markBytes, touchingOf, touching, rankRadius, rankKey}
 use Rattle.marks.specs.Good.{GoodMarks}
 use Rattle.marks.specs.Fields.{FieldsFit, HasFields}
 use Rattle.marks.specs.FieldLaws.{mark-length, mark-bytes, mark-reads}
@@ -30,10 +30,10 @@ module _ (t : ℕ) (s : List ℕ) (n : ℕ) where
         record {
           x-fits = fit .x-fits m h;
           y-fits = fit .y-fits m h;
-          radius-fits = le-bound 2 s (markSize * m + radiusOffset) bytes;
-          priority-fits = le-bound 2 s (markSize * m + priorityOffset) bytes;
-          kind-fits = le-bound 1 s (markSize * m + kindOffset) bytes;
-          tag-fits = le-bound 2 s (markSize * m + tagOffset) bytes;
+          radius-fits = le-bound 2 s _ bytes;
+          priority-fits = le-bound 2 s _ bytes;
+          kind-fits = le-bound 1 s _ bytes;
+          tag-fits = le-bound 2 s _ bytes;
         }
 
     -- Each has its own fields, but for the place, which is turned.

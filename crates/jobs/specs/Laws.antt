@@ -4,7 +4,7 @@ pub mod Outcomes
 pub mod Rooms
 pub mod Kept
 pub mod Filling
-pub mod Turning
+pub mod Logs
 pub mod Walking
 pub mod Scheduling
 pub mod Changing

@@ -38,7 +38,7 @@ ghost use Rattle.jobs.specs.Parts.{Joins};
 ghost use Rattle.jobs.specs.Demand3.{Meets, MeetsView};
 ghost use Rattle.jobs.specs.Changed.{MeetsAdding};
 ghost use Rattle.jobs.specs.Filled.{MeetsFilling};
-ghost use Rattle.jobs.specs.Turned.{MeetsLog, MeetsMarks};
+ghost use Rattle.jobs.specs.Logs.{MeetsLog, MeetsMarks};
 ghost use Rattle.jobs.specs.Stops.{MeetsStop};
 ghost use Rattle.jobs.specs.Turns.{MeetsTurn};
 ghost use Rattle.jobs.specs.Steps.{keptFrom, resultsOver, viewAt};

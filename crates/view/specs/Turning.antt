@@ -28,11 +28,15 @@ lower a b = cond (leb a b) a b
 abbrev pub higher : ℕ → ℕ → ℕ
 higher a b = cond (leb a b) b a
 
--- "Four quarter turns change no place": two corners are turned on by what is lacking of them.
+-- what a window's turn lacks of four quarter turns
+abbrev pub lacking : Window → ℕ
+lacking w = 4 - w .turn
+
+-- "Four quarter turns change no place": two corners are turned on by that.
 unfoldable pub turnedBack : Window → Bounds
 turnedBack w =
-    let a = cornerOf (4 - w .turn) (w .x0) (w .y0) in
-    let b = cornerOf (4 - w .turn) (w .x1) (w .y1) in
+    let a = cornerOf (lacking w) (w .x0) (w .y0) in
+    let b = cornerOf (lacking w) (w .x1) (w .y1) in
     record { x0 = lower (a .x) (b .x); x1 = higher (a .x) (b .x); y0 = lower (a .y) (b .y); y1 = higher (a .y) (b .y) }
 
 -- shifted edges of a window

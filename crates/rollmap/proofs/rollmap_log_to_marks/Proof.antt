@@ -10,7 +10,7 @@ use Rattle.logs.specs.Questions.{logChecks, logQuestions}
 use Rattle.logs.specs.Theorems.{log-numbered, log-right, marks-length}
 use Rattle.jobs.specs.Jobs.{logToMarksJob}
 use Rattle.jobs.specs.Laws.Rooms.{stopped, no-room, wrote}
-use Rattle.jobs.specs.Laws.Turning.{log-whole}
+use Rattle.jobs.specs.Laws.Logs.{log-whole}
 use Rattle.rollmap.proofs.rollmap_log_to_marks.Statement.{statement}
 use Rattle.rollmap.proofs.rollmap_log_to_marks.Tie as tie
 

@@ -12,7 +12,7 @@ use Rattle.logs.specs.Questions.{marksQuestions}
 use Rattle.logs.specs.Theorems.{log-length}
 use Rattle.jobs.specs.Jobs.{marksToLogJob}
 use Rattle.jobs.specs.Laws.Rooms.{stopped, no-room, wrote}
-use Rattle.jobs.specs.Laws.Turning.{marks-whole}
+use Rattle.jobs.specs.Laws.Logs.{marks-whole}
 use Rattle.rollmap.proofs.rollmap_marks_to_log.Statement.{statement}
 use Rattle.rollmap.proofs.rollmap_marks_to_log.Tie as tie
 

@@ -20,7 +20,7 @@ use Rattle.turns.specs.Laws.{turned-0, turned-1, turned-2, turned-3, turned-fou
 use Rattle.view.specs.declared.Window.{Window}
 use Rattle.view.specs.Shown.{above, gap, Rectangle, distanceSquared, diskReaches, placeAt, edgesOf, reaches, shown}
 use Rattle.view.specs.Questions.{isEdge, IsEdge, question20, question11}
-use Rattle.view.specs.Turning.{cornerOf, lower, higher, turnedBack, Edged, gapHere, distanceHere, reachesHere, shownHere}
+use Rattle.view.specs.Turning.{cornerOf, lower, higher, lacking, turnedBack, Edged, gapHere, distanceHere, reachesHere, shownHere}
 use Rattle.view.specs.Lemmas.Edges.{edge-abs, abs-edge, edge-shifted, shifted-le, gap-here, neg-edge, place-edge}
 
 -- ---- negatives
@@ -117,8 +117,8 @@ module _ (w : Window) (taken : question20 w ≡ true) where
   pub back-edged : Edged (turnedBack w)
   unfolding turnedBack
   back-edged =
-      let a = corner-most (4 - w .turn) x0-edge y0-edge in
-      let b = corner-most (4 - w .turn) x1-edge y1-edge in
+      let a = corner-most (lacking w) x0-edge y0-edge in
+      let b = corner-most (lacking w) x1-edge y1-edge in
       let x = both-most _ _ (a .0) (b .0) in
       let y = both-most _ _ (a .1) (b .1) in
       record { x0-most = x .0; x1-most = x .1; y0-most = y .0; y1-most = y .1 }

@@ -1,4 +1,4 @@
--- What turning writes is what Turned claims. Assumes nothing.
+-- What turning writes is what Logs claims. Assumes nothing.
 use Prim.Native.Nat.{ℕ, _*_, _≤_}
 use mathlib.Core.Path.{_≡_, sym, ap, _∙_}
 use mathlib.Core.List.{List}
@@ -14,7 +14,7 @@ use Rattle.logs.specs.Theorems.{log-numbered, log-right, marks-length, marks-co
 use Rattle.jobs.specs.declared.Answer.{Answer}
 use Rattle.jobs.specs.Jobs.{wrote, logToMarksJob, marksToLogJob}
 use Rattle.jobs.specs.Answers.{Gives}
-use Rattle.jobs.specs.Turned.{LogTurned, MarksTurned, MeetsLog, MeetsMarks}
+use Rattle.jobs.specs.Logs.{LogTurned, MarksTurned, MeetsLog, MeetsMarks}
 use Rattle.jobs.specs.Laws.Outcomes.{outcome-yes}
 use Rattle.jobs.specs.Laws.Rooms.{with-room, passed, counted}
 
