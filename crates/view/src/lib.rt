@@ -56,23 +56,23 @@ pub fn is_ordered(window: Window) -> bool
 // Edges as the index orders places, shifted to be at least 0: those of a window, which decide who is shown, or those widened on each side, so
 // that the point of every shown mark lies in them, which decide which halves are searched.
 pub struct Bounds {
-    pub x0: u64,
-    pub x1: u64,
-    pub y0: u64,
-    pub y1: u64,
+    pub x0: u32,
+    pub x1: u32,
+    pub y0: u32,
+    pub y1: u32,
 }
 
 // A corner of a window, shifted likewise.
 struct Corner {
-    x: u64,
-    y: u64,
+    x: u32,
+    y: u32,
 }
 
-fn shifted(v: i32) -> u64
+fn shifted(v: i32) -> u32
     requires { ⌜ IsEdge v ⌝ }
     ensures { λ r. ⌜ r ≡ shifted v ⌝ }
 {
-    (v + 32768) as u64
+    (v + 32768) as u32
 }
 
 // A corner, turned.
@@ -87,13 +87,13 @@ fn turned_corner(quarters: u8, x: i32, y: i32) -> Corner
     }
 }
 
-fn lower(a: u64, b: u64) -> u64
+fn lower(a: u32, b: u32) -> u32
     ensures { λ r. ⌜ r ≡ lower a b ⌝ }
 {
     if a <= b { a } else { b }
 }
 
-fn higher(a: u64, b: u64) -> u64
+fn higher(a: u32, b: u32) -> u32
     ensures { λ r. ⌜ r ≡ higher a b ⌝ }
 {
     if a <= b { b } else { a }
@@ -119,7 +119,7 @@ fn turned_back(window: Window) -> Bounds
 // ---- who is shown
 
 // How far a lies above b: 0 where it does not.
-fn above(a: u64, b: u64) -> u64
+fn above(a: u32, b: u32) -> u32
     ensures { λ r. ⌜ r ≡ a - b ⌝ }
 {
     if b < a {
@@ -129,7 +129,7 @@ fn above(a: u64, b: u64) -> u64
 }
 
 // How far, on an axis, a coordinate lies from the interval from `low` to `high`: 0 in it. One of the two differences is 0 where low ≤ high.
-fn gap(low: u64, high: u64, coordinate: u64) -> i32
+fn gap(low: u32, high: u32, coordinate: u32) -> i32
     requires { ⌜ (low ≤ 65536) × (coordinate ≤ 65536) ⌝ }
     ensures { λ r. ⌜ (r ≡ pos (gapHere low high coordinate)) × (gapHere low high coordinate ≤ 131072) ⌝ }
 {
@@ -142,8 +142,12 @@ fn reaches(marks: &[u8], edges: Bounds, k: u32, m: usize) -> bool
     requires { ⌜ (markSize * m + markSize ≤ length (now marks)) × (k ≤ largestScale) × Edged edges ⌝ }
     ensures { λ r. ⌜ r ≡ reachesHere (now (marks .entry)) k edges m ⌝ }
 {
-    let x = gap(edges.x0, edges.x1, index::coordinate(marks, true, m));
-    let y = gap(edges.y0, edges.y1, index::coordinate(marks, false, m));
+    let x = gap(edges.x0, edges.x1, index::coordinate(marks, true, m) as u32);
+    let y = gap(
+        edges.y0,
+        edges.y1,
+        index::coordinate(marks, false, m) as u32,
+    );
     let squared = marks::distance(x, y);
     if squared == 0 {
         return true;
@@ -197,8 +201,8 @@ fn widest_living(marks: &[u8], schedule: &[u8], k: u32, n: usize) -> u16
 }
 
 // An edge moved down by `by`, at most to 0, or up.
-fn moved(edge: u64, low: bool, by: u64) -> u64
-    requires { ⌜ (edge ≤ 65536) × (by ≤ largestScale * 65535) ⌝ }
+fn moved(edge: u32, low: bool, by: u32) -> u32
+    requires { ⌜ (edge ≤ 65536) × (by ≤ 67107840) ⌝ }
     ensures { λ r. ⌜ r ≡ moved edge low by ⌝ }
 {
     if !low {
@@ -212,7 +216,7 @@ fn bounds_of(edges: Bounds, k: u32, widest: u16) -> Bounds
     requires { ⌜ Edged edges × (k ≤ largestScale) ⌝ }
     ensures { λ r. ⌜ r ≡ boundsOf edges k widest ⌝ }
 {
-    let by = k as u64 * widest as u64 / 64;
+    let by = k * widest as u32 / 64;
     Bounds {
         x0: moved(edges.x0, true, by),
         x1: moved(edges.x1, false, by),
@@ -222,7 +226,7 @@ fn bounds_of(edges: Bounds, k: u32, widest: u16) -> Bounds
 }
 
 // The low or the high bound on the axis.
-fn bound_on(bounds: Bounds, axis: bool, low: bool) -> u64
+fn bound_on(bounds: Bounds, axis: bool, low: bool) -> u32
     ensures { λ r. ⌜ r ≡ boundOn bounds axis low ⌝ }
 {
     if axis {
@@ -235,7 +239,7 @@ fn bound_on(bounds: Bounds, axis: bool, low: bool) -> u64
 fn is_beyond(bounds: Bounds, axis: bool, left: bool, coordinate: u64) -> bool
     ensures { λ r. ⌜ r ≡ isBeyond bounds axis left coordinate ⌝ }
 {
-    let bound = bound_on(bounds, axis, left);
+    let bound = bound_on(bounds, axis, left) as u64;
     if left {
         coordinate < bound
     } else {

@@ -7,6 +7,9 @@ use Rattle.view.proofs.is_beyond.Tie as tie
 bound-on-requires : tie.Need-bound-on-requires
 bound-on-requires c κs = search needs
 
+cast-bound : tie.Need-cast-bound
+cast-bound c = search needs
+
 returns : tie.Need-returns
 unfolding isBeyond
 returns c = rw (c .before .bound-on .ensures, c .if1 .taken)
@@ -16,4 +19,4 @@ unfolding isBeyond
 returns-2 c = rw (c .before .bound-on .ensures, c .if1 .left)
 
 pub is-beyond-spec : {M : Type 1} → statement M
-is-beyond-spec = tie.close (tie.spec bound-on-requires returns returns-2)
+is-beyond-spec = tie.close (tie.spec bound-on-requires cast-bound returns returns-2)

@@ -71,11 +71,17 @@ module _ (d : tie.After-distance) where
 coordinate-requires : tie.Need-coordinate-requires
 coordinate-requires c κs = search needs
 
+cast-gap : tie.Need-cast-gap
+cast-gap c = record { fits = omega (arith, c .coordinate .ensures .1) }
+
 gap-requires : tie.Need-gap-requires
 gap-requires c κs = (c .before .before .pre .2 .x0-most, omega (arith, c .coordinate .ensures .1))
 
 coordinate-requires-2 : tie.Need-coordinate-requires-2
 coordinate-requires-2 c κs = search needs
+
+cast-gap-2 : tie.Need-cast-gap-2
+cast-gap-2 c = record { fits = omega (arith, c .coordinate2 .ensures .1) }
 
 gap-requires-2 : tie.Need-gap-requires-2
 gap-requires-2 c κs = (c .before .before .before .before .pre .2 .y0-most, omega (arith, c .coordinate2 .ensures .1))
@@ -125,8 +131,10 @@ reaches-spec =
     tie.close
     (tie.spec
     coordinate-requires
+    cast-gap
     gap-requires
     coordinate-requires-2
+    cast-gap-2
     gap-requires-2
     distance-requires
     returns
