@@ -5,7 +5,7 @@
  * memset. All calls answer by value; nothing is allocated or kept, there is no state, and
  * any thread may call at any time. A call takes less than 8 KiB of stack.
  *
- * A sheet is bytes: contents, then up to four parts, as docs/FORMAT.md has them. Part 1
+ * A sheet is bytes: contents, then up to five parts, as docs/FORMAT.md has them. Part 1
  * has 11 bytes a mark, so that the number n of a sheet's marks is the length of part 1
  * over 11 (rollmap_part tells it).
  *
@@ -14,6 +14,15 @@
  * number ranks higher; in the second, the larger radius, that of the kind where 0 is
  * written, and then the lower number. Without part 4 the first edition holds. Whatever goes
  * by rank goes by the sheet's own edition.
+ *
+ * Part 5 gives each mark a popup k, 4 bytes: the mark is not there while 64 times the zoom
+ * is below k. Without part 5 every k is 0, and all marks are there from the start. Two marks
+ * touch first where the squared zoom is the squared distance over the squared sum of their
+ * radii, their touching value. Their pair value is that, or k squared over 4,096 for the
+ * larger k of the two, where this is greater. The process, which removes the lower-ranked
+ * mark of a pair, and the records of part 2 go by pair values, whose two numbers stand
+ * unreduced. So no mark is removed before it pops up; one that is removed at its own popup
+ * is never shown.
  *
  * A buffer is a pointer and its length in bytes. It needs no alignment. What the caller
  * answers for, since no call can see it:
@@ -28,8 +37,8 @@
  * Every call puts its questions in turn. The first that is answered with no gives its
  * number, and then the call has written nothing: look at the number before the value.
  *
- *    1  there are 2 bytes, 1 to 4 parts, and the whole contents
- *    2  the codes rise within 1 to 4, part 1 is there, and part 3 only with part 2
+ *    1  there are 2 bytes, 1 to 5 parts, and the whole contents
+ *    2  the codes rise within 1 to 5, part 1 is there, and part 3 only with part 2
  *    3  the first body starts right after the contents, each next one where the last
  *       ended, and the last ends with the sheet
  *    4  part 1 is a multiple of 11 and at most 45,056 bytes (4,096 marks)
@@ -38,8 +47,11 @@
  *    7  parts 2 and 3, if present, are 14n and 2n bytes for n marks
  *   19  part 4, if present, is one byte of 1 or 2; this is asked between 7 and 8, wherever
  *       these are
+ *   21  part 5, if present, is 4n bytes, and no k in it exceeds 65,536; this is asked
+ *       between 19 and 8, wherever these are. Of a mark to be added: its k does not exceed
+ *       65,536, and is 0 where the sheet has no part 5
  *    8  each schedule record is the 'never' record, or names a higher-ranked mark with
- *       their touching value as its two unreduced numbers, and that one is removed later
+ *       their pair value as its two unreduced numbers, and that one is removed later
  *    9  part 3 is the tree that parts 1 and 2 give
  *   10  parts 2 and 3 are there
  *   20  the turn is 0 to 3, and each edge is from -32,768 to 32,768; this is asked between
@@ -91,24 +103,32 @@ extern "C" {
 #define ROLLMAP_REFUSED_FULL 18u
 #define ROLLMAP_REFUSED_EDITION 19u
 #define ROLLMAP_REFUSED_WINDOW 20u
+#define ROLLMAP_REFUSED_POPUPS 21u
 
 /* The codes of a sheet's parts. More may come. */
 #define ROLLMAP_CODE_MARKS 1u
 #define ROLLMAP_CODE_SCHEDULE 2u
 #define ROLLMAP_CODE_INDEX 3u
 #define ROLLMAP_CODE_EDITION 4u
+#define ROLLMAP_CODE_POPUPS 5u
 
 /* What the one byte of part 4 says. */
 #define ROLLMAP_EDITION_FIRST 1u
 #define ROLLMAP_EDITION_SECOND 2u
 
+/* The popup of a mark that is there from the start, and the largest one. */
+#define ROLLMAP_NO_POPUP 0u
+#define ROLLMAP_LARGEST_POPUP 65536u
+
 /* The most marks of a sheet. */
 #define ROLLMAP_MOST_MARKS 4096u
 
-/* Bytes of a mark in part 1, of a record in part 2, of a number in part 3. */
+/* Bytes of a mark in part 1, of a record in part 2, of a number in part 3, of a popup in
+   part 5. */
 #define ROLLMAP_MARK_BYTES 11u
 #define ROLLMAP_RECORD_BYTES 14u
 #define ROLLMAP_INDEX_BYTES 2u
+#define ROLLMAP_POPUP_BYTES 4u
 
 /* Bytes of a record in a log. */
 #define ROLLMAP_LOG_RECORD_BYTES 13u
@@ -121,12 +141,15 @@ extern "C" {
 #define ROLLMAP_NO_MARK 65535u
 
 /* Bytes that scheduling n marks needs: of work, and of out, which has more where the sheet
-   has a part 4. Adding a mark and taking one out need those of the new number of marks. */
+   has a part 4 or 5. Adding a mark and taking one out need those of the new number of
+   marks. */
 #define ROLLMAP_WORK_BYTES(n) ((size_t)32 * (n) + 1024)
 #define ROLLMAP_SCHEDULED_BYTES(n) ((size_t)27 * (n) + 32)
 
-/* Bytes that part 4 adds to a sheet: 10 of contents, and its body. */
+/* Bytes that part 4 adds to a sheet, and part 5 to one of n marks: 10 of contents, and the
+   body. */
 #define ROLLMAP_EDITION_BYTES 11u
+#define ROLLMAP_POPUPS_BYTES(n) ((size_t)4 * (n) + 10)
 
 /* Bytes of the map of n marks. */
 #define ROLLMAP_MAP_BYTES(n) (((size_t)(n) + 7) / 8)
@@ -159,32 +182,36 @@ struct rollmap_body {
 /* Checks a sheet. The value is 0. Asks 1 to 9. */
 struct rollmap_answer rollmap_check(const uint8_t *sheet, size_t sheet_length);
 
-/* Schedules a sheet of n marks afresh by its own edition, whatever schedule it has: writes
-   the sheet of parts 1 to 3, and of part 4 as it was where it is there, to out, and leaves
-   what follows there as it is. The value is the number of bytes written, 32 + 27n, and 11
-   more with part 4. work has at least 32n + 1,024 bytes, which hold anything before the
-   call and anything after a success. Asks 1 to 9, and 13 of work and out. */
+/* Schedules a sheet of n marks afresh by its own edition and popups, whatever schedule it
+   has: writes the sheet of parts 1 to 3, and of parts 4 and 5 as they were where they are
+   there, to out, and leaves what follows there as it is. The value is the number of bytes
+   written, 32 + 27n, 11 more with part 4, and 10 + 4n more with part 5. work has at least
+   32n + 1,024 bytes, which hold anything before the call and anything after a success. Asks
+   1 to 9, and 13 of work and out. */
 struct rollmap_answer rollmap_schedule(const uint8_t *sheet, size_t sheet_length,
                                        uint8_t *work, size_t work_length,
                                        uint8_t *out, size_t out_length);
 
 /* Adds a mark to a sheet with parts 2 and 3, or takes mark m out of it, and schedules the
    new marks afresh, whatever schedule the sheet has. A new mark is given by its six fields,
-   as part 1 has them, and stands at the end: its number is the old number of marks. Where
-   mark m is taken out, higher numbers drop by one; the only mark of a sheet may go, too.
-   What is written to out is the sheet that rollmap_schedule writes for the new marks and
-   the old part 4, if it is there, and what follows there stays as it is. The value is the
-   number of bytes written, 32 + 27n for the new number n of marks, and 11 more with part 4.
-   work has at least 32n + 1,024 bytes for that n, which hold anything before the call and
-   anything after a success. Where a mark is added to a sheet that rollmap_schedule or one
-   of these calls wrote, and that mark is taken out again, the old bytes come back.
+   as part 1 has them, and its popup, and stands at the end: its number is the old number of
+   marks. Where mark m is taken out, higher numbers drop by one; the only mark of a sheet may
+   go, too. What is written to out is the sheet that rollmap_schedule writes for the new
+   marks and the old parts 4 and 5, where they are there, and what follows there stays as it
+   is. A part 5 has the new mark's popup at its end, or no longer that of mark m; where there
+   is none, the new mark's popup is 0 (ROLLMAP_NO_POPUP), and none is written. The value is
+   the number of bytes written, 32 + 27n for the new number n of marks, 11 more with part 4,
+   and 10 + 4n more with part 5. work has at least 32n + 1,024 bytes for that n, which hold
+   anything before the call and anything after a success. Where a mark is added to a sheet
+   that rollmap_schedule or one of these calls wrote, and that mark is taken out again, the
+   old bytes come back.
 
-   Adding asks 1 to 10 of the sheet, 18, 5 and 6 of the new mark, and 13 of work and out.
-   Taking out asks 1 to 10 of the sheet, 17 of m, of which all 32 bits count, and 13 of work
-   and out. */
+   Adding asks 1 to 10 of the sheet, 18, 5, 6 and 21 of the new mark, and 13 of work and
+   out. Taking out asks 1 to 10 of the sheet, 17 of m, of which all 32 bits count, and 13 of
+   work and out. */
 struct rollmap_answer rollmap_add(const uint8_t *sheet, size_t sheet_length,
                                   int16_t x, int16_t y, uint16_t radius, uint16_t priority,
-                                  uint8_t kind, uint16_t tag,
+                                  uint8_t kind, uint16_t tag, uint32_t popup,
                                   uint8_t *work, size_t work_length,
                                   uint8_t *out, size_t out_length);
 struct rollmap_answer rollmap_take_out(const uint8_t *sheet, size_t sheet_length, uint32_t m,
@@ -200,7 +227,7 @@ struct rollmap_answer rollmap_take_out(const uint8_t *sheet, size_t sheet_length
    length is 0. out overlaps neither the bodies nor the rows nor the codes, and none of
    these changes while the call runs.
 
-   Asks 1 (there are 1 to 4 codes, and not fewer rows than codes), 2 of the codes, 4 to 9 of
+   Asks 1 (there are 1 to 5 codes, and not fewer rows than codes), 2 of the codes, 4 to 9 of
    the bodies, and 13 of out. */
 struct rollmap_answer rollmap_assemble(const uint16_t *codes, size_t codes_length,
                                        const struct rollmap_body *bodies, size_t bodies_length,
@@ -236,12 +263,14 @@ struct rollmap_answer rollmap_marks_to_log(const uint8_t *marks, size_t marks_le
                                            uint8_t *out, size_t out_length);
 
 /* Answers a view of a sheet of n marks: those that live at the zoom and whose disk there,
-   about the turned place, reaches the rectangle, touching included. With k = 64 times the
-   zoom, a disk reaches it where the squared distance from turned place to rectangle, times
-   4,096, is at most k squared times the squared radius; a place inside has distance 0, and
-   a mark of radius 0 has the radius of its kind. Mark m is bit m mod 8 of byte m / 8 of the
-   map. The first (n + 7) / 8 bytes are wholly written, and what follows stays as it is. The
-   value is the count of shown marks. Asks 1 to 10, 20, 11 and 12, and 13 of the map.
+   about the turned place, reaches the rectangle, touching included. A mark lives where the
+   squared zoom is below its removal value, or it has none, and 64 times the zoom is at least
+   its popup. With k = 64 times the zoom, a disk reaches the rectangle where the squared
+   distance from turned place to rectangle, times 4,096, is at most k squared times the
+   squared radius; a place inside has distance 0, and a mark of radius 0 has the radius of
+   its kind. Mark m is bit m mod 8 of byte m / 8 of the map. The first (n + 7) / 8 bytes are
+   wholly written, and what follows stays as it is. The value is the count of shown marks.
+   Asks 1 to 10, 20, 11 and 12, and 13 of the map.
 
    The turn is a number of quarter turns, 0 to 3. One of them takes x, y to -y, x; so two
    take it to -x, -y, three to y, -x, and after four every place is where it was. The edges
@@ -288,9 +317,9 @@ struct rollmap_answer rollmap_walk(const uint8_t *map, size_t map_length,
 struct rollmap_answer rollmap_is_shown(const uint8_t *map, size_t map_length,
                                        uint32_t n, uint32_t m);
 
-/* Where the part of that code (1 the marks, 2 the schedule, 3 the index, 4 the edition)
-   stands in an accepted sheet. Both numbers are 0 where there is no such part or the sheet is refused;
-   a part that is there has an offset above 0, and may be empty. */
+/* Where the part of that code (1 the marks, 2 the schedule, 3 the index, 4 the edition, 5
+   the popups) stands in an accepted sheet. Both numbers are 0 where there is no such part or
+   the sheet is refused; a part that is there has an offset above 0, and may be empty. */
 struct rollmap_extent rollmap_part(const uint8_t *sheet, size_t sheet_length, uint32_t code);
 
 #ifdef __cplusplus

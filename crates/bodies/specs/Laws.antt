@@ -6,19 +6,19 @@ use lib.ListN.{length}
 use mathlib.Core.Bool.{true}
 use mathlib.Core.List.{List, [], _∷_}
 use mathlib.Core.Logic.{_↔_}
-use Rattle.numbers.specs.Little.{Bytes}
 use Rattle.fractions.specs.Order.{Small}
 use Rattle.elimination.specs.Records.{fractionAt}
-use Rattle.elimination.specs.Reel.{Reel}
+use Rattle.elimination.specs.Reel.{Reel, GoodReel}
 use Rattle.marks.specs.Marks.{markSize, houseOf, houseNumber, isKind}
+use Rattle.marks.specs.Pairs.{popupSize, popupAt, GoodPopups}
 use Rattle.marks.specs.Good.{GoodMarks}
 use Rattle.marks.specs.declared.House.{House}
 use Rattle.marks.specs.declared.House.the-variants.{Radius, Refused}
 use Rattle.contents.specs.Asking.{_asks_, answer}
-use Rattle.contents.specs.Contents.{Part, codesOf, Writable}
+use Rattle.contents.specs.Contents.{Part, codesOf, has, popupsPart, Writable}
 use Rattle.contents.specs.Questions.{codesRight}
 use Rattle.contents.specs.Laws.{Numbered}
-use Rattle.bodies.specs.Questions.{markCount, fieldQuestions, part1Questions, isEdition, isSchedule, bodyQuestions}
+use Rattle.bodies.specs.Questions.{markCount, fieldQuestions, part1Questions, isEdition, isPopups, isSchedule, bodyQuestions}
 use Rattle.bodies.specs.Fitting.{Fitting}
 use Rattle.bodies.specs.Lemmas.Numbered as Numbering
 use Rattle.bodies.specs.Lemmas.Fitting as Fits
@@ -53,6 +53,13 @@ part1-iff = Fits.part1-iff
 pub fitting-iff : (parts : List Part) → (answer (bodyQuestions parts) ≡ 0) ↔ Fitting parts
 fitting-iff = Fits.fitting-iff
 
+-- What the answer yes to 21 says; without part 5 each popup is 0.
+pub popups-iff : (body : List ℕ) (n : ℕ) → (isPopups body n ≡ true) ↔ ((length body ≡ popupSize * n) × ((m : ℕ) → m < n → popupAt body m ≤ 65536))
+popups-iff = Fits.popups-iff
+
+pub popups-good : (parts : List Part) (n : ℕ) → (has parts 5 ≡ true → isPopups (popupsPart parts) n ≡ true) → GoodPopups (popupsPart parts) n
+popups-good = Fits.popups-good
+
 -- Part 4 is one byte.
 pub edition-long : (body : List ℕ) → isEdition body ≡ true → length body ≡ 1
 edition-long = Fits.edition-long
@@ -62,5 +69,5 @@ pub fitting-writable : (parts : List Part) → Fitting parts → codesRight (cod
 fitting-writable = Small.fitting-writable
 
 -- Both numbers of a schedule record that passed question 8 are small: their cross products fit 64 bits.
-pub record-small : (r : Reel) (p : List ℕ) (m : ℕ) → Bytes (r .marks) → GoodMarks (r .marks) (r .count) → isSchedule r p ≡ true → m < r .count → Small (fractionAt p m)
+pub record-small : (r : Reel) (p : List ℕ) (m : ℕ) → GoodReel r → isSchedule r p ≡ true → m < r .count → Small (fractionAt p m)
 record-small = Records.record-small

@@ -1,4 +1,4 @@
--- Questions 4 to 9 and 19, each by its number: those of the bodies. Checking a sheet and putting parts together ask the same.
+-- Questions 4 to 9, 19 and 21, each by its number: those of the bodies. Checking a sheet and putting parts together ask the same.
 use Prim.Native.Nat.{ℕ, _*_, _/_, _%_}
 use mathlib.Core.Bool.{Bool, _&&_, _||_}
 use mathlib.Core.List.{List, [], _∷_, _++_}
@@ -7,12 +7,13 @@ use lib.Dec.{ltb, leb, eqb}
 use Rattle.lists.specs.Tests.{every}
 use Rattle.fractions.specs.declared.Fraction.{Fraction}
 use Rattle.fractions.specs.Order.{later}
-use Rattle.marks.specs.Marks.{markSize, kindAt, radiusAt, isKind, isRadius, outranks, touching}
+use Rattle.marks.specs.Marks.{markSize, kindAt, radiusAt, isKind, isRadius, outranks}
+use Rattle.marks.specs.Pairs.{popupSize, popupAt, pairValue}
 use Rattle.elimination.specs.declared.Record.{Record}
 use Rattle.elimination.specs.Records.{recordSize, fractionOf, isNever, markRecord, valueAt}
 use Rattle.elimination.specs.Reel.{Reel}
 use Rattle.index.specs.Index.{indexEntrySize, isIndex}
-use Rattle.contents.specs.Contents.{Part, has, marksPart, schedulePart, indexPart, editionPart}
+use Rattle.contents.specs.Contents.{Part, has, marksPart, schedulePart, indexPart, editionPart, popupsPart}
 use Rattle.contents.specs.Asking.{Question, _asks_, inTurn, ifThere}
 
 -- ---- of part 1, `s`
@@ -25,9 +26,9 @@ question4 s = eqb (length s % markSize) 0 && leb (length s) 45056
 abbrev pub markCount : List ℕ → ℕ
 markCount s = length s / markSize
 
--- the reel of marks as they stand, ranked by this edition
-abbrev pub reelFrom : ℕ → List ℕ → Reel
-reelFrom edition s = record { marks = s; count = markCount s; edition = edition }
+-- the reel of marks as they stand, ranked by this edition, with these popups
+abbrev pub reelFrom : ℕ → List ℕ → List ℕ → Reel
+reelFrom edition popups s = record { marks = s; count = markCount s; edition = edition; popups = popups }
 
 -- 5 and 6. "before its radius: is the kind below 200? Is the radius at most 16,383?"
 abbrev pub fieldQuestions : ℕ → ℕ → List Question
@@ -50,11 +51,12 @@ part1Questions s = (4 asks question4 s) ∷ markQuestions s (markCount s)
 abbrev pub exactly : Fraction → Fraction → Bool
 exactly f g = eqb (f .num) (g .num) && eqb (f .den) (g .den)
 
--- "does it name a higher-ranked mark below n, with their touching value as its two unreduced numbers"
+-- "does it name a higher-ranked mark below n, with their touching value as its two unreduced numbers"; 02, request 9: question 8 takes
+-- "pair values in place of touching values"
 unfoldable pub namesRight : Reel → Record → ℕ → Bool
 namesRight r d m =
     let by = d .eliminator in
-    (ltb by (r .count) && outranks (r .edition) (r .marks) by m) && exactly (fractionOf d) (touching (r .marks) by m)
+    (ltb by (r .count) && outranks (r .edition) (r .marks) by m) && exactly (fractionOf d) (pairValue (r .marks) (r .popups) by m)
 
 -- a record of the schedule is right: it is "the 'never' record", or it names a mark rightly, "and is that mark removed later?"
 unfoldable pub recordRight : Reel → List ℕ → ℕ → Bool
@@ -76,6 +78,16 @@ editionIn body = getD body 0 1
 unfoldable pub isEdition : List ℕ → Bool
 isEdition body = eqb (length body) 1 && (eqb (editionIn body) 1 || eqb (editionIn body) 2)
 
+-- ---- of part 5, `body`
+
+-- 02, request 9: "a k exceeds 65,536"
+unfoldable pub isPopup : ℕ → Bool
+isPopup k = leb k 65536
+
+-- does it have a popup for each of n marks, and is each right?
+unfoldable pub isPopups : List ℕ → ℕ → Bool
+isPopups body n = eqb (length body) (popupSize * n) && every (λ m. isPopup (popupAt body m)) n
+
 -- ---- of a sheet's parts
 
 -- n: how many marks there are
@@ -88,7 +100,7 @@ editionOf parts = editionIn (editionPart parts)
 
 -- the reel that they hold
 abbrev pub reelOf : List Part → Reel
-reelOf parts = reelFrom (editionOf parts) (marksPart parts)
+reelOf parts = reelFrom (editionOf parts) (popupsPart parts) (marksPart parts)
 
 -- a part that is there has this size
 unfoldable pub isSized : Bool → ℕ → ℕ → Bool
@@ -103,6 +115,10 @@ question7 parts =
 unfoldable pub question19 : List Part → Bool
 question19 parts = ifThere (has parts 4) (isEdition (editionPart parts))
 
+-- 21. "after 19, 21 where part 5 isn't 4n bytes or a k exceeds 65,536"
+unfoldable pub question21 : List Part → Bool
+question21 parts = ifThere (has parts 5) (isPopups (popupsPart parts) (countOf parts))
+
 -- 8. "Is each schedule record the 'never' record, or else ..?"
 unfoldable pub question8 : List Part → Bool
 question8 parts = ifThere (has parts 2) (isSchedule (reelOf parts) (schedulePart parts))
@@ -113,10 +129,11 @@ question9 parts = ifThere (has parts 3) (isIndex (marksPart parts) (schedulePart
 
 -- ---- in their order
 
--- 7, 19, 8 and 9: the edition is asked about before the ranks that go by it
+-- 7, 19, 21, 8 and 9: the edition and the popups are asked about before the ranks and the pair values that go by them
 unfoldable pub lastQuestions : List Part → List Question
-lastQuestions parts = (7 asks question7 parts) ∷ (19 asks question19 parts) ∷ (8 asks question8 parts) ∷ (9 asks question9 parts) ∷ []
+lastQuestions parts =
+    (7 asks question7 parts) ∷ (19 asks question19 parts) ∷ (21 asks question21 parts) ∷ (8 asks question8 parts) ∷ (9 asks question9 parts) ∷ []
 
--- 4 to 9, with 19 "after 7"
+-- 4 to 9, with 19 "after 7" and 21 "after 19"
 unfoldable pub bodyQuestions : List Part → List Question
 bodyQuestions parts = part1Questions (marksPart parts) ++ lastQuestions parts

@@ -1,24 +1,29 @@
-// The bodies of a sheet: questions 4 to 9, and 19 after 7.
+// The bodies of a sheet: questions 4 to 9, with 19 and then 21 after 7.
 use elimination::RECORD_SIZE;
 use elimination::Record;
 use fractions::Fraction;
 use index::INDEX_ENTRY_SIZE;
 use marks::House;
 use marks::MARK_SIZE;
+use marks::POPUP_SIZE;
 ghost use mathlib.Core.Path.{_≡_};
 ghost use mathlib.Core.Bool.{true};
 ghost use mathlib.Core.List.{map};
 ghost use Prim.Native.Nat.{_+_, _*_, _<_, _≤_};
 ghost use lib.ListN.{length};
 ghost use Rattle.marks.specs.Marks.{markSize};
+ghost use Rattle.marks.specs.Pairs.{GoodPopups};
 ghost use Rattle.marks.specs.Good.{GoodMarks};
 ghost use Rattle.elimination.specs.Records.{recordSize};
 ghost use Rattle.contents.specs.Contents.{together};
 ghost use Rattle.contents.specs.Asking.{answer};
 ghost use Rattle.contents.specs.Questions.{codesRight};
 ghost use Rattle.bodies.specs.Questions.{question4, fieldQuestions, oneMark, markQuestions, part1Questions, exactly, namesRight, recordRight};
-ghost use Rattle.bodies.specs.Questions.{isSchedule, editionIn, isEdition, isSized, question7, question19, question8, question9, lastQuestions, bodyQuestions};
+ghost use Rattle.bodies.specs.Questions.{isSchedule, editionIn, isEdition, isPopup, isPopups, isSized, question7, question19, question21, question8, question9, lastQuestions, bodyQuestions};
 ghost use Rattle.bodies.specs.Fitting.{Marked};
+
+// "a k exceeds 65,536"
+const MOST_POPUP: u32 = 65536;
 
 // ---- questions 4 to 6, of part 1
 
@@ -86,10 +91,10 @@ fn exactly(f: Fraction, g: Fraction) -> bool
     f.num == g.num && f.den == g.den
 }
 
-// Does mark m's record d name a higher-ranked mark below n, with their touching value as it is, unreduced?
-fn names_right(marks: &[u8], edition: u8, n: usize, d: Record, m: usize) -> bool
-    requires { ⌜ GoodMarks (now marks) n × (m < n) ⌝ }
-    ensures { λ r. ⌜ r ≡ namesRight (record { marks = now (marks .entry); count = n; edition = edition }) d m ⌝ }
+// Does mark m's record d name a higher-ranked mark below n, with their pair value as it is, unreduced?
+fn names_right(marks: &[u8], edition: u8, popups: &[u8], n: usize, d: Record, m: usize) -> bool
+    requires { ⌜ GoodMarks (now marks) n × GoodPopups (now popups) n × (m < n) ⌝ }
+    ensures { λ r. ⌜ r ≡ namesRight (record { marks = now (marks .entry); count = n; edition = edition; popups = now (popups .entry) }) d m ⌝ }
 {
     let by = d.eliminator as usize;
     if n <= by {
@@ -98,19 +103,29 @@ fn names_right(marks: &[u8], edition: u8, n: usize, d: Record, m: usize) -> bool
     if !marks::outranks(marks, edition, by, m) {
         return false;
     }
-    exactly(elimination::fraction_of(d), marks::touching(marks, by, m))
+    exactly(
+        elimination::fraction_of(d),
+        marks::pair(marks, popups, by, m),
+    )
 }
 
 // Is mark m's record the 'never' record, or does it name a mark rightly that is removed later?
-fn record_right(marks: &[u8], edition: u8, schedule: &[u8], n: usize, m: usize) -> bool
-    requires { ⌜ GoodMarks (now marks) n × (recordSize * n ≤ length (now schedule)) × (m < n) ⌝ }
-    ensures { λ r. ⌜ r ≡ recordRight (record { marks = now (marks .entry); count = n; edition = edition }) (now (schedule .entry)) m ⌝ }
+fn record_right(
+    marks: &[u8],
+    edition: u8,
+    popups: &[u8],
+    schedule: &[u8],
+    n: usize,
+    m: usize,
+) -> bool
+    requires { ⌜ GoodMarks (now marks) n × GoodPopups (now popups) n × (recordSize * n ≤ length (now schedule)) × (m < n) ⌝ }
+    ensures { λ r. ⌜ r ≡ recordRight (record { marks = now (marks .entry); count = n; edition = edition; popups = now (popups .entry) }) (now (schedule .entry)) m ⌝ }
 {
     let d = elimination::record_at(schedule, RECORD_SIZE * m);
     if elimination::is_never(d) {
         return true;
     }
-    if !names_right(marks, edition, n, d, m) {
+    if !names_right(marks, edition, popups, n, d, m) {
         return false;
     }
     let by = d.eliminator as usize;
@@ -121,13 +136,13 @@ fn record_right(marks: &[u8], edition: u8, schedule: &[u8], n: usize, m: usize) 
 }
 
 // Is each record right?
-fn is_schedule(marks: &[u8], edition: u8, schedule: &[u8], n: usize) -> bool
-    requires { ⌜ GoodMarks (now marks) n × (recordSize * n ≤ length (now schedule)) ⌝ }
-    ensures { λ r. ⌜ r ≡ isSchedule (record { marks = now (marks .entry); count = n; edition = edition }) (now (schedule .entry)) ⌝ }
+fn is_schedule(marks: &[u8], edition: u8, popups: &[u8], schedule: &[u8], n: usize) -> bool
+    requires { ⌜ GoodMarks (now marks) n × GoodPopups (now popups) n × (recordSize * n ≤ length (now schedule)) ⌝ }
+    ensures { λ r. ⌜ r ≡ isSchedule (record { marks = now (marks .entry); count = n; edition = edition; popups = now (popups .entry) }) (now (schedule .entry)) ⌝ }
 {
     let mut m = 0;
     while m < n {
-        if !record_right(marks, edition, schedule, n, m) {
+        if !record_right(marks, edition, popups, schedule, n, m) {
             return false;
         }
         m += 1;
@@ -158,7 +173,34 @@ pub fn edition_of(body: &[u8]) -> u8
     body[0]
 }
 
-// ---- questions 7 to 9 and 19, and 4 to 9, of the bodies under these codes
+// ---- part 5: the popups
+
+// Is this k taken?
+pub fn is_popup(k: u32) -> bool
+    ensures { λ r. ⌜ r ≡ isPopup k ⌝ }
+{
+    k <= MOST_POPUP
+}
+
+// Does this have a popup for each of n marks, and is none above 65,536?
+fn is_popups(body: &[u8], n: usize) -> bool
+    requires { ⌜ n ≤ 4096 ⌝ }
+    ensures { λ r. ⌜ r ≡ isPopups (now (body .entry)) n ⌝ }
+{
+    if body.len() != POPUP_SIZE * n {
+        return false;
+    }
+    let mut m = 0;
+    while m < n {
+        if !is_popup(marks::popup_at(body, m)) {
+            return false;
+        }
+        m += 1;
+    }
+    true
+}
+
+// ---- questions 7 to 9, 19 and 21, and 4 to 9, of the bodies under these codes
 
 // Has a part that is there this size?
 fn is_sized(there: bool, size: usize, wanted: usize) -> bool
@@ -192,10 +234,21 @@ fn has_edition(codes: &[u16], bodies: &[&[u8]]) -> bool
     is_edition(contents::find(codes, bodies, 4))
 }
 
+// 21. Does part 5, if present, have a popup for each mark, none above 65,536?
+fn has_popups(codes: &[u16], bodies: &[&[u8]], n: usize) -> bool
+    requires { ⌜ (length (now codes) ≡ length (now bodies)) × (0 < length (now bodies)) × Marked (together (now codes) (map now (now bodies))) n ⌝ }
+    ensures { λ r. ⌜ r ≡ question21 (together (now (codes .entry)) (map now (now (bodies .entry)))) ⌝ }
+{
+    if !contents::names(codes, 5) {
+        return true;
+    }
+    is_popups(contents::find(codes, bodies, 5), n)
+}
+
 // 8. Is each record of part 2 right?
 fn has_schedule(codes: &[u16], bodies: &[&[u8]], n: usize) -> bool
     requires { ⌜ (length (now codes) ≡ length (now bodies)) × (0 < length (now bodies)) × Marked (together (now codes) (map now (now bodies))) n ⌝ }
-    requires { ⌜ question7 (together (now codes) (map now (now bodies))) ≡ true ⌝ }
+    requires { ⌜ (question7 (together (now codes) (map now (now bodies))) ≡ true) × (question21 (together (now codes) (map now (now bodies))) ≡ true) ⌝ }
     ensures { λ r. ⌜ r ≡ question8 (together (now (codes .entry)) (map now (now (bodies .entry)))) ⌝ }
 {
     if !contents::names(codes, 2) {
@@ -204,6 +257,7 @@ fn has_schedule(codes: &[u16], bodies: &[&[u8]], n: usize) -> bool
     is_schedule(
         contents::find(codes, bodies, 1),
         edition_of(contents::find(codes, bodies, 4)),
+        contents::find(codes, bodies, 5),
         contents::find(codes, bodies, 2),
         n,
     )
@@ -226,7 +280,7 @@ fn has_index(codes: &[u16], bodies: &[&[u8]], n: usize) -> bool
     )
 }
 
-// 7, 19, 8 and 9: the first 'no', or 0.
+// 7, 19, 21, 8 and 9: the first 'no', or 0.
 fn last_answer(codes: &[u16], bodies: &[&[u8]], n: usize) -> u32
     requires { ⌜ (length (now codes) ≡ length (now bodies)) × (0 < length (now bodies)) × Marked (together (now codes) (map now (now bodies))) n ⌝ }
     requires { ⌜ codesRight (now codes) ≡ true ⌝ }
@@ -237,6 +291,9 @@ fn last_answer(codes: &[u16], bodies: &[&[u8]], n: usize) -> u32
     }
     if !has_edition(codes, bodies) {
         return 19;
+    }
+    if !has_popups(codes, bodies, n) {
+        return 21;
     }
     if !has_schedule(codes, bodies, n) {
         return 8;

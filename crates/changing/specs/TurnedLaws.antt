@@ -1,12 +1,13 @@
 -- Turned marks: they have their fields, stay good, and the process cannot tell them from the others. Assumes nothing.
 use Prim.Native.Nat.{ℕ, _+_, _*_, _<_}
-use mathlib.Core.Path.{_≡_, refl, sym, ap, _∙_}
+use mathlib.Core.Path.{_≡_, refl, ap, _∙_}
 use mathlib.Core.List.{List, []}
 use native.Mathlib.Omega.{arith}
 use lib.ListN.{length}
-use Rattle.numbers.specs.Little.{leAt, signed, Bytes}
+use Rattle.numbers.specs.Little.{signed, Bytes}
 use Rattle.numbers.specs.Laws.{le-bound}
 use Rattle.marks.specs.Marks.{markSize, usedAt, markBytes, touchingOf, touching, rankRadius, rankKey}
+use Rattle.marks.specs.Pairs.{pairValue}
 use Rattle.marks.specs.Good.{GoodMarks}
 use Rattle.marks.specs.Fields.{FieldsFit, HasFields}
 use Rattle.marks.specs.FieldLaws.{mark-length, mark-bytes, mark-reads}
@@ -71,7 +72,7 @@ module _ (t : ℕ) (s : List ℕ) (n : ℕ) where
               });
         }
 
-    -- ---- what the process sees: ranks and touching values
+    -- ---- what the process sees: ranks and pair values
 
     pub turned-rank : (edition m : ℕ) → m < n → rankKey edition (turnedMarks t s n) m ≡ rankKey edition s m
     unfolding rankKey rankRadius
@@ -83,3 +84,8 @@ module _ (t : ℕ) (s : List ℕ) (n : ℕ) where
         let p = turned-fields a ha in
         let q = turned-fields b hb in
         rw (p .x, p .y, q .x, q .y, turned-used a ha, turned-used b hb, turned-distance t _ _)
+
+    -- and so their pair values, with the same popups
+    pub turned-pair : (q : List ℕ) (a b : ℕ) → a < n → b < n → pairValue (turnedMarks t s n) q a b ≡ pairValue s q a b
+    unfolding pairValue
+    turned-pair q a b ha hb = rw (turned-touching a b ha hb)

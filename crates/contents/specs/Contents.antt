@@ -53,9 +53,13 @@ indexPart parts = find parts 3
 abbrev pub editionPart : List Part → List ℕ
 editionPart parts = find parts 4
 
+-- 02: "Part 5 gives each mark k, 4 bytes"
+abbrev pub popupsPart : List Part → List ℕ
+popupsPart parts = find parts 5
+
 -- ---- reading
 
--- "Contents: number of parts (2 bytes, 1 to 3), then per part 10 bytes: code (2), offset (4), length (4)." By 02 there are up to 4 parts.
+-- "Contents: number of parts (2 bytes, 1 to 3), then per part 10 bytes: code (2), offset (4), length (4)." By 02 there are up to 5 parts.
 -- Entries are counted from 0.
 abbrev pub countSize : ℕ
 countSize = 2

@@ -27,16 +27,27 @@ placeBefore s (suc i) code = cond (eqb (codeAt s i) code) (extentAt s i) (placeB
 abbrev pub layoutOf : List ℕ → Layout
 layoutOf s =
     let k = countAt s in
-    record { count = k; marks = placeBefore s k 1; schedule = placeBefore s k 2; index = placeBefore s k 3; edition = placeBefore s k 4 }
+    record {
+      count = k;
+      marks = placeBefore s k 1;
+      schedule = placeBefore s k 2;
+      index = placeBefore s k 3;
+      edition = placeBefore s k 4;
+      popups = placeBefore s k 5;
+    }
 
 -- 01: "A refused sheet opens with no parts."
 abbrev pub noParts : Layout
-noParts = record { count = 0; marks = nowhere; schedule = nowhere; index = nowhere; edition = nowhere }
+noParts = record { count = 0; marks = nowhere; schedule = nowhere; index = nowhere; edition = nowhere; popups = nowhere }
 
 -- where the part of this code lies, by a layout
 abbrev pub placeOf : Layout → ℕ → Extent
 placeOf l code =
-    cond (eqb code 1) (l .marks) (cond (eqb code 2) (l .schedule) (cond (eqb code 3) (l .index) (cond (eqb code 4) (l .edition) nowhere)))
+    cond (eqb code 1) (l .marks)
+    (cond (eqb code 2) (l .schedule)
+    (cond (eqb code 3) (l .index)
+    (cond (eqb code 4) (l .edition)
+    (cond (eqb code 5) (l .popups) nowhere))))
 
 -- Is the part of this code there, by a layout? No body starts at 0, where the contents stand.
 abbrev pub isThere : Layout → ℕ → Bool
@@ -51,6 +62,7 @@ withPlace l code place =
       schedule = cond (eqb code 2) place (l .schedule);
       index = cond (eqb code 3) place (l .index);
       edition = cond (eqb code 4) place (l .edition);
+      popups = cond (eqb code 5) place (l .popups);
     }
 
 -- the bytes there; none where the extent does not lie in the sheet

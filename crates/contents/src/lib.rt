@@ -14,7 +14,7 @@ ghost use Rattle.contents.specs.Laid.{Whole, Laid};
 ghost use Rattle.contents.specs.Places.{nowhere, extentAt, layoutOf, noParts, placeOf, withPlace, isThere, cutOf};
 
 // The greatest code of a part, and so the most parts that a sheet has.
-const TOP: usize = 4;
+const TOP: usize = 5;
 
 // The sizes of the number of parts and of an entry, whose fields are code (2 bytes), offset (4) and length (4).
 const COUNT_SIZE: usize = 2;
@@ -65,7 +65,7 @@ pub fn is_count(k: usize) -> bool
     1 <= k && k <= TOP
 }
 
-// 1. Are there 2 bytes, 1 to 4 parts, and the whole contents?
+// 1. Are there 2 bytes, 1 to 5 parts, and the whole contents?
 fn has_contents(s: &[u8]) -> bool
     ensures { λ r. ⌜ r ≡ question1 (now (s .entry)) ⌝ }
 {
@@ -199,6 +199,7 @@ pub struct Layout {
     pub schedule: Extent,
     pub index: Extent,
     pub edition: Extent,
+    pub popups: Extent,
 }
 
 // The place of a part that is not there.
@@ -236,6 +237,7 @@ pub fn no_parts() -> Layout
         schedule: none,
         index: none,
         edition: none,
+        popups: none,
     }
 }
 
@@ -248,6 +250,7 @@ fn with_place(l: Layout, code: u16, place: Extent) -> Layout
     let schedule = l.schedule;
     let index = l.index;
     let edition = l.edition;
+    let popups = l.popups;
     match code {
         1 => Layout {
             count,
@@ -255,6 +258,7 @@ fn with_place(l: Layout, code: u16, place: Extent) -> Layout
             schedule,
             index,
             edition,
+            popups,
         },
         2 => Layout {
             count,
@@ -262,6 +266,7 @@ fn with_place(l: Layout, code: u16, place: Extent) -> Layout
             schedule: place,
             index,
             edition,
+            popups,
         },
         3 => Layout {
             count,
@@ -269,6 +274,7 @@ fn with_place(l: Layout, code: u16, place: Extent) -> Layout
             schedule,
             index: place,
             edition,
+            popups,
         },
         4 => Layout {
             count,
@@ -276,6 +282,15 @@ fn with_place(l: Layout, code: u16, place: Extent) -> Layout
             schedule,
             index,
             edition: place,
+            popups,
+        },
+        5 => Layout {
+            count,
+            marks,
+            schedule,
+            index,
+            edition,
+            popups: place,
         },
         _ => l,
     }
@@ -294,6 +309,7 @@ pub fn layout_of(s: &[u8]) -> Layout
         schedule: none,
         index: none,
         edition: none,
+        popups: none,
     };
     let mut i = 0;
     while i < count {
@@ -312,6 +328,7 @@ pub fn place_of(l: Layout, code: u32) -> Extent
         2 => l.schedule,
         3 => l.index,
         4 => l.edition,
+        5 => l.popups,
         _ => nowhere(),
     }
 }

@@ -1,7 +1,8 @@
--- A reel's marks as an instance of Marks: their ranks and touching values are proper.
+-- A reel's marks as an instance of Marks: their ranks and pair values are proper.
 use Prim.Native.Nat.{_≤_}
 use native.Mathlib.Omega.{arith}
-use Rattle.marks.specs.Laws.{touching-positive, touching-symmetric, rank-distinct}
+use Rattle.marks.specs.Laws.{rank-distinct}
+use Rattle.marks.specs.PairLaws.{pairs-positive, pairs-symmetric}
 use Rattle.elimination.specs.Marks.{Proper}
 use Rattle.elimination.specs.Reel.{Reel, marksOf}
 
@@ -9,6 +10,6 @@ pub sheet-proper : (r : Reel) → r .count ≤ 4096 → Proper (marksOf r)
 sheet-proper r few =
     record {
       distinct = λ i j hi hj. rank-distinct (r .edition) (r .marks) i j (omega arith) (omega arith);
-      positive = touching-positive (r .marks);
-      symmetric = touching-symmetric (r .marks);
+      positive = pairs-positive (r .marks) (r .popups);
+      symmetric = pairs-symmetric (r .marks) (r .popups);
     }

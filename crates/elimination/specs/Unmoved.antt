@@ -1,6 +1,10 @@
--- What does not move the process: other marks of the same ranks and pair values. For any rank and any pair value. Assumes nothing.
+-- What does not move the process: other marks of the same ranks and pair values, for any rank and any pair value; and so popups that are all 0.
+-- Assumes nothing.
 use Prim.Native.Nat.{ℕ, _<_}
-use mathlib.Core.Path.{_≡_, ap, _∙_}
+use mathlib.Core.Path.{_≡_, refl, sym, ap, _∙_}
+use mathlib.Core.List.{[]}
+use Rattle.marks.specs.Pairs.{popupAt}
+use Rattle.marks.specs.PairLaws.{pairs-none, without-popups}
 use Rattle.elimination.specs.Marks.{Marks}
 use Rattle.elimination.specs.Process.{process}
 use Rattle.elimination.specs.Alike.{Alike}
@@ -18,3 +22,14 @@ unfolding scheduleOf
 alike-schedule r q like =
     records-same (process (marksOf r)) (process (marksOf q)) (r .count) (alike-process (marksOf r) (marksOf q) like)
     ∙ ap (records (process (marksOf q))) (like .counts)
+
+-- Popups that are all 0 are as none: the schedule is the same, byte for byte.
+pub unpopped-schedule : (r : Reel) → ((m : ℕ) → m < r .count → popupAt (r .popups) m ≡ 0)
+    → scheduleOf r ≡ scheduleOf (record { marks = r .marks; count = r .count; edition = r .edition; popups = [] })
+unpopped-schedule r none =
+    alike-schedule r _
+    (record {
+      counts = refl;
+      ranks = λ i j hi hj. ((λ l. l), (λ l. l));
+      values = λ i j hi hj. pairs-none (r .marks) (r .popups) i j (none i hi) (none j hj) ∙ sym (without-popups (r .marks) i j);
+    })

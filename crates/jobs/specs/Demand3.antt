@@ -1,28 +1,30 @@
--- Demand 3 over the bytes of sheets: what is claimed. Theorems proves it of every sheet scheduled here, and the contracts of scheduling and
--- of viewing cite it.
+-- Demand 3 over the bytes of sheets, and what 02's request 9 adds of popups: what is claimed. Theorems proves it of every sheet scheduled
+-- here, and the contracts of scheduling and of viewing cite it.
 use Prim.Native.Nat.{ℕ, _<_}
 use mathlib.Core.Path.{_≡_}
 use mathlib.Core.Bool.{Bool, _&&_}
-use mathlib.Core.List.{List}
+use mathlib.Core.List.{List, []}
 use mathlib.Core.Logic.{_↔_}
 use lib.ListN.{length, take}
+use Rattle.fractions.specs.declared.Fraction.{Fraction}
 use Rattle.fractions.specs.declared.Value.{Value}
-use Rattle.fractions.specs.Order.{Equal}
+use Rattle.fractions.specs.declared.Value.the-variants.{At}
+use Rattle.fractions.specs.Order.{Equal, AtMost}
+use Rattle.marks.specs.Pairs.{popupAt, popupValue}
 use Rattle.elimination.specs.Marks.{Marks}
 use Rattle.elimination.specs.Records.{valueAt}
-use Rattle.elimination.specs.Reel.{marksOf}
+use Rattle.elimination.specs.Reel.{marksOf, scheduleOf}
 use Rattle.elimination.specs.Rules.{FirstRule, SecondRule, AllSound}
-use Rattle.contents.specs.Contents.{Part, split, marksPart, schedulePart}
+use Rattle.contents.specs.Contents.{Part, split, marksPart, schedulePart, popupsPart}
 use Rattle.contents.specs.Asking.{answer}
-use Rattle.bodies.specs.Questions.{reelOf}
+use Rattle.bodies.specs.Questions.{markCount, editionOf, reelFrom, reelOf}
 use Rattle.sheet.specs.Questions.{sheetCount, check}
 use Rattle.bitmap.specs.Map.{countShown}
 use Rattle.bitmap.specs.Facts.{Shows}
 use Rattle.zoom.specs.declared.Zoom.{Zoom}
 use Rattle.zoom.specs.Zoom.{scaleOf, scale}
-use Rattle.zoom.specs.Living.{livesAt}
 use Rattle.view.specs.declared.Window.{Window}
-use Rattle.view.specs.Shown.{reaches}
+use Rattle.view.specs.Shown.{lives, reaches}
 use Rattle.view.specs.Questions.{viewQuestions}
 use Rattle.jobs.specs.declared.Answer.{Answer}
 use Rattle.jobs.specs.Jobs.{after, keptParts, scheduled, ScheduledHere, viewJob}
@@ -49,7 +51,7 @@ KeepsRules s list = FirstRule (sheetMarks s) list × SecondRule (sheetMarks s) l
 abbrev pub shownBy : List ℕ → Window → Zoom → (ℕ → Value) → ℕ → Bool
 shownBy s e zoom list m =
     let k = scale (scaleOf zoom) in
-    livesAt k (list m) && reaches (marksPart (split s)) k e m
+    lives (list m) (popupsPart (split s)) k m && reaches (marksPart (split s)) k e m
 
 -- The map shows exactly the marks that the list has living and whose disk reaches the rectangle, its unused bits are 0, and the count is
 -- their number.
@@ -79,6 +81,13 @@ pub record Meets (marks : List ℕ) (kept : List Part) (r : Answer) (out : List 
   pub keeps : r .number ≡ 0 → keptParts (split (take (r .value) out)) ≡ kept
   pub fresh : r .number ≡ 0 → (g : List ℕ) → marksPart (split g) ≡ marks → keptParts (split g) ≡ kept → take (r .value) out ≡ scheduled g
   pub demand3 : r .number ≡ 0 → Demand3 (take (r .value) out)
+  -- 02, request 9: "a popup fraction is kept only where it exceeds the touching value". So all k = 0 gives the part 2 of no part 5: that of the
+  -- same marks and edition without popups.
+  pub unpopped : r .number ≡ 0 → ((m : ℕ) → m < markCount marks → popupAt (popupsPart kept) m ≡ 0)
+      → schedulePart (split (take (r .value) out)) ≡ scheduleOf (reelFrom (editionOf kept) [] marks)
+  -- "it isn't there while 64z is below k": nobody is removed before it pops up. Each removal value is at least the mark's own k²/4096.
+  pub popped : r .number ≡ 0 → (m : ℕ) → m < markCount marks → (f : Fraction) → sheetValue (take (r .value) out) m ≡ At f
+      → AtMost (popupValue (popupAt (popupsPart kept) m)) f
 
 -- Of viewing the sheet s, which answered r and left `map`.
 pub record MeetsView (s : List ℕ) (e : Window) (zoom : Zoom) (r : Answer) (map : List ℕ) : Type 0 where

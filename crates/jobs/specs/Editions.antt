@@ -5,13 +5,13 @@ use mathlib.Core.Path.{_≡_, refl, sym, ap, _∙_}
 use mathlib.Core.Bool.{Bool, true, false, cond, _||_, true≢false}
 use mathlib.Core.List.{List, [], _∷_, _++_}
 use native.Mathlib.Omega.{arith}
-use lib.Dec.{eqb}
+use lib.Dec.{ltb, eqb}
 use Rattle.lists.specs.TestLaws.{by-cases}
 use Rattle.numbers.specs.Little.{Bytes}
-use Rattle.contents.specs.Contents.{Part, _holds_, find, has, split, marksPart, schedulePart}
+use Rattle.contents.specs.Contents.{Part, _holds_, find, has, split, marksPart, schedulePart, popupsPart}
 use Rattle.contents.specs.Asking.{Question, answer}
 use Rattle.contents.specs.Laws.{find-none, asked-no, append-yes, append-no}
-use Rattle.bodies.specs.Questions.{reelOf, isEdition, question7, question8, question9, question19, lastQuestions, bodyQuestions}
+use Rattle.bodies.specs.Questions.{reelOf, isEdition, question7, question8, question9, question19, lastQuestions, bodyQuestions, question21}
 use Rattle.sheet.specs.Questions.{checkQuestions, check, question10, indexedQuestions}
 use Rattle.sheet.specs.Laws.{check-numbered, indexed-numbered, indexed-iff}
 use Rattle.zoom.specs.declared.Zoom.{Zoom}
@@ -21,24 +21,31 @@ use Rattle.jobs.specs.Jobs.{keptParts, newParts, scheduled, shownIn, vie
 use Rattle.jobs.specs.Theorems.{scheduled-parts}
 use Rattle.jobs.specs.Laws.Outcomes.{outcome-same}
 
--- the same parts, and part 4 that names edition 1
+-- part 4 that names edition 1
+abbrev pub firstEdition : Part
+firstEdition = 4 holds (1 ∷ [])
+
+-- the same parts, and that one where its code belongs
 abbrev pub withFirst : List Part → List Part
-withFirst parts = parts ++ ((4 holds (1 ∷ [])) ∷ [])
+withFirst [] = firstEdition ∷ []
+withFirst (p ∷ parts) = cond (ltb 4 (p .code)) (firstEdition ∷ p ∷ parts) (p ∷ withFirst parts)
 
 -- ---- its parts
 
 find-other : (parts : List Part) (code : ℕ) → eqb 4 code ≡ false → find (withFirst parts) code ≡ find parts code
 find-other [] code e = rw e
-find-other (p ∷ parts) code e = ap (λ l. cond (eqb (p .code) code) (p .body) l) (find-other parts code e)
+find-other (p ∷ parts) code e =
+    by-cases (ltb 4 (p .code)) (λ b. rw (b, e)) (λ b. rw b (ap (λ l. cond (eqb (p .code) code) (p .body) l) (find-other parts code e)))
 
 has-other : (parts : List Part) (code : ℕ) → eqb 4 code ≡ false → has (withFirst parts) code ≡ has parts code
 has-other [] code e = rw e
-has-other (p ∷ parts) code e = ap (λ b. eqb (p .code) code || b) (has-other parts code e)
+has-other (p ∷ parts) code e =
+    by-cases (ltb 4 (p .code)) (λ b. rw (b, e)) (λ b. rw b (ap (λ b. eqb (p .code) code || b) (has-other parts code e)))
 
 module _ (parts : List Part) (none : has parts 4 ≡ false) where
   find-four : (l : List Part) → has l 4 ≡ false → find (withFirst l) 4 ≡ 1 ∷ []
   find-four [] e = refl
-  find-four (p ∷ l) e = go (eqb (p .code) 4) e (find-four l)
+  find-four (p ∷ l) e = by-cases (ltb 4 (p .code)) (λ b. rw b) (λ b. rw b (go (eqb (p .code) 4) e (find-four l)))
     where
       go : (b : Bool) → b || has l 4 ≡ false → (has l 4 ≡ false → find (withFirst l) 4 ≡ 1 ∷ []) → cond b (p .body) (find (withFirst l) 4) ≡ 1 ∷ []
       go true f h = absurd (true≢false f)
@@ -46,7 +53,7 @@ module _ (parts : List Part) (none : has parts 4 ≡ false) where
 
   has-four : (l : List Part) → has (withFirst l) 4 ≡ true
   has-four [] = refl
-  has-four (p ∷ l) = rw (has-four l) (or-true (eqb (p .code) 4))
+  has-four (p ∷ l) = by-cases (ltb 4 (p .code)) (λ b. rw b) (λ b. rw (b, has-four l) (or-true (eqb (p .code) 4)))
     where
       or-true : (b : Bool) → b || true ≡ true
       or-true true = refl
@@ -54,11 +61,11 @@ module _ (parts : List Part) (none : has parts 4 ≡ false) where
 
   -- The reel is the same, so that the process, question 8, the rules and demand 3 are.
   pub same-reel : reelOf (withFirst parts) ≡ reelOf parts
-  same-reel = rw (find-other parts 1 refl, find-four parts none, find-none parts 4 none)
+  same-reel = rw (find-other parts 1 refl, find-other parts 5 refl, find-four parts none, find-none parts 4 none)
 
   -- So is what is asked of the bodies,
   pub same-questions : bodyQuestions (withFirst parts) ≡ bodyQuestions parts
-  unfolding bodyQuestions lastQuestions question7 question19 question8 question9 isEdition
+  unfolding bodyQuestions lastQuestions question7 question19 question21 question8 question9 isEdition
   same-questions =
       rw (
         has-four parts,
@@ -68,13 +75,17 @@ module _ (parts : List Part) (none : has parts 4 ≡ false) where
         find-other parts 1 refl,
         find-other parts 2 refl,
         find-other parts 3 refl,
+        find-other parts 5 refl,
         has-other parts 2 refl,
         has-other parts 3 refl,
+        has-other parts 5 refl,
       )
 
-  -- and what scheduling writes, with part 4 behind it.
+  -- and what scheduling writes, but for part 4.
   pub same-scheduled : (marks : List ℕ) → newParts marks (keptParts (withFirst parts)) ≡ withFirst (newParts marks (keptParts parts))
-  same-scheduled marks = rw (has-four parts, find-four parts none, none)
+  same-scheduled marks =
+      by-cases (has parts 5) (λ e. rw (has-four parts, find-four parts none, none, has-other parts 5 refl, find-other parts 5 refl, e))
+      (λ e. rw (has-four parts, find-four parts none, none, has-other parts 5 refl, e))
 
 -- a sheet without part 2 or 3 gets 10, whatever is asked then
 gets-ten : (s : List ℕ) → check s ≡ 0 → question10 (split s) ≡ false → (rest : List Question) → answer (indexedQuestions s ++ rest) ≡ 10
@@ -91,6 +102,9 @@ module _ (s t : List ℕ) (none : has (split s) 4 ≡ false) (are : split t ≡ 
 
   schedule-same : schedulePart (split t) ≡ schedulePart (split s)
   schedule-same = rw are (find-other (split s) 2 refl)
+
+  popups-same : popupsPart (split t) ≡ popupsPart (split s)
+  popups-same = rw are (find-other (split s) 5 refl)
 
   indexed-same : question10 (split t) ≡ question10 (split s)
   unfolding question10
@@ -115,4 +129,4 @@ module _ (s t : List ℕ) (none : has (split s) 4 ≡ false) (are : split t ≡ 
 
     pub view-first : viewJob t e zoom room ≡ viewJob s e zoom room
     unfolding viewJob shownIn
-    view-first = outcome-same (viewQuestions t e zoom room) (viewQuestions s e zoom room) _ _ asked-same ∙ rw (marks-same, schedule-same)
+    view-first = outcome-same (viewQuestions t e zoom room) (viewQuestions s e zoom room) _ _ asked-same ∙ rw (marks-same, schedule-same, popups-same)

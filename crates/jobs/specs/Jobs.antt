@@ -1,7 +1,7 @@
 -- What each of the library's jobs gives, for all inputs.
 use Prim.Native.Nat.{ℕ, zero, suc, _+_, _*_}
 use mathlib.Core.Path.{_≡_}
-use mathlib.Core.Bool.{Bool, cond, _&&_}
+use mathlib.Core.Bool.{Bool, cond, _&&_, _||_}
 use mathlib.Core.List.{List, [], _∷_, _++_}
 use lib.ListN.{length, take}
 use lib.Dec.{ltb, leb, eqb}
@@ -12,11 +12,11 @@ use Rattle.marks.specs.Marks.{markSize}
 use Rattle.elimination.specs.Reel.{scheduleOf}
 use Rattle.scheduling.specs.Filling.{workSize}
 use Rattle.index.specs.Index.{indexOf, indexBytes}
-use Rattle.contents.specs.Contents.{Part, _holds_, bodiesOf, find, has, split, chain, join, together, marksPart, schedulePart}
+use Rattle.contents.specs.Contents.{Part, _holds_, bodiesOf, find, has, split, chain, join, together, marksPart, schedulePart, popupsPart}
 use Rattle.contents.specs.Questions.{isCount, codesRight}
 use Rattle.contents.specs.Asking.{Question, _asks_, answer}
-use Rattle.bodies.specs.Questions.{markCount, editionOf, reelFrom, fieldQuestions}
-use Rattle.changing.specs.Changing.{added, takenOut}
+use Rattle.bodies.specs.Questions.{markCount, editionOf, reelFrom, fieldQuestions, isPopup}
+use Rattle.changing.specs.Changing.{added, takenOut, addedPopup, takenOutPopup}
 use Rattle.filling.specs.Filling.{filled, fillQuestions}
 use Rattle.logs.specs.Log.{logRecordSize, recordCount, marksOfLog, logOfMarks}
 use Rattle.logs.specs.Questions.{logQuestions, marksQuestions}
@@ -61,14 +61,18 @@ checkJob s = outcome (checkQuestions s) 0 []
 abbrev pub keep : ℕ → List Part → List Part
 keep code parts = cond (has parts code) ((code holds find parts code) ∷ []) []
 
--- 02, request 6: "Scheduling, adding and taking out keep part 4": the parts that are kept, beside the marks
-abbrev pub keptParts : List Part → List Part
-keptParts parts = keep 4 parts
+-- 02, request 6: "Scheduling, adding and taking out keep part 4"; request 9: they "carry part 5 along". The parts that are kept, beside the
+-- marks, with this change to part 5, where it is there.
+abbrev pub carried : List Part → (List ℕ → List ℕ) → List Part
+carried parts change = keep 4 parts ++ cond (has parts 5) ((5 holds change (popupsPart parts)) ∷ []) []
 
--- the parts that scheduling writes for these marks, with parts that are kept: "the marks copied unchanged", their schedule by the edition
--- that is kept, their index, and what is kept
+abbrev pub keptParts : List Part → List Part
+keptParts parts = carried parts (λ q. q)
+
+-- the parts that scheduling writes for these marks, with parts that are kept: "the marks copied unchanged", their schedule by the edition and
+-- the popups that are kept, their index, and what is kept
 abbrev pub newSchedule : List ℕ → List Part → List ℕ
-newSchedule marks kept = scheduleOf (reelFrom (editionOf kept) marks)
+newSchedule marks kept = scheduleOf (reelFrom (editionOf kept) (popupsPart kept) marks)
 
 abbrev pub newIndex : List ℕ → List Part → List ℕ
 newIndex marks kept = indexBytes (indexOf marks (newSchedule marks kept) (markCount marks))
@@ -126,13 +130,20 @@ pub record LeftByScheduling (s : List ℕ) : Type 0 where
 
 -- ---- adding and taking out: 02, request 5
 
--- "Checks: after 1 to 10, .. 18 where 4,096 marks are held already; then 5, 6 for the new mark, then 13 .. for the new number of marks."
-unfoldable pub addChecks : List ℕ → Mark → List Question
-addChecks s mark = indexedQuestions s ++ ((18 asks ltb (sheetCount s) 4096) ∷ fieldQuestions (mark .kind) (mark .radius))
+-- 02, request 9: "a new mark's k: right after 6, and there also a k other than 0 on a sheet without part 5"
+abbrev pub isNewPopup : Bool → ℕ → Bool
+isNewPopup there k = isPopup k && (there || eqb k 0)
 
--- "Add a mark .. The new sheet equals one scheduled from the new marks."
-abbrev pub addJob : List ℕ → Mark → ℕ → ℕ → Outcome
-addJob s mark work room = schedulingJob (addChecks s mark) (added (marksPart (split s)) mark) (keptParts (split s)) work room
+-- "Checks: after 1 to 10, .. 18 where 4,096 marks are held already; then 5, 6 for the new mark, then 13 .. for the new number of marks."
+unfoldable pub addChecks : List ℕ → Mark → ℕ → List Question
+addChecks s mark k =
+    indexedQuestions s
+    ++ ((18 asks ltb (sheetCount s) 4096) ∷ (fieldQuestions (mark .kind) (mark .radius) ++ ((21 asks isNewPopup (has (split s) 5) k) ∷ [])))
+
+-- "Add a mark .. The new sheet equals one scheduled from the new marks"; "adding names the new mark's k"
+abbrev pub addJob : List ℕ → Mark → ℕ → ℕ → ℕ → Outcome
+addJob s mark k work room =
+    schedulingJob (addChecks s mark k) (added (marksPart (split s)) mark) (carried (split s) (λ q. addedPopup q k)) work room
 
 -- "after 1 to 10, 17 where m isn't below n .. then 13"
 unfoldable pub takeOutChecks : List ℕ → ℕ → List Question
@@ -140,7 +151,8 @@ takeOutChecks s m = indexedQuestions s ++ ((17 asks ltb m (sheetCount s)) ∷ []
 
 -- ".. or take out mark m"
 abbrev pub takeOutJob : List ℕ → ℕ → ℕ → ℕ → Outcome
-takeOutJob s m work room = schedulingJob (takeOutChecks s m) (takenOut (marksPart (split s)) m) (keptParts (split s)) work room
+takeOutJob s m work room =
+    schedulingJob (takeOutChecks s m) (takenOut (marksPart (split s)) m) (carried (split s) (λ q. takenOutPopup q m)) work room
 
 -- ---- putting together
 
@@ -179,7 +191,7 @@ marksToLogJob s room = outcome (marksQuestions s room) (logRecordSize * markCoun
 
 -- the marks that a view of an accepted sheet shows
 unfoldable pub shownIn : List ℕ → Window → Zoom → ℕ → Bool
-shownIn s e zoom = shown (marksPart (split s)) (schedulePart (split s)) (scale (scaleOf zoom)) e
+shownIn s e zoom = shown (marksPart (split s)) (schedulePart (split s)) (popupsPart (split s)) (scale (scaleOf zoom)) e
 
 unfoldable pub viewJob : List ℕ → Window → Zoom → ℕ → Outcome
 viewJob s e zoom room =

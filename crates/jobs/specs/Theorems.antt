@@ -1,6 +1,6 @@
--- Demands 2 and 3 over the bytes of sheets. Assumes nothing.
+-- Demands 2 and 3 over the bytes of sheets, with popups. Assumes nothing.
 use Prim.Native.Nat.{ℕ, zero, suc, _+_, _*_, _<_, _≤_}
-use mathlib.Core.Path.{_≡_, refl, sym, ap, _∙_}
+use mathlib.Core.Path.{_≡_, sym, ap, _∙_}
 use mathlib.Core.Bool.{true}
 use mathlib.Core.List.{List, [], _∷_, _++_}
 use mathlib.Core.Logic.{_↔_}
@@ -13,18 +13,22 @@ use Rattle.lists.specs.Stores.{over}
 use Rattle.lists.specs.TestLaws.{both-iff}
 use Rattle.lists.specs.Tests.{bit}
 use Rattle.numbers.specs.Little.{Bytes}
+use Rattle.fractions.specs.declared.Fraction.{Fraction}
 use Rattle.fractions.specs.declared.Value.{Value}
-use Rattle.fractions.specs.Order.{Equal}
+use Rattle.fractions.specs.declared.Value.the-variants.{At}
+use Rattle.fractions.specs.Order.{Equal, AtMost}
 use Rattle.marks.specs.Good.{GoodMarks}
-use Rattle.elimination.specs.Reel.{scheduleOf}
-use Rattle.elimination.specs.Schedule.{schedule-iff, schedule-later}
-use Rattle.contents.specs.Contents.{Part, _holds_, codesOf, bodiesOf, countAt, split, join, together, marksPart, schedulePart}
+use Rattle.marks.specs.Pairs.{popupAt, popupValue}
+use Rattle.elimination.specs.Reel.{Reel, GoodReel, scheduleOf}
+use Rattle.elimination.specs.Schedule.{schedule-popped, schedule-iff, schedule-later}
+use Rattle.elimination.specs.Unmoved.{unpopped-schedule}
+use Rattle.contents.specs.Contents.{Part, _holds_, codesOf, bodiesOf, countAt, split, join, together, marksPart, schedulePart, popupsPart}
 use Rattle.contents.specs.Asking.{Question, answer}
 use Rattle.contents.specs.Laws.{Numbered, asked-iff, append-iff, count-iff, split-length, split-join, join-bytes, together-parts}
 use Rattle.contents.specs.Questions.{isCount, codesRight}
-use Rattle.bodies.specs.Questions.{markCount, reelOf, editionOf}
+use Rattle.bodies.specs.Questions.{markCount, editionOf, reelFrom, reelOf}
 use Rattle.bodies.specs.Fitting.{Fitting}
-use Rattle.bodies.specs.Laws.{fitting-writable}
+use Rattle.bodies.specs.Laws.{fitting-writable, popups-good}
 use Rattle.sheet.specs.Questions.{sheetCount, checkQuestions, check, indexedQuestions, question10}
 use Rattle.sheet.specs.Laws.{check-numbered, indexed-numbered, indexed-iff, accepted-iff, parts-iff, join-accepted, sheet-again, parts-again}
 use Rattle.bitmap.specs.Map.{mapSize, mapBytes, countShown, shownFrom, isSet}
@@ -34,7 +38,7 @@ use Rattle.zoom.specs.declared.Zoom.{Zoom}
 use Rattle.zoom.specs.Zoom.{scaleOf, scale}
 use Rattle.zoom.specs.Living.{zoomSquared, livesAt}
 use Rattle.view.specs.declared.Window.{Window}
-use Rattle.view.specs.Shown.{shown}
+use Rattle.view.specs.Shown.{shown, lives}
 use Rattle.view.specs.Questions.{viewQuestions, isMap, walkQuestions}
 use Rattle.jobs.specs.declared.Answer.{Answer}
 use Rattle.jobs.specs.Jobs.{Outcome, outcome, after, keptParts, newParts, scheduledFrom, scheduled, scheduledSize, hasRoom, schedulingQuestions, schedulingJob, scheduleJob, ScheduledHere, LeftByScheduling}
@@ -50,7 +54,7 @@ use Rattle.jobs.specs.Laws.Scheduling.{sheet-long, there-room, room-aske
 use Rattle.jobs.specs.Lemmas.Scheduled.{later-same, new-fitting, good, marks-long, marks-bytes}
 -- ---- part 1 of an accepted sheet
 
-pub use Rattle.jobs.specs.Lemmas.Scheduled.{good, marks-bytes}
+pub use Rattle.jobs.specs.Lemmas.Scheduled.{good, marks-bytes, good-reel}
 
 -- ---- demand 2: what scheduling writes, for an accepted sheet g
 
@@ -58,7 +62,7 @@ module _ (g : List ℕ) (bytes : Bytes g) (ok : check g ≡ 0) where
   abbrev kept : List Part
   kept = keptParts (split g)
 
-  right : KeptRight kept
+  right : KeptRight (sheetCount g) kept
   right = kept-right g ok bytes
 
   fits : Fitting (newParts (marksPart (split g)) kept)
@@ -93,7 +97,7 @@ pub record Pass (marks : List ℕ) (kept : List Part) : Type 0 where
   pub good : GoodMarks marks (markCount marks)
   pub long : length marks ≡ 11 * markCount marks
   pub bytes : Bytes marks
-  pub right : KeptRight kept
+  pub right : KeptRight (markCount marks) kept
 
 -- The sheet of them alone is accepted, and scheduling it writes what it writes for them.
 module _ (marks : List ℕ) (kept : List Part) (pass : Pass marks kept) where
@@ -125,6 +129,20 @@ module _ (marks : List ℕ) (kept : List Part) (pass : Pass marks kept) where
   from-parts =
       split-join (newParts marks kept)
       (fitting-writable (newParts marks kept) (new-fitting marks kept (pass .good) (pass .long) (pass .bytes) (pass .right)) (pass .right .behind-three))
+
+  -- 02, request 9: its schedule, where all popups are 0, and each removal value against the mark's own popup
+  abbrev reel : Reel
+  reel = reelFrom (editionOf kept) (popupsPart kept) marks
+
+  pub from-unpopped : ((m : ℕ) → m < markCount marks → popupAt (popupsPart kept) m ≡ 0)
+      → schedulePart (split (scheduledFrom marks kept)) ≡ scheduleOf (reelFrom (editionOf kept) [] marks)
+  from-unpopped none = ap schedulePart from-parts ∙ unpopped-schedule reel none
+
+  pub from-popped : (m : ℕ) → m < markCount marks → (f : Fraction) → sheetValue (scheduledFrom marks kept) m ≡ At f
+      → AtMost (popupValue (popupAt (popupsPart kept) m)) f
+  from-popped m h f e =
+      let right : GoodReel reel = record { good = pass .good; bytes = pass .bytes; popped = popups-good kept (markCount marks) (pass .right .popups-right) } in
+      schedule-popped reel right m h f (rw from-parts at e)
 
 pub here-accepted : (s : List ℕ) → ScheduledHere s → check s ≡ 0
 here-accepted s here = ap check (here .written) ∙ scheduled-accepted (here .given-sheet) (here .bytes) (here .accepted)
@@ -270,6 +288,9 @@ module _ (s : List ℕ) (here : ScheduledHere s) where
   part1-bytes : Bytes (marksPart (split s))
   part1-bytes = rw parts (marks-bytes g bytes accepted)
 
+  reel-good : GoodReel (reelOf (split s))
+  reel-good = record { good = part1-good; bytes = part1-bytes; popped = popups-good (split s) (sheetCount s) (accepted-iff s .0 (here-accepted s here) .fitting .popups-right) }
+
   -- Its marks pass 4 to 6, and its schedule is that of its reel.
   pub here-pass : Pass (marksPart (split s)) (keptParts (split s))
   here-pass =
@@ -277,7 +298,7 @@ module _ (s : List ℕ) (here : ScheduledHere s) where
         good = part1-good;
         long = rw parts (marks-long g bytes accepted);
         bytes = part1-bytes;
-        right = rw others-kept (kept-right g accepted bytes);
+        right = rw (others-kept, parts) (kept-right g accepted bytes);
       }
 
   pub schedule-is : schedulePart (split s) ≡ scheduleOf (reelOf (split s))
@@ -294,20 +315,20 @@ module _ (s : List ℕ) (here : ScheduledHere s) where
   module _ (list : ℕ → Value) (sound : IsList s list) where
     -- A list equals ours, mark by mark, exactly when it keeps both rules.
     pub same-iff : ((m : ℕ) → m < sheetCount s → Equal (sheetValue s m) (list m)) ↔ KeepsRules s list
-    same-iff = rw schedule-is (schedule-iff (reelOf (split s)) part1-good part1-bytes list sound)
+    same-iff = rw schedule-is (schedule-iff (reelOf (split s)) reel-good list sound)
 
     -- And such a list has the same marks living at every zoom.
     pub lives-same : KeepsRules s list → (m k : ℕ) → m < sheetCount s → livesAt k (list m) ≡ livesAt k (sheetValue s m)
     unfolding livesAt
     lives-same rules m k h =
-        let e = rw (← schedule-is) at (schedule-later (reelOf (split s)) part1-good part1-bytes list sound rules m (zoomSquared k) h) in
+        let e = rw (← schedule-is) at (schedule-later (reelOf (split s)) reel-good list sound rules m (zoomSquared k) h) in
         later-same (list m) (sheetValue s m) (zoomSquared k) e
 
     -- The view clause. `buffer` is what the lent map held.
     module _ (rules : KeepsRules s list) (e : Window) (zoom : Zoom) (buffer : List ℕ)
         (taken : answer (viewQuestions s e zoom (length buffer)) ≡ 0) where
       living-same : (m : ℕ) → m < sheetCount s → shownIn s e zoom m ≡ shownBy s e zoom list m
-      unfolding shownIn shown
+      unfolding shownIn shown lives
       living-same m h = rw (lives-same rules m (scale (scaleOf zoom)) h)
 
       viewed : viewJob s e zoom (length buffer)
@@ -386,6 +407,8 @@ module _ (checks : List Question) (numbered : Numbered checks) (marks : List ℕ
         keeps = λ z. rw (sheet z) (ap keptParts (from-parts marks others (pass (ok z))) ∙ pass (ok z) .right .again);
         fresh = λ z g e f. rw (e, f) (sheet z);
         demand3 = λ z. rw (sheet z) (demand3 (scheduledFrom marks others) (here z));
+        unpopped = λ z. rw (sheet z) (from-unpopped marks others (pass (ok z)));
+        popped = λ z. rw (sheet z) (from-popped marks others (pass (ok z)));
       }
     where
       ok : r .number ≡ 0 → answer checks ≡ 0

@@ -1,40 +1,35 @@
 -- 02, request 8: "For a sheet scheduled here, scheduling the turned marks, where they fit 01's range, with the sheet's parts beyond 3 carried
 -- along, and viewing without a turn gives the same map." Over the jobs and bytes; the contracts of the views cite it. Assumes nothing.
-use Prim.Native.Nat.{ℕ, _*_, _<_, _≤_}
-use mathlib.Core.Path.{_≡_, refl, sym, ap, ap₂, _∙_}
-use mathlib.Core.Bool.{Bool, true}
-use mathlib.Core.List.{List, [], _∷_, _++_}
-use mathlib.Core.Logic.{_↔_}
-use native.Mathlib.Nat.{mul-div-cancel-left}
+use Prim.Native.Nat.{ℕ, _<_, _≤_}
+use mathlib.Core.Path.{_≡_, refl, sym, ap, _∙_}
+use mathlib.Core.Bool.{Bool}
+use mathlib.Core.List.{List, [], _∷_}
 use native.Mathlib.Omega.{arith}
 use borrow.Author.Tests.{le-leb}
 use lib.Dec.{leb}
 use lib.ListN.{length}
-use Rattle.numbers.specs.Little.{Bytes}
-use Rattle.marks.specs.Good.{GoodMarks}
-use Rattle.marks.specs.Marks.{usedAt}
-use Rattle.elimination.specs.Reel.{marksOf, scheduleOf}
-use Rattle.elimination.specs.Records.{valueAt}
+use Rattle.elimination.specs.Reel.{marksOf}
 use Rattle.elimination.specs.Alike.{Alike}
 use Rattle.elimination.specs.Unmoved.{alike-schedule}
 use Rattle.turns.specs.Laws.{turned-0}
 use Rattle.changing.specs.Turned.{turnedAt, turnedMarks, TurnedFit}
-use Rattle.changing.specs.TurnedLaws.{turned-length, turned-bytes, turned-fields, turned-used, turned-good, turned-rank, turned-touching}
-use Rattle.contents.specs.Contents.{Part, _holds_, split, join, marksPart, schedulePart}
+use Rattle.changing.specs.TurnedLaws.{turned-length, turned-bytes, turned-fields, turned-used, turned-good, turned-rank, turned-pair}
+use Rattle.contents.specs.Contents.{Part, _holds_, split, join, marksPart, schedulePart, popupsPart}
 use Rattle.contents.specs.Asking.{Question, _asks_, answer}
-use Rattle.bodies.specs.Questions.{markCount, editionOf, reelFrom, reelOf}
-use Rattle.sheet.specs.Questions.{sheetCount, check, question10, indexedQuestions}
+use Rattle.bodies.specs.Questions.{markCount, editionOf, reelFrom}
+use Rattle.sheet.specs.Questions.{sheetCount, check}
 use Rattle.zoom.specs.declared.Zoom.{Zoom}
-use Rattle.zoom.specs.Zoom.{scaleOf, scale}
+use Rattle.zoom.specs.Zoom.{scaleOf}
 use Rattle.bitmap.specs.Map.{mapSize}
 use Rattle.bitmap.specs.Laws.{map-same, count-same}
 use Rattle.view.specs.declared.Window.{Window}
-use Rattle.view.specs.Shown.{diskReaches, reaches, shown}
+use Rattle.view.specs.Shown.{reaches, shown}
 use Rattle.view.specs.Laws.{view-asked}
 use Rattle.view.specs.Questions.{question20, question11, isTaken, viewQuestions}
 use Rattle.jobs.specs.declared.Answer.{Answer}
 use Rattle.jobs.specs.Jobs.{keptParts, newParts, scheduledFrom, scheduled, ScheduledHere, shownIn, viewJob}
 use Rattle.jobs.specs.Answers.{Gives}
+use Rattle.jobs.specs.Laws.Kept.{kept-popups}
 use Rattle.jobs.specs.Theorems.{Pass, alone-accepted, alone-scheduled, from-here, from-parts, here-pass, here-indexed, here-edition, schedule-is}
 use Rattle.jobs.specs.Laws.Outcomes.{outcome-same}
 
@@ -80,7 +75,7 @@ module _ (s : List ℕ) (here : ScheduledHere s) (t : ℕ) (fit : TurnedFit t (m
         good = rw turned-count (turned-good t marks (sheetCount s) (pass .bytes) fit (pass .good));
         long = rw turned-count (turned-length t marks (sheetCount s));
         bytes = turned-bytes t marks (sheetCount s);
-        right = pass .right;
+        right = rw turned-count (pass .right);
       }
 
   pub turned-accepted : check (turnedSheet t s) ≡ 0
@@ -103,28 +98,32 @@ module _ (s : List ℕ) (here : ScheduledHere s) (t : ℕ) (fit : TurnedFit t (m
   same-count = ap markCount other-marks ∙ turned-count
 
   -- "The process sees only ranks and pair values", and these a turn keeps.
-  alike : (edition : ℕ) → Alike (marksOf (reelFrom edition marks)) (marksOf (reelFrom edition turned))
-  alike edition =
+  alike : (edition : ℕ) (popups : List ℕ) → Alike (marksOf (reelFrom edition popups marks)) (marksOf (reelFrom edition popups turned))
+  alike edition popups =
       record {
         counts = sym turned-count;
         ranks = λ i j hi hj.
             rw (turned-rank t marks (sheetCount s) (pass .bytes) fit edition i hi, turned-rank t marks (sheetCount s) (pass .bytes) fit edition j hj)
             ((λ l. l), (λ l. l));
-        values = λ i j hi hj. sym (turned-touching t marks (sheetCount s) (pass .bytes) fit i j hi hj);
+        values = λ i j hi hj. sym (turned-pair t marks (sheetCount s) (pass .bytes) fit popups i j hi hj);
       }
+
+  same-popups : popupsPart (split other) ≡ popupsPart (split s)
+  same-popups = ap popupsPart other-parts ∙ kept-popups (split s)
 
   same-schedule : schedulePart (split other) ≡ schedulePart (split s)
   same-schedule =
-      ap schedulePart other-parts ∙ ap (λ (e : ℕ). scheduleOf (reelFrom e turned)) (here-edition s here)
-      ∙ sym (alike-schedule (reelFrom (editionOf (split s)) marks) (reelFrom (editionOf (split s)) turned) (alike (editionOf (split s))))
-      ∙ sym (schedule-is s here)
+      let edition = editionOf kept in
+      let popups = popupsPart kept in
+      ap schedulePart other-parts ∙ sym (alike-schedule (reelFrom edition popups marks) (reelFrom edition popups turned) (alike edition popups))
+      ∙ rw (here-edition s here, kept-popups (split s)) (sym (schedule-is s here))
 
   module _ (e : Window) (is : e .turn ≡ t) (zoom : Zoom) (room : ℕ) where
     same-shown : (m : ℕ) → m < sheetCount s → shownIn s e zoom m ≡ shownIn other (unturned e) zoom m
     unfolding shownIn shown reaches
     same-shown m h =
         let has = turned-fields t marks (sheetCount s) (pass .bytes) fit m h in
-        rw (same-schedule, other-marks, is, has .x, has .y, turned-used t marks (sheetCount s) (pass .bytes) fit m h, turned-0 (turnedAt t marks m))
+        rw (same-schedule, same-popups, other-marks, is, has .x, has .y, turned-used t marks (sheetCount s) (pass .bytes) fit m h, turned-0 (turnedAt t marks m))
 
     module _ (few : t ≤ 3) where
       same-window : question20 e ≡ question20 (unturned e)

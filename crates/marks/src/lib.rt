@@ -1,10 +1,13 @@
 // The fields of a mark, its used radius, touching and rank. `s` is part 1 of a sheet and `m` a mark's number.
 use fractions::Fraction;
 ghost use mathlib.Core.Path.{_≡_};
+ghost use mathlib.Core.Logic.{_⊎_};
 ghost use Prim.Native.Nat.{_+_, _*_, _/_, _%_, _<_, _≤_};
 ghost use lib.ListN.{length};
 ghost use lib.IntN.{_-ℤ_, natAbs};
+ghost use Rattle.numbers.specs.Little.{leBytes};
 ghost use Rattle.fractions.specs.Order.{Small};
+ghost use Rattle.marks.specs.Pairs.{popupSize, popupAt, larger, pairOf, pairValue, GoodPopup};
 ghost use Rattle.marks.specs.Marks.{markSize, xAt, yAt, shifted, radiusAt, priorityAt, kindAt, placeBits, markBytes};
 ghost use Rattle.marks.specs.Marks.{houseOf, oldRadius, usedRadius, usedAt};
 ghost use Rattle.marks.specs.Marks.{labelAt, distance, touchingOf, touching, rankRadius, outranks, rankKey};
@@ -19,6 +22,9 @@ pub const RADIUS_OFFSET: usize = 4;
 pub const PRIORITY_OFFSET: usize = 6;
 
 const KIND_OFFSET: usize = 8;
+
+// The bytes of a popup.
+pub const POPUP_SIZE: usize = 4;
 
 // ---- the fields
 
@@ -235,6 +241,59 @@ pub fn touching(s: &[u8], a: usize, b: usize) -> Fraction
     ensures { λ r. ⌜ (r ≡ touching (now (s .entry)) a b) × Small r ⌝ }
 {
     touching_of(label_at(s, a), label_at(s, b))
+}
+
+// ---- popups
+
+// The k of mark m, by part 5: 0 where that part is not there.
+pub fn popup_at(popups: &[u8], m: usize) -> u32
+    requires { ⌜ (length (now popups) ≡ 0) ⊎ (popupSize * m + popupSize ≤ length (now popups)) ⌝ }
+    ensures { λ r. ⌜ r ≡ popupAt (now (popups .entry)) m ⌝ }
+{
+    if popups.len() == 0 {
+        return 0;
+    }
+    numbers::read_u32(popups, POPUP_SIZE * m)
+}
+
+// The bytes of a popup, as part 5 has them.
+pub fn popup_bytes(k: u32) -> [u8; 4]
+    ensures { λ r. ⌜ r ≡ leBytes popupSize k ⌝ }
+{
+    let mut row = [0u8; POPUP_SIZE];
+    numbers::write(&mut row, 0, POPUP_SIZE, k as u64);
+    row
+}
+
+// The larger of two popups.
+pub fn larger(a: u32, b: u32) -> u32
+    ensures { λ r. ⌜ r ≡ larger a b ⌝ }
+{
+    if a <= b { b } else { a }
+}
+
+// The pair value, from a touching value and the larger k of the two: the popup's value where it exceeds the touching value.
+pub fn pair_of(f: Fraction, k: u32) -> Fraction
+    requires { ⌜ Small f × (k ≤ 65536) ⌝ }
+    ensures { λ r. ⌜ (r ≡ pairOf f k) × Small r ⌝ }
+{
+    let num = k as u64 * k as u64;
+    let popup = Fraction { num, den: 4096 };
+    if fractions::less_small(f, popup) {
+        popup
+    } else {
+        f
+    }
+}
+
+// The pair value of marks a and b. Part 5 is empty where it is not there.
+pub fn pair(s: &[u8], popups: &[u8], a: usize, b: usize) -> Fraction
+    requires { ⌜ (markSize * a + markSize ≤ length (now s)) × (markSize * b + markSize ≤ length (now s)) ⌝ }
+    requires { ⌜ (usedAt (now s) a ≤ 16383) × (usedAt (now s) b ≤ 16383) × GoodPopup (now popups) a × GoodPopup (now popups) b ⌝ }
+    ensures { λ r. ⌜ r ≡ pairValue (now (s .entry)) (now (popups .entry)) a b ⌝ }
+{
+    let k = larger(popup_at(popups, a), popup_at(popups, b));
+    pair_of(touching(s, a, b), k)
 }
 
 // ---- rank

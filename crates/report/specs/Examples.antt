@@ -11,6 +11,7 @@ use Rattle.numbers.specs.Little.{leAt, leBytes}
 use Rattle.fractions.specs.Order.{less, same, later, level}
 use Rattle.marks.specs.declared.Mark.{Mark}
 use Rattle.marks.specs.Marks.{placeBits, markBytes, kindGroup, houseRadius, oldRadius, houseOf, isKind, isRadius, usedRadius, distance, touchingOf, touching, rankRadius, outranks, rankKey}
+use Rattle.marks.specs.Pairs.{pairOf, pairValue}
 use Rattle.elimination.specs.Process.{least, put, before, pair, next, run, process}
 use Rattle.elimination.specs.Records.{eliminatorAt, numAt, denAt, isNever, valueAt, records}
 use Rattle.elimination.specs.Reel.{scheduleOf}
@@ -20,8 +21,8 @@ use Rattle.contents.specs.Contents.{_holds_, codesOf, startAt, split, entries, 
 use Rattle.contents.specs.Asking.{answer, inTurn}
 use Rattle.contents.specs.Questions.{question1, codesRight, question3, contentsQuestions}
 use Rattle.rows.specs.Rows as Rows
-use Rattle.changing.specs.Changing.{added, takenOut}
-use Rattle.bodies.specs.Questions.{question4, markQuestions, part1Questions, isEdition, question7, question19, namesRight, recordRight, isSchedule, isSized, question8, question9, lastQuestions, bodyQuestions}
+use Rattle.changing.specs.Changing.{added, takenOut, addedPopup, takenOutPopup}
+use Rattle.bodies.specs.Questions.{question4, markQuestions, part1Questions, isEdition, isPopup, isPopups, question7, question19, question21, namesRight, recordRight, isSchedule, isSized, question8, question9, lastQuestions, bodyQuestions}
 use Rattle.filling.specs.Filling.{filledRadius, filled, fillQuestions}
 use Rattle.logs.specs.Packed.{magnitude, isMinus, withSign, areDigits, isLast, isPacked, isPlace, packedOf}
 use Rattle.logs.specs.Log.{marksOfLog, logOfMarks}
@@ -34,7 +35,7 @@ use Rattle.zoom.specs.Living.{livesAt}
 use Rattle.zoom.specs.Printed.{rootStep, root, nearestFrom, nearest}
 use Rattle.view.specs.declared.Window.{Window}
 use Rattle.turns.specs.Turns.{unit, quarter, productAt, times, turn, applied, turnedPlace}
-use Rattle.view.specs.Shown.{gap, distanceSquared, diskReaches, reaches, shown}
+use Rattle.view.specs.Shown.{gap, distanceSquared, diskReaches, reaches, poppedUp, lives, shown}
 use Rattle.bitmap.specs.Map.{mapByte, mapPart, mapBytes, countShown}
 use Rattle.view.specs.Questions as Viewing
 use Rattle.jobs.specs.Jobs.{outcome, checkJob, scheduled, schedulingQuestions, schedulingJob, addChecks, addJob, takeOutChecks, takeOutJob, assembleQuestions, assembleJob, fillJob, logToMarksJob, marksToLogJob, shownIn, viewJob}
@@ -59,27 +60,32 @@ marks (m ∷ rest) = markBytes m ++ marks rest
 sheet : List Mark → List ℕ
 sheet l = join ((1 holds marks l) ∷ [])
 
--- the same with part 4
+-- the same with part 4, and with part 5, which has these popups
 sheetIn : ℕ → List Mark → List ℕ
 sheetIn edition l = join ((1 holds marks l) ∷ (4 holds (edition ∷ [])) ∷ [])
+
+popups : List ℕ → List ℕ
+popups [] = []
+popups (k ∷ ks) = leBytes 4 k ++ popups ks
+
+sheetWith : List ℕ → List Mark → List ℕ
+sheetWith ks l = join ((1 holds marks l) ∷ (5 holds popups ks) ∷ [])
 
 -- ---- what is asked, and its answer as a list of numbers
 
 pub data Asked : Type 0 where
-  -- the program's output on a sheet of these marks
-  prints : List Mark → Asked
-  -- the numbers of the scheduled sheet's part 3
-  indexes : List Mark → Asked
-  -- eliminator, numerator and denominator of a mark in the scheduled sheet's part 2
-  removes : List Mark → ℕ → Asked
-  -- a view of the scheduled sheet with a map of one byte: number, count, and the bytes written
-  views : List Mark → Window → Zoom → Asked
-  -- the same of a sheet that names this edition
-  removesIn : ℕ → List Mark → ℕ → Asked
+  -- the program's output on a sheet
+  prints : List ℕ → Asked
+  -- of the sheet that scheduling writes for a sheet: the numbers of part 3,
+  indexes : List ℕ → Asked
+  -- eliminator, numerator and denominator of a mark in part 2,
+  removes : List ℕ → ℕ → Asked
+  -- its codes,
+  keeps : List ℕ → Asked
+  -- and a view of it with a map of one byte: number, count, and the bytes written
+  views : List ℕ → Window → Zoom → Asked
   -- bodies put together under codes, in a buffer of so many bytes: number and length
   assembles : List ℕ → List (List ℕ) → ℕ → Asked
-  -- the codes of the sheet that scheduling writes for a sheet of this edition
-  keeps : ℕ → List Mark → Asked
   -- the number that checking answers
   checks : List ℕ → Asked
   -- the used radius of a written radius and a kind
@@ -96,9 +102,9 @@ pub data Asked : Type 0 where
   -- a log turned into marks, and marks into a log, in a buffer of so many bytes: number, length, and the bytes written
   turnsLog : List ℕ → ℕ → Asked
   turnsMarks : List Mark → ℕ → Asked
-  -- a mark added to a sheet, with work and written buffers of so many bytes, and a mark taken out: number and length, and of the new sheet
-  -- eliminator, numerator and denominator of a mark
-  adds : List ℕ → Mark → ℕ → ℕ → ℕ → Asked
+  -- a mark with a popup added to a sheet, with work and written buffers of so many bytes, and a mark taken out: number and length, and of the
+  -- new sheet eliminator, numerator and denominator of a mark
+  adds : List ℕ → Mark → ℕ → ℕ → ℕ → ℕ → Asked
   takesOut : List ℕ → ℕ → ℕ → ℕ → ℕ → Asked
 
 -- the numbers of two bytes each
@@ -112,13 +118,12 @@ recordOf : List ℕ → ℕ → List ℕ
 recordOf s m = let p = schedulePart (split s) in eliminatorAt p m ∷ numAt p m ∷ denAt p m ∷ []
 
 pub answers : Asked → List ℕ
-answers (prints l) = printed (sheet l)
-answers (indexes l) = pairs (indexPart (split (scheduled (sheet l))))
-answers (removes l m) = recordOf (scheduled (sheet l)) m
-answers (removesIn edition l m) = recordOf (scheduled (sheetIn edition l)) m
+answers (prints s) = printed s
+answers (indexes s) = pairs (indexPart (split (scheduled s)))
+answers (removes s m) = recordOf (scheduled s) m
+answers (keeps s) = codesOf (split (scheduled s))
+answers (views s e zoom) = let o = viewJob (scheduled s) e zoom 1 in o .number ∷ o .value ∷ o .written
 answers (assembles codes bodies room) = let o = assembleJob codes bodies room in o .number ∷ o .value ∷ []
-answers (keeps edition l) = codesOf (split (scheduled (sheetIn edition l)))
-answers (views l e zoom) = let o = viewJob (scheduled (sheet l)) e zoom 1 in o .number ∷ o .value ∷ o .written
 answers (checks s) = (checkJob s) .number ∷ []
 answers (uses radius kind) = usedRadius radius kind ∷ []
 answers (zooms num den) = nearest (record { num = num; den = den }) ∷ []
@@ -130,7 +135,7 @@ answers (rescues s m) =
     o .number ∷ o .value ∷ (checkJob (o .written)) .number ∷ recordOf (scheduled (o .written)) m
 answers (turnsLog s room) = let o = logToMarksJob s room in o .number ∷ o .value ∷ o .written
 answers (turnsMarks l room) = let o = marksToLogJob (marks l) room in o .number ∷ o .value ∷ o .written
-answers (adds s mark work room m) = let o = addJob s mark work room in o .number ∷ o .value ∷ recordOf (o .written) m
+answers (adds s new k work room m) = let o = addJob s new k work room in o .number ∷ o .value ∷ recordOf (o .written) m
 answers (takesOut s out work room m) = let o = takeOutJob s out work room in o .number ∷ o .value ∷ recordOf (o .written) m
 
 -- ---- the table
@@ -167,6 +172,10 @@ two = mark (pos 0) (pos 0) 10 5 ∷ mark (pos 100) (pos 0) 20 5 ∷ []
 abbrev house : List Mark
 house = mark (pos 0) (pos 0) 100 5 ∷ markOf (pos 300) (pos 0) 0 5 150 ∷ []
 
+-- the first two marks of P1, and the line that both lie on
+abbrev ends : List Mark
+ends = take 2 p1
+
 -- a mark of this radius and this kind
 abbrev of : ℕ → ℕ → List Mark
 of radius kind = markOf (pos 0) (pos 0) radius 0 kind ∷ []
@@ -198,6 +207,9 @@ window x0 x1 y0 y1 turn = record { x0 = x0; x1 = x1; y0 = y0; y1 = y1; turn = tu
 abbrev p3 : Window
 p3 = window (pos 50) (pos 250) (negsuc 9) (pos 10) 0
 
+abbrev along : Window
+along = window (pos 0) (pos 100) (pos 0) (pos 0) 0
+
 -- the wheel value whose bits these are
 abbrev wheel : ℕ → Zoom
 wheel bits = Wheel (ofBits binary32 bits)
@@ -205,17 +217,17 @@ wheel bits = Wheel (ofBits binary32 bits)
 pub table : List Row
 table =
     -- P1, its last mark as request 7 of 02 has it
-    (prints p1 gives text "marks 4\n0 -\n1 0 10000 400 320\n2 0 40000 400 640\n3 0 9 225 13\n")
+    (prints (sheet p1) gives text "marks 4\n0 -\n1 0 10000 400 320\n2 0 40000 400 640\n3 0 9 225 13\n")
     -- P2
-    ∷ (indexes p1 gives (0 ∷ 1 ∷ 3 ∷ 2 ∷ []))
+    ∷ (indexes (sheet p1) gives (0 ∷ 1 ∷ 3 ∷ 2 ∷ []))
     -- P3: wheel 1
-    ∷ (views p1 p3 (wheel 0x3f80_0000) gives (0 ∷ 2 ∷ 0x06 ∷ []))
+    ∷ (views (sheet p1) p3 (wheel 0x3f80_0000) gives (0 ∷ 2 ∷ 0x06 ∷ []))
     -- P4: wheel 5
-    ∷ (views p1 p3 (wheel 0x40a0_0000) gives (0 ∷ 2 ∷ 0x05 ∷ []))
+    ∷ (views (sheet p1) p3 (wheel 0x40a0_0000) gives (0 ∷ 2 ∷ 0x05 ∷ []))
     -- P5
-    ∷ (removes p5 1 gives (0 ∷ 0 ∷ 4 ∷ []))
+    ∷ (removes (sheet p5) 1 gives (0 ∷ 0 ∷ 4 ∷ []))
     -- P6
-    ∷ (removes p6 1 gives (0 ∷ 8589672450 ∷ 4 ∷ []))
+    ∷ (removes (sheet p6) 1 gives (0 ∷ 8589672450 ∷ 4 ∷ []))
     -- P7
     ∷ (checks (sheet (of 16383 0)) gives (0 ∷ []))
     ∷ (checks (sheet (of 16384 0)) gives (6 ∷ []))
@@ -224,25 +236,25 @@ table =
     ∷ (uses 0 199 gives (200 ∷ []))
     ∷ (checks (sheet (of 0 200)) gives (5 ∷ []))
     -- P9: wheels 1/64, 1024, 1/128, 1024 + 1/64
-    ∷ (views p1 p3 (wheel 0x3c80_0000) gives (0 ∷ 2 ∷ 0x06 ∷ []))
-    ∷ (views p1 p3 (wheel 0x4480_0000) gives (0 ∷ 1 ∷ 0x01 ∷ []))
-    ∷ (views p1 p3 (wheel 0x3c00_0000) gives (12 ∷ 0 ∷ []))
-    ∷ (views p1 p3 (wheel 0x4480_0080) gives (12 ∷ 0 ∷ []))
+    ∷ (views (sheet p1) p3 (wheel 0x3c80_0000) gives (0 ∷ 2 ∷ 0x06 ∷ []))
+    ∷ (views (sheet p1) p3 (wheel 0x4480_0000) gives (0 ∷ 1 ∷ 0x01 ∷ []))
+    ∷ (views (sheet p1) p3 (wheel 0x3c00_0000) gives (12 ∷ 0 ∷ []))
+    ∷ (views (sheet p1) p3 (wheel 0x4480_0080) gives (12 ∷ 0 ∷ []))
     -- P10
     ∷ (checks (0x01 ∷ 0x00 ∷ 0x01 ∷ 0x00 ∷ 0x0c ∷ 0x00 ∷ 0x00 ∷ 0x00 ∷ 0x00 ∷ 0x00 ∷ 0x00 ∷ 0x00 ∷ []) gives (0 ∷ []))
     -- P11
-    ∷ (removes p11 2 gives (1 ∷ 10000 ∷ 400 ∷ []))
+    ∷ (removes (sheet p11) 2 gives (1 ∷ 10000 ∷ 400 ∷ []))
     -- P12
-    ∷ (views p1 p3 (Stop 16) gives (0 ∷ 1 ∷ 0x01 ∷ []))
-    ∷ (views p1 p3 (Stop 17) gives (12 ∷ 0 ∷ []))
+    ∷ (views (sheet p1) p3 (Stop 16) gives (0 ∷ 1 ∷ 0x01 ∷ []))
+    ∷ (views (sheet p1) p3 (Stop 17) gives (12 ∷ 0 ∷ []))
     -- "The largest numerator is 8,589,672,450; the largest denominator 1,073,610,756."
-    ∷ (removes largest 1 gives (0 ∷ 8589672450 ∷ 1073610756 ∷ []))
+    ∷ (removes (sheet largest) 1 gives (0 ∷ 8589672450 ∷ 1073610756 ∷ []))
     -- "25/1 and 100/4 are equal"
     ∷ (equals 25 1 100 4 gives (1 ∷ []))
     -- 02, request 2: patches have 150, and 120 once they are filled; 13 where a byte is lacking
     ∷ (uses 0 100 gives (150 ∷ []))
     ∷ (uses 0 149 gives (150 ∷ []))
-    ∷ (removes patches 1 gives (0 ∷ 10000 ∷ 90000 ∷ []))
+    ∷ (removes (sheet patches) 1 gives (0 ∷ 10000 ∷ 90000 ∷ []))
     ∷ (fills (of 0 149) 11 gives (0 ∷ 11 ∷ 0 ∷ 0 ∷ 0 ∷ 0 ∷ 120 ∷ 0 ∷ 0 ∷ 0 ∷ 149 ∷ 0 ∷ 0 ∷ []))
     ∷ (fills (of 7 149) 11 gives (0 ∷ 11 ∷ 0 ∷ 0 ∷ 0 ∷ 0 ∷ 7 ∷ 0 ∷ 0 ∷ 0 ∷ 149 ∷ 0 ∷ 0 ∷ []))
     ∷ (fills (of 0 149) 10 gives (13 ∷ 0 ∷ []))
@@ -265,26 +277,26 @@ table =
     ∷ (turnsLog (log 0x99 0x99 0x9c 0x00 0x00 0x0a) 11 gives (16 ∷ 0 ∷ []))
     ∷ (turnsLog (log 0x00 0x00 0x0c 0x00 0x00 0x0c) 10 gives (13 ∷ 0 ∷ []))
     -- 02, request 5: the last mark of P1 added to the others
-    ∷ (adds (scheduled (sheet (take 3 p1))) (mark (pos 0) (pos 3) 5 1) 1152 140 3 gives (0 ∷ 140 ∷ 0 ∷ 9 ∷ 225 ∷ []))
+    ∷ (adds (scheduled (sheet (take 3 p1))) (mark (pos 0) (pos 3) 5 1) 0 1152 140 3 gives (0 ∷ 140 ∷ 0 ∷ 9 ∷ 225 ∷ []))
     -- the first mark of P1 taken out: the last is then mark 2, and goes by the one that was mark 1
     ∷ (takesOut (scheduled (sheet p1)) 0 1120 113 2 gives (0 ∷ 113 ∷ 0 ∷ 10009 ∷ 225 ∷ []))
     -- a schedule that is not ours, in which no patch goes, is not carried over
-    ∷ (adds neverSheet (mark (pos 0) (pos 3) 5 1) 1120 113 1 gives (0 ∷ 113 ∷ 0 ∷ 10000 ∷ 90000 ∷ []))
+    ∷ (adds neverSheet (mark (pos 0) (pos 3) 5 1) 0 1120 113 1 gives (0 ∷ 113 ∷ 0 ∷ 10000 ∷ 90000 ∷ []))
     -- 10; 17 where m is n; 5 of the new mark before 6; 13 last
-    ∷ (adds (sheet p5) (mark (pos 0) (pos 3) 5 1) 1120 113 0 gives (10 ∷ 0 ∷ 0 ∷ 0 ∷ 0 ∷ []))
+    ∷ (adds (sheet p5) (mark (pos 0) (pos 3) 5 1) 0 1120 113 0 gives (10 ∷ 0 ∷ 0 ∷ 0 ∷ 0 ∷ []))
     ∷ (takesOut (scheduled (sheet p5)) 2 0 0 0 gives (17 ∷ 0 ∷ 0 ∷ 0 ∷ 0 ∷ []))
-    ∷ (adds (scheduled (sheet p5)) (markOf (pos 0) (pos 0) 16384 0 200) 0 0 0 gives (5 ∷ 0 ∷ 0 ∷ 0 ∷ 0 ∷ []))
-    ∷ (adds (scheduled (sheet p5)) (markOf (pos 0) (pos 0) 16384 0 199) 0 0 0 gives (6 ∷ 0 ∷ 0 ∷ 0 ∷ 0 ∷ []))
+    ∷ (adds (scheduled (sheet p5)) (markOf (pos 0) (pos 0) 16384 0 200) 0 0 0 0 gives (5 ∷ 0 ∷ 0 ∷ 0 ∷ 0 ∷ []))
+    ∷ (adds (scheduled (sheet p5)) (markOf (pos 0) (pos 0) 16384 0 199) 1 0 0 0 gives (6 ∷ 0 ∷ 0 ∷ 0 ∷ 0 ∷ []))
     ∷ (takesOut (scheduled (sheet p5)) 1 1055 59 0 gives (13 ∷ 0 ∷ 0 ∷ 0 ∷ 0 ∷ []))
     -- 02, request 6: "between equal priorities the larger used radius ranks higher, then the lower number", in edition 2 alone
-    ∷ (removes two 1 gives (0 ∷ 10000 ∷ 900 ∷ []))
-    ∷ (removesIn 1 two 1 gives (0 ∷ 10000 ∷ 900 ∷ []))
-    ∷ (removesIn 2 two 0 gives (1 ∷ 10000 ∷ 900 ∷ []))
+    ∷ (removes (sheet two) 1 gives (0 ∷ 10000 ∷ 900 ∷ []))
+    ∷ (removes (sheetIn 1 two) 1 gives (0 ∷ 10000 ∷ 900 ∷ []))
+    ∷ (removes (sheetIn 2 two) 0 gives (1 ∷ 10000 ∷ 900 ∷ []))
     -- the used radius counts, and of equal ones the lower number
-    ∷ (removesIn 2 house 0 gives (1 ∷ 90000 ∷ 90000 ∷ []))
-    ∷ (removesIn 2 p5 1 gives (0 ∷ 0 ∷ 4 ∷ []))
+    ∷ (removes (sheetIn 2 house) 0 gives (1 ∷ 90000 ∷ 90000 ∷ []))
+    ∷ (removes (sheetIn 2 p5) 1 gives (0 ∷ 0 ∷ 4 ∷ []))
     -- part 4 is kept
-    ∷ (keeps 2 two gives (1 ∷ 2 ∷ 3 ∷ 4 ∷ []))
+    ∷ (keeps (sheetIn 2 two) gives (1 ∷ 2 ∷ 3 ∷ 4 ∷ []))
     -- 19: no byte, another byte, two bytes
     ∷ (checks (sheetIn 2 two) gives (0 ∷ []))
     ∷ (checks (sheetIn 3 two) gives (19 ∷ []))
@@ -306,33 +318,64 @@ table =
     -- the largest removal value
     ∷ (zooms 8589672450 4 gives (2965776 ∷ []))
     -- 02, request 8: P3 after one, two and three quarter turns
-    ∷ (views p1 (window (negsuc 9) (pos 10) (pos 50) (pos 250) 1) (wheel 0x3f80_0000) gives (0 ∷ 2 ∷ 0x06 ∷ []))
-    ∷ (views p1 (window (negsuc 249) (negsuc 49) (negsuc 9) (pos 10) 2) (wheel 0x3f80_0000) gives (0 ∷ 2 ∷ 0x06 ∷ []))
-    ∷ (views p1 (window (negsuc 9) (pos 10) (negsuc 249) (negsuc 49) 3) (wheel 0x3f80_0000) gives (0 ∷ 2 ∷ 0x06 ∷ []))
+    ∷ (views (sheet p1) (window (negsuc 9) (pos 10) (pos 50) (pos 250) 1) (wheel 0x3f80_0000) gives (0 ∷ 2 ∷ 0x06 ∷ []))
+    ∷ (views (sheet p1) (window (negsuc 249) (negsuc 49) (negsuc 9) (pos 10) 2) (wheel 0x3f80_0000) gives (0 ∷ 2 ∷ 0x06 ∷ []))
+    ∷ (views (sheet p1) (window (negsuc 9) (pos 10) (negsuc 249) (negsuc 49) 3) (wheel 0x3f80_0000) gives (0 ∷ 2 ∷ 0x06 ∷ []))
     -- -32,768 is turned to 32,768
-    ∷ (views p6 (window (pos 32768) (pos 32768) (negsuc 32767) (negsuc 32767) 1) (Stop 0) gives (0 ∷ 1 ∷ 0x01 ∷ []))
+    ∷ (views (sheet p6) (window (pos 32768) (pos 32768) (negsuc 32767) (negsuc 32767) 1) (Stop 0) gives (0 ∷ 1 ∷ 0x01 ∷ []))
     -- 20, before 11: "another turn or an edge beyond that range"
-    ∷ (views p1 (window (pos 250) (pos 50) (pos 0) (pos 0) 4) (Stop 0) gives (20 ∷ 0 ∷ []))
-    ∷ (views p1 (window (pos 0) (pos 0) (negsuc 32768) (pos 0) 0) (Stop 0) gives (20 ∷ 0 ∷ []))
-    ∷ (views p1 (window (pos 0) (pos 32769) (pos 0) (pos 0) 3) (Stop 0) gives (20 ∷ 0 ∷ []))
-    ∷ (views p1 (window (pos 250) (pos 50) (pos 0) (pos 0) 3) (Stop 17) gives (11 ∷ 0 ∷ []))
+    ∷ (views (sheet p1) (window (pos 250) (pos 50) (pos 0) (pos 0) 4) (Stop 0) gives (20 ∷ 0 ∷ []))
+    ∷ (views (sheet p1) (window (pos 0) (pos 0) (negsuc 32768) (pos 0) 0) (Stop 0) gives (20 ∷ 0 ∷ []))
+    ∷ (views (sheet p1) (window (pos 0) (pos 32769) (pos 0) (pos 0) 3) (Stop 0) gives (20 ∷ 0 ∷ []))
+    ∷ (views (sheet p1) (window (pos 250) (pos 50) (pos 0) (pos 0) 3) (Stop 17) gives (11 ∷ 0 ∷ []))
+    -- 02, request 9: the touching value of the first two marks of P1 is 25, that of z = 5, or k = 320. A popup fraction is kept only where it
+    -- exceeds it, and it is that of the larger k, whosesoever it is
+    ∷ (removes (sheetWith (0 ∷ 0 ∷ []) ends) 1 gives (0 ∷ 10000 ∷ 400 ∷ []))
+    ∷ (removes (sheetWith (320 ∷ 320 ∷ []) ends) 1 gives (0 ∷ 10000 ∷ 400 ∷ []))
+    ∷ (removes (sheetWith (0 ∷ 321 ∷ []) ends) 1 gives (0 ∷ 103041 ∷ 4096 ∷ []))
+    ∷ (removes (sheetWith (640 ∷ 1 ∷ []) ends) 1 gives (0 ∷ 409600 ∷ 4096 ∷ []))
+    ∷ (removes (sheetWith (65536 ∷ 0 ∷ []) ends) 1 gives (0 ∷ 4294967296 ∷ 4096 ∷ []))
+    -- at z = 1 mark 0, the root, has not popped up, and mark 1 lives; at z = 10 mark 0 is there, and mark 1 is gone
+    ∷ (views (sheetWith (640 ∷ 0 ∷ []) ends) along (wheel 0x3f80_0000) gives (0 ∷ 1 ∷ 0x02 ∷ []))
+    ∷ (views (sheetWith (640 ∷ 0 ∷ []) ends) along (wheel 0x4120_0000) gives (0 ∷ 1 ∷ 0x01 ∷ []))
+    -- mark 1 goes where it would pop up: it never lives
+    ∷ (views (sheetWith (0 ∷ 640 ∷ []) ends) along (wheel 0x411f_c000) gives (0 ∷ 1 ∷ 0x01 ∷ []))
+    ∷ (views (sheetWith (0 ∷ 640 ∷ []) ends) along (wheel 0x4120_0000) gives (0 ∷ 1 ∷ 0x01 ∷ []))
+    ∷ (prints (sheetWith (0 ∷ 640 ∷ []) ends) gives text "marks 2\n0 -\n1 0 409600 4096 640\n")
+    -- part 5 is kept, of no marks too
+    ∷ (keeps (sheetWith (0 ∷ 0 ∷ []) ends) gives (1 ∷ 2 ∷ 3 ∷ 5 ∷ []))
+    ∷ (keeps (sheetWith [] []) gives (1 ∷ 2 ∷ 3 ∷ 5 ∷ []))
+    -- 21: a popup too few, one too many, 65,537; after 19, and before 8
+    ∷ (checks (sheetWith (65536 ∷ 0 ∷ []) ends) gives (0 ∷ []))
+    ∷ (checks (sheetWith (0 ∷ []) ends) gives (21 ∷ []))
+    ∷ (checks (sheetWith (0 ∷ 0 ∷ 0 ∷ []) ends) gives (21 ∷ []))
+    ∷ (checks (sheetWith (0 ∷ 65537 ∷ []) ends) gives (21 ∷ []))
+    ∷ (checks (join ((1 holds marks two) ∷ (4 holds (3 ∷ [])) ∷ (5 holds []) ∷ [])) gives (19 ∷ []))
+    ∷ (checks (join ((1 holds marks two) ∷ (2 holds leBytes 28 0) ∷ (5 holds []) ∷ [])) gives (21 ∷ []))
+    -- a mark that pops up behind the others: its k is named, and 0 on a sheet without part 5; 21 right after 6, and before 13
+    ∷ (adds (scheduled (sheetWith (0 ∷ 0 ∷ []) ends)) (mark (pos 200) (pos 0) 10 5) 641 1120 135 2 gives (0 ∷ 135 ∷ 0 ∷ 410881 ∷ 4096 ∷ []))
+    ∷ (adds (scheduled (sheetWith (0 ∷ 0 ∷ []) ends)) (mark (pos 200) (pos 0) 10 5) 65537 0 0 0 gives (21 ∷ 0 ∷ 0 ∷ 0 ∷ 0 ∷ []))
+    ∷ (adds (scheduled (sheet ends)) (mark (pos 200) (pos 0) 10 5) 1 0 0 0 gives (21 ∷ 0 ∷ 0 ∷ 0 ∷ 0 ∷ []))
+    ∷ (adds (scheduled (sheet ends)) (mark (pos 200) (pos 0) 10 5) 0 0 0 0 gives (13 ∷ 0 ∷ 0 ∷ 0 ∷ 0 ∷ []))
+    -- the first of three taken out: its popup goes, and the second's stays
+    ∷ (takesOut (scheduled (sheetWith (0 ∷ 640 ∷ 0 ∷ []) (take 3 p1))) 0 1088 104 1 gives (0 ∷ 104 ∷ 0 ∷ 409600 ∷ 4096 ∷ []))
     ∷ []
 
 -- No row is lost.
-pub table-length : length table ≡ 78
+pub table-length : length table ≡ 101
 unfolding table
 table-length = refl
 
 -- Every answer is the expected one.
 pub examples : map (λ (r : Row). answers (r .asked)) table ≡ map (λ (r : Row). r .expected) table
-unfolding table answers recordOf pairs sheet sheetIn marks oldSheet neverSheet ofBits
-    leAt leBytes less same later level kindGroup houseRadius oldRadius houseOf isKind isRadius usedRadius distance touchingOf touching rankRadius outranks rankKey
+unfolding table answers recordOf pairs sheet sheetIn popups sheetWith marks oldSheet neverSheet ofBits
+    leAt leBytes less same later level kindGroup houseRadius oldRadius houseOf isKind isRadius usedRadius distance touchingOf touching pairOf pairValue rankRadius outranks rankKey
     least put before pair next run process isNever valueAt records scheduleOf treeOf beats coordinate axisKey indexOf indexBytes sameBytes isIndex
     startAt split entries contentsOf chain join answer inTurn every question1 codesRight question3 contentsQuestions question4
     magnitude isMinus withSign areDigits isLast isPacked isPlace packedOf placeBits marksOfLog logOfMarks
     logSize recordQuestions logChecks logQuestions marksQuestions logToMarksJob marksToLogJob
-    Rows.rows filledRadius filled fillQuestions markQuestions part1Questions isSized isEdition question7 question19 namesRight recordRight isSchedule question8
+    Rows.rows filledRadius filled fillQuestions markQuestions part1Questions isSized isEdition isPopup isPopups question7 question19 question21 namesRight recordRight isSchedule question8
     question9 lastQuestions bodyQuestions checkQuestions check partsQuestions assembleQuestions stopScale wheelScale scaleOf livesAt gap distanceSquared diskReaches unit quarter productAt times turn applied turnedPlace reaches
-    shown mapByte mapPart mapBytes countShown question10 indexedQuestions Viewing.isEdge Viewing.question20 Viewing.question11 Viewing.viewQuestions outcome checkJob scheduled
-    added Rows.without takenOut addChecks takeOutChecks schedulingQuestions schedulingJob assembleJob fillJob shownIn viewJob digits line rootStep root nearestFrom nearest markLine markLines listing refusalLine printQuestions printed
+    poppedUp lives shown mapByte mapPart mapBytes countShown question10 indexedQuestions Viewing.isEdge Viewing.question20 Viewing.question11 Viewing.viewQuestions outcome checkJob scheduled
+    added Rows.without takenOut addedPopup takenOutPopup addChecks takeOutChecks schedulingQuestions schedulingJob assembleJob fillJob shownIn viewJob digits line rootStep root nearestFrom nearest markLine markLines listing refusalLine printQuestions printed
 examples = refl

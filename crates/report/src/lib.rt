@@ -123,6 +123,7 @@ pub fn print(input: &[u8], work: &mut [u8], schedule: &mut [u8], out: &mut [u8])
     let marks = contents::part(input, layout, 1);
     let n = marks.len() / MARK_SIZE;
     let edition = bodies::edition_of(contents::part(input, layout, 4));
-    scheduling::schedule(marks, edition, work, schedule, n);
+    let popups = contents::part(input, layout, 5);
+    scheduling::schedule(marks, edition, popups, work, schedule, n);
     put_listing(schedule, out, n)
 }

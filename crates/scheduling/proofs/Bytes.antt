@@ -11,18 +11,22 @@ use Rattle.lists.specs.StoreLaws.{kept-sets}
 use Rattle.numbers.specs.Little.{leAt, leBytes, Bytes}
 use Rattle.numbers.specs.Laws.{le-length, le-bound, read-back-sets, number-kept, write-then, write-joined}
 use Rattle.marks.specs.Marks.{markSize, yOffset, usedAt}
+use Rattle.marks.specs.Pairs.{popupAt}
 use Rattle.elimination.specs.declared.Record.{Record}
 use Rattle.elimination.specs.Records.{recordSize, numOffset, denOffset, recordAt, recordBytes}
 use Rattle.elimination.specs.Schedule.{record-length}
-use Rattle.searching.specs.Rows.{rowSize, rowXOffset, rowYOffset, rowRadiusOffset, rowRecordOffset}
+use Rattle.searching.specs.Rows.{rowSize, rowXOffset, rowYOffset, rowRadiusOffset, rowPopupOffset, rowRecordOffset}
 use Rattle.scheduling.specs.Filling.{rowBytes, RowAt}
 
-pub row-put : (s : List ℕ) (m : ℕ) (w : List ℕ) (at : ℕ) {t u v z : List ℕ}
+pub row-put : (s p : List ℕ) (m : ℕ) (w : List ℕ) (at : ℕ) {t u v y z : List ℕ}
     → t ≡ sets w at (leBytes 2 m) → u ≡ sets t (at + rowXOffset) (leBytes 2 (leAt 2 s (markSize * m)))
     → v ≡ sets u (at + rowYOffset) (leBytes 2 (leAt 2 s (markSize * m + yOffset)))
-    → z ≡ sets v (at + rowRadiusOffset) (leBytes 2 (usedAt s m)) → z ≡ sets w at (rowBytes s m)
-row-put s m w at {t} {u} a b c d =
-    write-joined 2 m w at _ refl a (write-joined 2 _ t (at + rowXOffset) _ (omega arith) b (write-joined 2 _ u (at + rowYOffset) _ (omega arith) c d))
+    → y ≡ sets v (at + rowRadiusOffset) (leBytes 2 (usedAt s m)) → z ≡ sets y (at + rowPopupOffset) (leBytes 3 (popupAt p m))
+    → z ≡ sets w at (rowBytes s p m)
+row-put s p m w at {t} {u} {v} a b c d e =
+    write-joined 2 m w at _ refl a
+    (write-joined 2 _ t (at + rowXOffset) _ (omega arith) b
+    (write-joined 2 _ u (at + rowYOffset) _ (omega arith) c (write-joined 2 _ v (at + rowRadiusOffset) _ (omega arith) d e)))
 
 read-first : (w v : ℕ) (s : List ℕ) (at : ℕ) (rest : List ℕ) → at + w ≤ length s → v < 2 ^ (8 * w)
     → leAt w (sets s at (leBytes w v ++ rest)) at ≡ v
@@ -50,9 +54,9 @@ record-back s at r room he hn hd =
           (λ t l. read-rest 8 (r .num) t second third _ 4 third (omega arith) (λ u m. read-back-sets 4 u third (r .den) (omega arith) hd)),
     )
 
-pub row-back : (s : List ℕ) (m : ℕ) (w : List ℕ) (at : ℕ) → Bytes s → at + rowRecordOffset ≤ length w → m < 65536 → usedAt s m < 65536
-    → RowAt s (sets w at (rowBytes s m)) at m
-row-back s m w at b room hm hr =
+pub row-back : (s p : List ℕ) (m : ℕ) (w : List ℕ) (at : ℕ) → Bytes s → at + rowRecordOffset ≤ length w → m < 65536 → usedAt s m < 65536
+    → popupAt p m < 16777216 → RowAt s p (sets w at (rowBytes s p m)) at m
+row-back s p m w at b room hm hr hp =
     let x : ℕ = leAt 2 s (markSize * m) in
     let y : ℕ = leAt 2 s (markSize * m + yOffset) in
     record {
@@ -64,13 +68,18 @@ row-back s m w at b room hm hr =
       radius-is = read-rest 2 m w at (at + rowXOffset) _ 2 (at + rowRadiusOffset) refl
           (λ t l. read-rest 2 x t (at + rowXOffset) (at + rowYOffset) _ 2 (at + rowRadiusOffset) (omega arith)
           (λ u k. read-rest 2 y u (at + rowYOffset) (at + rowRadiusOffset) _ 2 (at + rowRadiusOffset) (omega arith)
-          (λ v j. read-back-sets 2 v (at + rowRadiusOffset) (usedAt s m) (omega arith) hr)));
+          (λ v j. read-first 2 (usedAt s m) v (at + rowRadiusOffset) _ (omega arith) hr)));
+      popup-is = read-rest 2 m w at (at + rowXOffset) _ 3 (at + rowPopupOffset) refl
+          (λ t l. read-rest 2 x t (at + rowXOffset) (at + rowYOffset) _ 3 (at + rowPopupOffset) (omega arith)
+          (λ u k. read-rest 2 y u (at + rowYOffset) (at + rowRadiusOffset) _ 3 (at + rowPopupOffset) (omega arith)
+          (λ v j. read-rest 2 (usedAt s m) v (at + rowRadiusOffset) (at + rowPopupOffset) _ 3 (at + rowPopupOffset) (omega arith)
+          (λ z i. read-back-sets 3 z (at + rowPopupOffset) (popupAt p m) (omega arith) hp))));
     }
 
-pub row-length : (s : List ℕ) (m : ℕ) → length (rowBytes s m) ≡ 8
-row-length s m =
+pub row-length : (s p : List ℕ) (m : ℕ) → length (rowBytes s p m) ≡ rowRecordOffset
+row-length s p m =
     simp length-append
-    (omega (arith, le-length 2 m, le-length 2 (leAt 2 s (markSize * m)), le-length 2 (leAt 2 s (markSize * m + yOffset)), le-length 2 (usedAt s m)))
+    (omega (arith, le-length 2 m, le-length 2 (leAt 2 s (markSize * m)), le-length 2 (leAt 2 s (markSize * m + yOffset)), le-length 2 (usedAt s m), le-length 3 (popupAt p m)))
 
 -- ---- a row's record, and its fields
 
@@ -83,6 +92,9 @@ put-kept {u} {v} p r f =
 -- a field lies off every row's record
 pub off-field : (q p j : ℕ) → j ≤ rowRadiusOffset → Clear (rowSize * q + j) 2 (rowSize * p + rowRecordOffset) (rowSize * p + rowSize)
 off-field q p j h = elim (decLt p q) [ yes l ↦ omega arith | no l ↦ omega arith ]
+
+pub off-popup : (q p : ℕ) → Clear (rowSize * q + rowPopupOffset) 3 (rowSize * p + rowRecordOffset) (rowSize * p + rowSize)
+off-popup q p = elim (decLt p q) [ yes l ↦ omega arith | no l ↦ omega arith ]
 
 -- ---- parts
 

@@ -1,6 +1,7 @@
 -- The grid from row to row. Assumes nothing.
 use Prim.Native.Nat.{ℕ, _+_, _*_, _<_, _≤_}
 use mathlib.Core.Path.{_≡_, refl, _∙_, subst}
+use mathlib.Core.Bool.{Bool}
 use mathlib.Core.List.{List}
 use native.Mathlib.Omega.{arith}
 use borrow.Author.Count.{below-more}
@@ -27,7 +28,7 @@ gridded-none room k =
     }
 
 -- row p of n goes into cell c, and then its record is written
-module _ {w u v : List ℕ} {n p c : ℕ} {b : Label} (hp : p < n) (g : Gridded w (rowSize * n) p) (s : SearchFor w p b)
+module _ {popped : Bool} {w u v : List ℕ} {n p c : ℕ} {b : Label} (hp : p < n) (g : Gridded w (rowSize * n) p) (s : SearchFor popped w p b)
     (a : Added w u (rowSize * n) p c b) (k : Kept u v (rowSize * p + rowRecordOffset) (rowSize * p + rowSize)) where
   field-on : (q j : ℕ) → q < n → j ≤ rowRadiusOffset → leAt 2 v (rowSize * q + j) ≡ leAt 2 w (rowSize * q + j)
   field-on q j h l = number-kept k 2 (rowSize * q + j) (off-field q p j l) ∙ number-kept (a .kept) 2 (rowSize * q + j) (omega arith)

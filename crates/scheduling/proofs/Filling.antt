@@ -1,7 +1,8 @@
 -- Keys and rows, written one after the other, and that the rows of the sorted keys are the marks in the order of rank. Assumes nothing.
 use Prim.Native.Nat.{ℕ, _+_, _*_, _%_, _<_, _≤_}
 use mathlib.Core.Path.{_≡_, refl, sym, ap, ap₂, _∙_, subst}
-use mathlib.Core.List.{List}
+use mathlib.Core.Bool.{Bool, false}
+use mathlib.Core.List.{List, [], _∷_}
 use native.Mathlib.Omega.{arith}
 use borrow.Author.Count.{below-more}
 use lib.ListN.{length}
@@ -13,12 +14,14 @@ use Rattle.numbers.specs.Little.{Bytes}
 use Rattle.numbers.specs.Laws.{number-kept}
 use Rattle.sorting.specs.Laws.{sorted-ranks}
 use Rattle.marks.specs.Marks.{usedAt, touching, rankKey, touchingOf}
+use Rattle.marks.specs.Pairs.{popupAt, larger, pairOf, pairValue, GoodPopups}
+use Rattle.marks.specs.PairLaws.{popup-none}
 use Rattle.marks.specs.declared.Label.{Label}
 use Rattle.sorting.specs.Keys.{keyAt, KeyPut, KeysSorted}
 use Rattle.elimination.specs.Reel.{marksOf}
 use Rattle.elimination.specs.Sheet.{sheet-proper}
-use Rattle.searching.specs.Rows.{rowSize, rowXOffset, rowYOffset, rowRadiusOffset, rowRecordOffset, rowNumber, rowLabel}
-use Rattle.scheduling.specs.Settling.{Ordered}
+use Rattle.searching.specs.Rows.{rowSize, rowXOffset, rowYOffset, rowRadiusOffset, rowPopupOffset, rowRecordOffset, rowNumber}
+use Rattle.scheduling.specs.Settling.{RowsSmall, Ordered}
 use Rattle.scheduling.specs.Sending.{RowsNumbered}
 use Rattle.scheduling.specs.Filling.{workSize, keysFrom, rowBytes, Keyed, numberAt, RowAt, RowsPut, InRank}
 use Rattle.scheduling.proofs.Bytes.{row-length, row-back}
@@ -47,24 +50,25 @@ ranks edition s few keys w = sorted-ranks w (rankKey edition s) 4096 keys (λ m 
 
 -- ---- rows
 
-pub rows-none : (s : List ℕ) (n : ℕ) (w : List ℕ) → RowsPut s n 0 w w
-rows-none s n w = record { long = refl; keys = λ k l h. refl; rows = λ q h. absurd (omega arith) }
+pub rows-none : (s u : List ℕ) (n : ℕ) (w : List ℕ) → RowsPut s u n 0 w w
+rows-none s u n w = record { long = refl; keys = λ k l h. refl; rows = λ q h. absurd (omega arith) }
 
-row-kept : {s v w : List ℕ} {a b : ℕ} → Kept v w a b → (at m : ℕ) → at + rowRecordOffset ≤ a → RowAt s v at m → RowAt s w at m
+row-kept : {s u v w : List ℕ} {a b : ℕ} → Kept v w a b → (at m : ℕ) → at + rowRecordOffset ≤ a → RowAt s u v at m → RowAt s u w at m
 row-kept k at m h r =
     record {
       number = number-kept k 2 at (omega arith) ∙ r .number;
       x-is = number-kept k 2 (at + rowXOffset) (omega arith) ∙ r .x-is;
       y-is = number-kept k 2 (at + rowYOffset) (omega arith) ∙ r .y-is;
       radius-is = number-kept k 2 (at + rowRadiusOffset) (omega arith) ∙ r .radius-is;
+      popup-is = number-kept k 3 (at + rowPopupOffset) (omega arith) ∙ r .popup-is;
     }
 
-pub rows-more : {s : List ℕ} {n p : ℕ} {w₀ w w′ : List ℕ} {m : ℕ} → Bytes s → p < n → workSize n ≤ length w₀ → m < 65536 → usedAt s m < 65536
-    → m ≡ numberAt n w p → RowsPut s n p w₀ w → w′ ≡ sets w (rowSize * p) (rowBytes s m) → RowsPut s n (p + 1) w₀ w′
-rows-more {s} {n} {p} {w₀} {w} {w′} {m} b h room hm hr e g f =
+pub rows-more : {s u : List ℕ} {n p : ℕ} {w₀ w w′ : List ℕ} {m : ℕ} → Bytes s → p < n → workSize n ≤ length w₀ → m < 65536 → usedAt s m < 65536
+    → popupAt u m ≤ 65536 → m ≡ numberAt n w p → RowsPut s u n p w₀ w → w′ ≡ sets w (rowSize * p) (rowBytes s u m) → RowsPut s u n (p + 1) w₀ w′
+rows-more {s} {u} {n} {p} {w₀} {w} {w′} {m} b h room hm hr hp e g f =
     let at : ℕ = rowSize * p in
-    let k : Kept w w′ at (at + 8) = rw (row-length s m, ← f) at (kept-sets (rowBytes s m) w at) in
-    let here : RowAt s w′ at m = rw f (row-back s m w at b (omega (arith, g .long)) hm hr) in
+    let k : Kept w w′ at (at + rowRecordOffset) = rw (row-length s u m, ← f) at (kept-sets (rowBytes s u m) w at) in
+    let here : RowAt s u w′ at m = rw f (row-back s u m w at b (omega (arith, g .long)) hm hr (omega arith)) in
     record {
       long = k .long ∙ g .long;
       keys = λ i l b. number-kept k 8 (keysFrom n + 8 * i) (omega arith) ∙ g .keys i (omega arith) b;
@@ -75,8 +79,8 @@ rows-more {s} {n} {p} {w₀} {w} {w′} {m} b h room hm hr e g f =
 
 -- ---- the rows of the sorted keys are the marks in the order of rank
 
-pub in-rank : {edition : ℕ} {s w v : List ℕ} {n : ℕ} → Ranks n (rankKey edition s) (numberAt n v) → RowsPut s n n v w → InRank edition s w n
-in-rank {edition} {s} {w} {v} {n} rs f =
+pub in-rank : {edition : ℕ} {s u w v : List ℕ} {n : ℕ} → Ranks n (rankKey edition s) (numberAt n v) → RowsPut s u n n v w → InRank edition s u w n
+in-rank {edition} {s} {u} {w} {v} {n} rs f =
     let number-is : (q : ℕ) → q < n → rowNumber w q ≡ numberAt n v q = λ q h. f .rows q h .number in
     record {
       ranking = record {
@@ -85,11 +89,17 @@ in-rank {edition} {s} {w} {v} {n} rs f =
         onto = λ m h. let (q, b, e) = rs .onto m h in (q, b, number-is q b ∙ e);
       };
       label-is = λ q h. let r = f .rows q h in rw (number-is q h, r .x-is, r .y-is, r .radius-is);
+      popup-is = λ q h. let r = f .rows q h in rw (number-is q h) (r .popup-is);
     }
 
-module _ {edition : ℕ} {s w : List ℕ} {n : ℕ} (o : InRank edition s w n) where
-  pub ordered : n ≤ 4096 → Ordered (marksOf (record { marks = s; count = n; edition = edition })) (rowNumber w) w n
-  unfolding touching
+-- where there are no bytes each popup is 0
+unpopped : (u : List ℕ) (m : ℕ) → length u ≡ 0 → popupAt u m ≡ 0
+unpopped [] m e = popup-none m
+unpopped (x ∷ u) m e = absurd (omega arith)
+
+module _ {edition : ℕ} {s u w : List ℕ} {n : ℕ} (o : InRank edition s u w n) where
+  pub ordered : n ≤ 4096 → Ordered (marksOf (record { marks = s; count = n; edition = edition; popups = u })) (rowNumber w) w n
+  unfolding touching pairValue
   ordered few =
       record {
         proper = sheet-proper _ few;
@@ -97,7 +107,7 @@ module _ {edition : ℕ} {s w : List ℕ} {n : ℕ} (o : InRank edition s w n) w
         ranking = o .ranking;
         number = λ q h. refl;
         value = λ q p h k.
-            ap₂ touchingOf (o .label-is q (omega arith)) (o .label-is p k);
+            ap₂ pairOf (ap₂ touchingOf (o .label-is q (omega arith)) (o .label-is p k)) (ap₂ larger (o .popup-is q (omega arith)) (o .popup-is p k));
       }
 
   pub numbered : RowsNumbered w n
@@ -107,6 +117,10 @@ module _ {edition : ℕ} {s w : List ℕ} {n : ℕ} (o : InRank edition s w n) w
         distinct = λ q p h k e. let z = ap (rankKey edition s) e in omega (arith, o .ranking .rising q p h k);
       }
 
-  pub radii-rows : ((i : ℕ) → i < n → usedAt s i ≤ 16383) → (q : ℕ) → q < n → rowLabel w q .radius ≤ 16383
-  radii-rows radii q h =
-      subst (λ (a : Label). a .radius ≤ 16383) (sym (o .label-is q h)) (radii (rowNumber w q) (o .ranking .inside q h))
+  pub rows-small : (popped : Bool) → ((i : ℕ) → i < n → usedAt s i ≤ 16383) → GoodPopups u n → (popped ≡ false → length u ≡ 0) → RowsSmall popped w n
+  rows-small popped radii popups none =
+      record {
+        radius = λ q h. subst (λ (a : Label). a .radius ≤ 16383) (sym (o .label-is q h)) (radii (rowNumber w q) (o .ranking .inside q h));
+        popup = λ q h. rw (o .popup-is q h) (popups .each (rowNumber w q) (o .ranking .inside q h));
+        plain = λ e q h. o .popup-is q h ∙ unpopped u (rowNumber w q) (none e);
+      }

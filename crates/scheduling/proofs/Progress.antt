@@ -1,6 +1,7 @@
 -- The outer loop: what holds once the rows before p have what was found for them. Assumes nothing.
 use Prim.Native.Nat.{ℕ, _+_, _*_, _^_, _<_, _≤_}
 use mathlib.Core.Path.{_≡_, refl, sym, ap, ap₂, _∙_, subst}
+use mathlib.Core.Bool.{Bool}
 use mathlib.Core.List.{List}
 use mathlib.Core.Logic.{_≢_}
 use native.Mathlib.Omega.{arith}
@@ -16,6 +17,7 @@ use Rattle.numbers.specs.Laws.{number-kept}
 use Rattle.fractions.specs.Order.{Small}
 use Rattle.marks.specs.declared.Label.{Label}
 use Rattle.marks.specs.Marks.{touchingOf}
+use Rattle.marks.specs.Pairs.{larger, pairOf}
 use Rattle.elimination.specs.declared.Record.{Record}
 use Rattle.elimination.specs.Marks.{Marks}
 use Rattle.elimination.specs.Process.{Removal, stays, put}
@@ -23,11 +25,11 @@ use Rattle.elimination.specs.Records.{recordSize, numOffset, denOffset, recordB
 use Rattle.elimination.specs.Settled.{SettledAt}
 use Rattle.elimination.specs.Laws.{visited, all-settled}
 use Rattle.elimination.specs.Theorems.{settled-process}
-use Rattle.searching.specs.Rows.{rowSize, rowXOffset, rowYOffset, rowRadiusOffset, rowRecordOffset, rowNumber, rowLabel, rowValue, rowsTouch, rowRecord, Stored, StoredAt}
+use Rattle.searching.specs.Rows.{rowSize, rowXOffset, rowYOffset, rowRadiusOffset, rowPopupOffset, rowRecordOffset, rowNumber, rowLabel, rowValue, rowsPair, rowRecord, Stored, StoredAt}
 use Rattle.searching.specs.Scan.{Above, Scanned}
 use Rattle.searching.specs.Search.{SearchFor}
-use Rattle.scheduling.specs.Settling.{SameFields, Scannable, Settles, Ordered, Processed}
-use Rattle.scheduling.proofs.Bytes.{record-back, put-kept, off-field}
+use Rattle.scheduling.specs.Settling.{RowsSmall, SameFields, Scannable, Settles, Ordered, Processed}
+use Rattle.scheduling.proofs.Bytes.{record-back, put-kept, off-field, off-popup}
 
 -- ---- one row
 
@@ -47,13 +49,19 @@ settles {w} {u} {v} {n} {p} {b} {t} hp room hn hd ku e sc =
 
 -- where only bytes behind the rows change
 pub same-kept : {n b : ℕ} {w v : List ℕ} → Kept w v (rowSize * n) b → SameFields n w v
-same-kept k = record { long = k .long; field = λ q j h l. number-kept k 2 (rowSize * q + j) (omega arith) }
+same-kept k =
+    record {
+      long = k .long;
+      field = λ q j h l. number-kept k 2 (rowSize * q + j) (omega arith);
+      popup = λ q h. number-kept k 3 (rowSize * q + rowPopupOffset) (omega arith);
+    }
 
 same-more : {n p : ℕ} {w v u : List ℕ} → SameFields n w v → Settles n v u p → SameFields n w u
 same-more {n} {p} s k =
     record {
       long = k .long ∙ s .long;
       field = λ q j h l. k .kept 2 (rowSize * q + j) (omega arith) (off-field q p j l) ∙ s .field q j h l;
+      popup = λ q h. k .kept 3 (rowSize * q + rowPopupOffset) (omega arith) (off-popup q p) ∙ s .popup q h;
     }
 
 module _ {n : ℕ} {w v : List ℕ} (s : SameFields n w v) where
@@ -67,8 +75,16 @@ module _ {n : ℕ} {w v : List ℕ} (s : SameFields n w v) where
   pub radius-same : (q : ℕ) → q < n → rowLabel v q .radius ≡ rowLabel w q .radius
   radius-same q h = s .field q rowRadiusOffset h (omega arith)
 
-  touch-same : (q p : ℕ) → q < n → p < n → rowsTouch v q p ≡ rowsTouch w q p
-  touch-same q p hq hp = ap₂ touchingOf (label-same q hq) (label-same p hp)
+  touch-same : (q p : ℕ) → q < n → p < n → rowsPair v q p ≡ rowsPair w q p
+  touch-same q p hq hp = ap₂ pairOf (ap₂ touchingOf (label-same q hq) (label-same p hp)) (ap₂ larger (s .popup q hq) (s .popup p hp))
+
+  pub small-same : {popped : Bool} → RowsSmall popped w n → RowsSmall popped v n
+  small-same g =
+      record {
+        radius = λ q h. rw (radius-same q h) (g .radius q h);
+        popup = λ q h. rw (s .popup q h) (g .popup q h);
+        plain = λ e q h. rw (s .popup q h) (g .plain e q h);
+      }
 
 -- ---- the loop
 
@@ -87,26 +103,29 @@ start n w =
       settled = λ M order o. ((λ _. stays), (λ q h. absurd (omega arith)), (λ q h. absurd (omega arith)));
     }
 
-pub ready : {n p : ℕ} {w v : List ℕ} → n ≤ 4096 → rowSize * n ≤ length w → ((q : ℕ) → q < n → rowLabel w q .radius ≤ 16383) → p < n → Progress n p w v
-    → Scannable v n p
-ready {n} {p} {w} {v} few room radii hp g =
-    let radius : (q : ℕ) → q < n → rowLabel v q .radius ≤ 16383 = λ q h. rw (radius-same (g .fields) q h) (radii q h) in
+pub ready : {popped : Bool} {n p : ℕ} {w v : List ℕ} → n ≤ 4096 → rowSize * n ≤ length w → RowsSmall popped w n → p < n → Progress n p w v → Scannable popped v n p
+ready {popped} {n} {p} {w} {v} few room small hp g =
+    let here = small-same (g .fields) small in
     record {
       few = few;
       below = hp;
       room = omega (arith, g .fields .long);
-      radius = radius p hp;
-      above = λ q h. record { radius = radius q (omega arith); value = g .small q h };
+      radius = here .radius p hp;
+      popup = here .popup p hp;
+      above = λ q h. record { radius = here .radius q (omega arith); popup = here .popup q (omega arith); value = g .small q h };
+      plain = λ e q h. here .plain e q (omega arith);
     }
 
-pub search-for : {w : List ℕ} {n p : ℕ} {a : Label} → Scannable w n p → a ≡ rowLabel w p → SearchFor w p a
+pub search-for : {popped : Bool} {w : List ℕ} {n p : ℕ} {a : Label} → Scannable popped w n p → a ≡ rowLabel w p → SearchFor popped w p a
 search-for s e =
     record {
       few = omega (arith, s .below, s .few);
       room = omega (arith, s .below, s .room);
       label-is = e;
       radius-small = rw e (s .radius);
+      popup-small = s .popup;
       above = s .above;
+      plain = s .plain;
     }
 
 put-here : (s : ℕ → Removal) (h : ℕ) (r : Removal) → put s h r h ≡ r
@@ -182,7 +201,12 @@ finish {n} {p} {w} {v} e g =
 pub processed-like : {n : ℕ} {w v u : List ℕ} → SameFields n w v → Processed n v u → Processed n w u
 processed-like s x =
     record {
-      fields = record { long = x .fields .long ∙ s .long; field = λ q j h l. x .fields .field q j h l ∙ s .field q j h l };
+      fields =
+          record {
+            long = x .fields .long ∙ s .long;
+            field = λ q j h l. x .fields .field q j h l ∙ s .field q j h l;
+            popup = λ q h. x .fields .popup q h ∙ s .popup q h;
+          };
       removals = λ M order o.
           x .removals M order
           (record {

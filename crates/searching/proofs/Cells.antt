@@ -1,33 +1,27 @@
 -- The search of cells: a chain from its last row down, cells that are too far, and the cells in turn. Assumes nothing.
-use Prim.Native.Nat.{ℕ, suc, _-_, _<_, _≤_}
+use Prim.Native.Nat.{ℕ, _+_, _-_, _<_, _≤_}
 use mathlib.Core.Path.{_≡_, sym, _∙_, subst}
+use mathlib.Core.Bool.{Bool}
 use mathlib.Core.List.{List}
-use mathlib.Core.Logic.{inl, inr}
+use mathlib.Core.Logic.{_⊎_, inl, inr}
 use native.Mathlib.Omega.{arith}
 use native.Mathlib.Decide.{decLt, ℕ-discrete}
 use Rattle.fractions.specs.declared.Fraction.{Fraction}
 use Rattle.fractions.specs.Order.{Less, AtMost}
-use Rattle.fractions.specs.Laws.{less-atMost}
+use Rattle.fractions.specs.Laws.{atMost-trans, less-atMost}
 use Rattle.marks.specs.declared.Label.{Label}
 use Rattle.marks.specs.Marks.{touchingOf}
+use Rattle.marks.specs.Pairs.{larger}
+use Rattle.marks.specs.PairLaws.{positive-pair, pair-least}
 use Rattle.grid.specs.Table.{cellCount, headAt, linkAt, Inside}
 use Rattle.grid.specs.Steps.{Bound}
 use Rattle.searching.specs.declared.Leader.{Leader}
-use Rattle.searching.specs.Rows.{rowLabel, rowsTouch}
+use Rattle.searching.specs.Rows.{rowLabel, rowPopup, rowsTouch, rowsPair}
 use Rattle.searching.specs.Search.{leaderValue, Before, SearchFor, Adds, Only, Higher}
-use Rattle.searching.specs.Cells.{InGrid, Gridded, CellAdded, Own, Other, OthersFrom}
+use Rattle.searching.specs.Cells.{InGrid, Gridded, Tail, Walked, CellAdded, Own, Other, Range, Passed, Passing}
 use Rattle.searching.proofs.Steps.{adds-before, adds-like, adds-then}
 
 -- ---- a chain, from row h - 1 down
-
--- the rows of cell c from h on
-abbrev Tail : (ℕ → ℕ) → ℕ → ℕ → ℕ → Type 0
-Tail cell c h q = (cell q ≡ c) × (h ≤ q)
-
--- `best` goes before the rows of cell c from h on, and row h - 1 is the next one
-pub record Walked (w : List ℕ) (at p c h : ℕ) (from best : Leader) : Type 0 where
-  pub next : (cell : ℕ → ℕ) → InGrid w at p cell → (i : ℕ) → h ≡ suc i → cell i ≡ c
-  pub adds : (cell : ℕ → ℕ) → InGrid w at p cell → Adds w p (Tail cell c h) from best
 
 pub walk-start : {w : List ℕ} {at p c : ℕ} (from : Leader) → c < cellCount → Walked w at p c (headAt w at c) from from
 walk-start {w} {at} {p} {c} from hc =
@@ -69,52 +63,86 @@ walk-end {c = c} {h = h} z x =
 
 -- ---- cells that are left out
 
-module _ {w : List ℕ} {at p own c : ℕ} {best : Leader} where
-  pub skip-own : c ≡ own → CellAdded w at p (Other own c) best best
-  skip-own e =
-      record { adds = λ cell g. adds-before (λ q. Other own c (cell q)) best (λ pos q h x. absurd (x .1 (x .0 ∙ e))) }
+module _ {w : List ℕ} {at p skip c : ℕ} {best : Leader} where
+  pub skip-one : c ≡ skip → CellAdded w at p (Other skip c) best best
+  skip-one e =
+      record { adds = λ cell g. adds-before (λ q. Other skip c (cell q)) best (λ pos q h x. absurd (x .1 (x .0 ∙ e))) }
 
-  pub as-other : {d : Leader} → CellAdded w at p (Own c) best d → CellAdded w at p (Other own c) best d
-  as-other x = record { adds = λ cell g. adds-like (λ q. Own c (cell q)) (λ q. Other own c (cell q)) (λ q b y. y .0) (x .adds cell g) }
+  pub as-other : {d : Leader} → CellAdded w at p (Own c) best d → CellAdded w at p (Other skip c) best d
+  as-other x = record { adds = λ cell g. adds-like (λ q. Own c (cell q)) (λ q. Other skip c (cell q)) (λ q b y. y .0) (x .adds cell g) }
 
-  -- the bound of a cell is at most the touching value of each row in it, and that is at most the pair value
-  pub skip-far : {a : Label} {f : Fraction} → SearchFor w p a → Bound w at c a f → Less (leaderValue best) f
-      → CellAdded w at p (Other own c) best best
-  skip-far {a} {f} s b l =
-      record { adds = λ cell g. adds-before (λ q. Other own c (cell q)) best (λ pos q h o. before cell g q h (o .0) (pos q h)) }
-    where
-      near : (cell : ℕ → ℕ) → InGrid w at p cell → (q : ℕ) → q < p → cell q ≡ c → AtMost f (rowsTouch w q p)
-      near cell g q h e =
-          let i : Inside w at c (rowLabel w q) = rw e at (g .inside q h) in
-          subst (λ d. AtMost f (touchingOf (rowLabel w q) d)) (s .label-is) (b .least (rowLabel w q) i)
+-- the bound of a cell is at most the touching value of each row in it, and that is at most the pair value
+pub skip-far : {popped : Bool} {w : List ℕ} {at p c : ℕ} {best : Leader} {a : Label} {f : Fraction} → SearchFor popped w p a → Bound w at c a f → Less (leaderValue best) f
+    → CellAdded w at p (Own c) best best
+skip-far {popped} {w} {at} {p} {c} {best} {a} {f} s b l =
+    record { adds = λ cell g. adds-before (λ q. Own c (cell q)) best (λ pos q h o. before cell g q h o (pos q h)) }
+  where
+    near : (cell : ℕ → ℕ) → InGrid w at p cell → (q : ℕ) → q < p → cell q ≡ c → 0 < rowsPair w q p .den → AtMost f (rowsPair w q p)
+    near cell g q h e z =
+        let i : Inside w at c (rowLabel w q) = rw e at (g .inside q h) in
+        let k = larger (rowPopup w q) (rowPopup w p) in
+        atMost-trans (positive-pair (rowsTouch w q p) k z)
+        (subst (λ d. AtMost f (touchingOf (rowLabel w q) d)) (s .label-is) (b .least (rowLabel w q) i))
+        (pair-least (rowsTouch w q p) k)
 
-      before : (cell : ℕ → ℕ) → InGrid w at p cell → (q : ℕ) → q < p → cell q ≡ c → 0 < rowsTouch w q p .den → Before w p best q
-      before cell g q h e z =
-          let u = less-atMost z l (near cell g q h e) in
-          record { atMost = λ t. record { cross = omega arith }; less = λ t k. u }
+    before : (cell : ℕ → ℕ) → InGrid w at p cell → (q : ℕ) → q < p → cell q ≡ c → 0 < rowsPair w q p .den → Before w p best q
+    before cell g q h e z =
+        let u = less-atMost z l (near cell g q h e z) in
+        record { atMost = λ t. record { cross = omega arith }; less = λ t k. u }
 
 -- ---- the cells in turn
 
-pub others-none : {w : List ℕ} {at p own : ℕ} (from : Leader) → CellAdded w at p (OthersFrom own cellCount) from from
-others-none {own = own} from =
-    record {
-      adds = λ cell g. adds-before (λ q. OthersFrom own cellCount (cell q)) from (λ pos q h x. absurd (omega (arith, x .0, g .chained .cell-low q h)));
-    }
+module _ {w : List ℕ} {at p skip : ℕ} where
+  pub range-none : (hi : ℕ) (from : Leader) → CellAdded w at p (Range hi hi skip) from from
+  range-none hi from =
+      record { adds = λ cell g. adds-before (λ q. Range hi hi skip (cell q)) from (λ pos q h x. absurd (omega (arith, x .0, x .1))) }
 
-pub others-more : {w : List ℕ} {at p own c : ℕ} {from best better : Leader} → 0 < c → CellAdded w at p (OthersFrom own c) from best
-    → CellAdded w at p (Other own (c - 1)) best better → CellAdded w at p (OthersFrom own (c - 1)) from better
-others-more {own = own} {c = c} z x y =
-    record {
-      adds = λ cell g.
-          adds-then (λ q. OthersFrom own c (cell q)) (λ q. Other own (c - 1) (cell q)) (λ q. OthersFrom own (c - 1) (cell q))
-          (λ q b u. elim (ℕ-discrete (cell q) (c - 1)) [ yes e ↦ inr (e, u .1) | no e ↦ inl (omega (arith, u .0), u .1) ])
-          (x .adds cell g) (y .adds cell g);
-    }
+  pub range-more : {c hi : ℕ} {from best better : Leader} → 0 < c → CellAdded w at p (Range c hi skip) from best
+      → CellAdded w at p (Other skip (c - 1)) best better → CellAdded w at p (Range (c - 1) hi skip) from better
+  range-more {c} {hi} z x y =
+      record {
+        adds = λ cell g.
+            adds-then (λ q. Range c hi skip (cell q)) (λ q. Other skip (c - 1) (cell q)) (λ q. Range (c - 1) hi skip (cell q))
+            (λ q b u. elim (ℕ-discrete (cell q) (c - 1)) [ yes e ↦ inr (e, u .2) | no e ↦ inl (omega (arith, u .0), u .1, u .2) ])
+            (x .adds cell g) (y .adds cell g);
+      }
 
-pub all-cells : {w : List ℕ} {at p own : ℕ} {from near best : Leader} → Gridded w at p → CellAdded w at p (Own own) from near
-    → CellAdded w at p (OthersFrom own 0) near best → Adds w p (Higher p) from best
-all-cells {own = own} g x y =
-    let cell : ℕ → ℕ = g .cell in
-    adds-then (λ q. Own own (cell q)) (λ q. OthersFrom own 0 (cell q)) (Higher _)
-    (λ q h l. elim (ℕ-discrete (cell q) own) [ yes e ↦ inl e | no e ↦ inr (omega arith, e) ])
-    (x .adds cell (g .in-grid)) (y .adds cell (g .in-grid))
+  pub range-whole : {lo c hi : ℕ} {from best : Leader} → c ≤ lo → CellAdded w at p (Range c hi skip) from best
+      → CellAdded w at p (Range lo hi skip) from best
+  range-whole {lo} {c} {hi} l x =
+      record {
+        adds = λ cell g.
+            adds-like (λ q. Range c hi skip (cell q)) (λ q. Range lo hi skip (cell q)) (λ q b u. (omega (arith, u .0), u .1, u .2)) (x .adds cell g);
+      }
+
+-- ---- the cell `own`, and then all others
+
+module _ {w : List ℕ} {at p own : ℕ} where
+  pub pass-none : (from : Leader) → CellAdded w at p (Passed own 0) from from
+  pass-none from =
+      record {
+        adds = λ cell g.
+            adds-before (λ q. Passed own 0 (cell q)) from
+            (λ pos q h x. elim x [ inl y ↦ absurd (omega (arith, y .0)) | inr y ↦ absurd (omega (arith, y .0)) ]);
+      }
+
+  pub pass-more : {pass lo hi skip : ℕ} {from best better : Leader} → Passing own pass lo hi skip → CellAdded w at p (Passed own pass) from best
+      → CellAdded w at p (Range lo hi skip) best better → CellAdded w at p (Passed own (pass + 1)) from better
+  pass-more {pass} {lo} {hi} {skip} now x y =
+      record {
+        adds = λ cell g.
+            adds-then (λ q. Passed own pass (cell q)) (λ q. Range lo hi skip (cell q)) (λ q. Passed own (pass + 1) (cell q))
+            (λ q b u. split now (cell q) (g .chained .cell-low q b) u) (x .adds cell g) (y .adds cell g);
+      }
+    where
+      split : Passing own pass lo hi skip → (d : ℕ) → d < cellCount → Passed own (pass + 1) d → Passed own pass d ⊎ Range lo hi skip d
+      split (inl (z, a, b, c)) d l (inl (k, e)) = inr (omega (arith, a, e), omega (arith, b, e), λ o. omega (arith, o, c, l))
+      split (inl (z, a, b, c)) d l (inr (k, e)) = absurd (omega (arith, z, k))
+      split (inr (z, a, b, c)) d l (inl (k, e)) = inl (inl (z, e))
+      split (inr (z, a, b, c)) d l (inr (k, e)) =
+          elim (ℕ-discrete d own) [ yes o ↦ inl (inl (z, o)) | no o ↦ inr (omega (arith, a), omega (arith, b, l), λ s. o (s ∙ c)) ]
+
+  pub all-cells : {pass : ℕ} {from best : Leader} → 1 < pass → Gridded w at p → CellAdded w at p (Passed own pass) from best → Adds w p (Higher p) from best
+  all-cells {pass} two g x =
+      let cell : ℕ → ℕ = g .cell in
+      adds-like (λ q. Passed own pass (cell q)) (Higher _) (λ q h l. inr (two, g .in-grid .chained .cell-low q h)) (x .adds cell (g .in-grid))

@@ -17,7 +17,7 @@ use Rattle.elimination.specs.Process.{Removal, stays, gone, when}
 use Rattle.elimination.specs.RankOrder.{Stands, Found}
 use Rattle.elimination.specs.Records.{fractionOf}
 use Rattle.searching.specs.declared.Leader.{Leader}
-use Rattle.searching.specs.Rows.{rowNumber, rowRecord, rowValue, rowsTouch, never, Stored}
+use Rattle.searching.specs.Rows.{rowNumber, rowRecord, rowValue, rowsPair, never, Stored}
 use Rattle.searching.specs.Scan.{Above, Scanned}
 use Rattle.searching.specs.Search.{leaderValue, none, Admitted, precedes, StandsAt, Positive, Before, Real, Adds, Only, Higher}
 
@@ -92,7 +92,7 @@ module _ {w : List ℕ} {p : ℕ} where
 abbrev pub row-of : ℕ → Fraction → Leader
 row-of q v = record { num = v .num; den = v .den; row = q }
 
-module _ {w : List ℕ} {p q : ℕ} {c : Leader} {v : Fraction} (b : q < p) (v-is : v ≡ rowsTouch w q p) where
+module _ {w : List ℕ} {p q : ℕ} {c : Leader} {v : Fraction} (b : q < p) (v-is : v ≡ rowsPair w q p) where
   cover : Before w p c q → Adds w p (Only q) c c
   cover x = adds-before (Only q) c (λ pos k h i. rw i x)
 
@@ -100,7 +100,7 @@ module _ {w : List ℕ} {p q : ℕ} {c : Leader} {v : Fraction} (b : q < p) (v-i
   keep-behind t =
       cover
       (elim (precedes-no v q (leaderValue c) (c .row) t) [
-        | inl h ↦ (let l : Less (leaderValue c) (rowsTouch w q p) = rw v-is at h in record { atMost = λ s. record { cross = omega arith }; less = λ s k. l })
+        | inl h ↦ (let l : Less (leaderValue c) (rowsPair w q p) = rw v-is at h in record { atMost = λ s. record { cross = omega arith }; less = λ s k. l })
         | inr h ↦ record { atMost = λ s. rw v-is at (h .0); less = λ s k. absurd (omega (arith, h .1)) }
       ])
 
@@ -120,7 +120,7 @@ module _ {w : List ℕ} {p q : ℕ} {c : Leader} {v : Fraction} (b : q < p) (v-i
         );
       }
     where
-      won : (k : ℕ) → 0 < rowsTouch w k p .den → Before w p c k → Less v (leaderValue c) → Before w p (row-of q v) k
+      won : (k : ℕ) → 0 < rowsPair w k p .den → Before w p c k → Less v (leaderValue c) → Before w p (row-of q v) k
       won k z x y =
           record {
             atMost = λ s. let u = less-atMost z y (x .atMost s) in record { cross = omega arith };
@@ -132,9 +132,9 @@ module _ {w : List ℕ} {p q : ℕ} {c : Leader} {v : Fraction} (b : q < p) (v-i
       known pos (inl e) a =
           absurd (let z : 0 < v .den = rw v-is (pos q b) in let u : AtMost never v = rw e at a in omega arith)
       known pos (inr x) a =
-          let g : c .den ≡ rowsTouch w (c .row) p .den = ap (λ (f : Fraction). f .den) (x .exact) in rw g (pos (c .row) (x .below))
+          let g : c .den ≡ rowsPair w (c .row) p .den = ap (λ (f : Fraction). f .den) (x .exact) in rw g (pos (c .row) (x .below))
 
-      drawn : (k : ℕ) → 0 < rowsTouch w q p .den → 0 < c .den → Before w p c k → AtMost v (leaderValue c) → q < c .row → Before w p (row-of q v) k
+      drawn : (k : ℕ) → 0 < rowsPair w q p .den → 0 < c .den → Before w p c k → AtMost v (leaderValue c) → q < c .row → Before w p (row-of q v) k
       drawn k zq zd x y i =
           record {
             atMost = λ s. atMost-trans {g = leaderValue c} zd y (x .atMost s);
@@ -153,8 +153,8 @@ module _ {w : List ℕ} {p : ℕ} (c : Leader) (t : Record) (t-is : fractionOf t
     stays,
     t-is ∙ e,
     λ q h y.
-        let z : 0 < rowsTouch w q p .den = rw (rows .value q h) (ok .positive _ _) in
-        let u : AtMost never (rowsTouch w q p) = rw e at (bef q h .atMost (stood q h y)) in
+        let z : 0 < rowsPair w q p .den = rw (rows .value q h) (ok .positive _ _) in
+        let u : AtMost never (rowsPair w q p) = rw e at (bef q h .atMost (stood q h y)) in
         omega arith,
   )
   done (inr x) =

@@ -1,5 +1,5 @@
--- The rows that scheduling works on, one a mark, in the order of rank: number (2), x (2), y (2), used radius (2), room for a popup (3), and
--- what was found for the mark, as its record in part 2 (14). `w` begins with the rows and `q` is a row.
+-- The rows that scheduling works on, one a mark, in the order of rank: number (2), x (2), y (2), used radius (2), popup (3), and what was
+-- found for the mark, as its record in part 2 (14). `w` begins with the rows and `q` is a row.
 use Prim.Native.Nat.{ℕ, _+_, _*_, _<_, _≤_}
 use mathlib.Core.Path.{_≡_}
 use mathlib.Core.List.{List}
@@ -8,6 +8,7 @@ use Rattle.fractions.specs.declared.Fraction.{Fraction}
 use Rattle.fractions.specs.Order.{Small}
 use Rattle.marks.specs.declared.Label.{Label}
 use Rattle.marks.specs.Marks.{touchingOf}
+use Rattle.marks.specs.Pairs.{larger, pairOf}
 use Rattle.elimination.specs.declared.Record.{Record}
 use Rattle.elimination.specs.Process.{Removal, stays, gone}
 use Rattle.elimination.specs.Records.{recordAt, fractionOf}
@@ -27,6 +28,9 @@ rowYOffset = 4
 abbrev pub rowRadiusOffset : ℕ
 rowRadiusOffset = 6
 
+abbrev pub rowPopupOffset : ℕ
+rowPopupOffset = 8
+
 abbrev pub rowRecordOffset : ℕ
 rowRecordOffset = 11
 
@@ -41,15 +45,21 @@ rowLabel w q =
       radius = leAt 2 w (rowSize * q + rowRadiusOffset);
     }
 
+abbrev pub rowPopup : List ℕ → ℕ → ℕ
+rowPopup w q = leAt 3 w (rowSize * q + rowPopupOffset)
+
 abbrev pub rowRecord : List ℕ → ℕ → Record
 rowRecord w q = recordAt w (rowSize * q + rowRecordOffset)
 
 abbrev pub rowValue : List ℕ → ℕ → Fraction
 rowValue w q = fractionOf (rowRecord w q)
 
--- the pair value of two rows
+-- the touching value of two rows, and their pair value
 abbrev pub rowsTouch : List ℕ → ℕ → ℕ → Fraction
 rowsTouch w q p = touchingOf (rowLabel w q) (rowLabel w p)
+
+abbrev pub rowsPair : List ℕ → ℕ → ℕ → Fraction
+rowsPair w q p = pairOf (rowsTouch w q p) (larger (rowPopup w q) (rowPopup w p))
 
 -- ---- what was found
 
@@ -68,4 +78,5 @@ StoredAt w q r = Stored r (rowRecord w q)
 -- row q is complete, and no product of a comparison with it is too large
 pub record Complete (w : List ℕ) (q : ℕ) : Type 0 where
   pub radius : rowLabel w q .radius ≤ 16383
+  pub popup : rowPopup w q ≤ 65536
   pub value : Small (rowValue w q)

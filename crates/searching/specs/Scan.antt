@@ -8,12 +8,12 @@ use Rattle.elimination.specs.Marks.{Marks, Proper}
 use Rattle.elimination.specs.Process.{Removal}
 use Rattle.elimination.specs.RankOrder.{Found}
 use Rattle.elimination.specs.Records.{fractionOf}
-use Rattle.searching.specs.Rows.{rowNumber, rowsTouch, Stored, StoredAt}
+use Rattle.searching.specs.Rows.{rowNumber, rowsPair, Stored, StoredAt}
 
 -- the rows above p are those of the marks `order 0`, .., with the removals s
 pub record Above (M : Marks) (order : ℕ → ℕ) (s : ℕ → Removal) (w : List ℕ) (p : ℕ) : Type 0 where
   pub number : (q : ℕ) → q < p → rowNumber w q ≡ order q
-  pub value : (q : ℕ) → q < p → rowsTouch w q p ≡ M .value (order q) (order p)
+  pub value : (q : ℕ) → q < p → rowsPair w q p ≡ M .value (order q) (order p)
   pub removal : (q : ℕ) → q < p → StoredAt w q (s (order q))
 
 -- `t` is what a search of the rows above p finds for row p: its best candidate

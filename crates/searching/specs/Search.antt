@@ -10,17 +10,19 @@ use Rattle.fractions.specs.declared.Fraction.{Fraction}
 use Rattle.fractions.specs.Order.{less, Less, AtMost, Small}
 use Rattle.marks.specs.declared.Label.{Label}
 use Rattle.searching.specs.declared.Leader.{Leader}
-use Rattle.searching.specs.Rows.{rowSize, rowLabel, rowValue, rowsTouch, never, Complete}
+use Rattle.searching.specs.Rows.{rowSize, rowLabel, rowPopup, rowValue, rowsPair, never, Complete}
 
 -- ---- what is searched
 
--- `a` is the label of row p, and the rows above it are complete
-pub record SearchFor (w : List ℕ) (p : ℕ) (a : Label) : Type 0 where
+-- `a` is the label of row p, and the rows above it are complete; where `popped` is false none of them has a popup
+pub record SearchFor (popped : Bool) (w : List ℕ) (p : ℕ) (a : Label) : Type 0 where
   pub few : p < 4096
   pub room : rowSize * p + rowSize ≤ length w
   pub label-is : a ≡ rowLabel w p
   pub radius-small : a .radius ≤ 16383
+  pub popup-small : rowPopup w p ≤ 65536
   pub above : (q : ℕ) → q < p → Complete w q
+  pub plain : popped ≡ false → (q : ℕ) → q ≤ p → rowPopup w q ≡ 0
 
 -- ---- the best row so far
 
@@ -39,24 +41,32 @@ pub record Admitted (p : ℕ) (c : Leader) : Type 0 where
 unfoldable pub precedes : Fraction → ℕ → Fraction → ℕ → Bool
 precedes f j g k = cond (less f g) true (cond (less g f) false (ltb j k))
 
+-- v is the pair value of rows q and p
+pub record Paired (w : List ℕ) (p q : ℕ) (v : Fraction) : Type 0 where
+  pub room : rowSize * q + rowSize ≤ length w
+  pub few : p < 4096
+  pub value-is : v ≡ rowsPair w q p
+  pub small : Small v
+  pub removal-small : Small (rowValue w q)
+
 -- ---- what a step of the search adds
 
 -- row q is removed later than its value with row p
 abbrev pub StandsAt : List ℕ → ℕ → ℕ → Type 0
-StandsAt w p q = Less (rowsTouch w q p) (rowValue w q)
+StandsAt w p q = Less (rowsPair w q p) (rowValue w q)
 
 abbrev pub Positive : List ℕ → ℕ → Type 0
-Positive w p = (q : ℕ) → q < p → 0 < rowsTouch w q p .den
+Positive w p = (q : ℕ) → q < p → 0 < rowsPair w q p .den
 
 -- the leader goes before row q, if that one stands
 pub record Before (w : List ℕ) (p : ℕ) (c : Leader) (q : ℕ) : Type 0 where
-  pub atMost : StandsAt w p q → AtMost (leaderValue c) (rowsTouch w q p)
-  pub less : StandsAt w p q → q < c .row → Less (leaderValue c) (rowsTouch w q p)
+  pub atMost : StandsAt w p q → AtMost (leaderValue c) (rowsPair w q p)
+  pub less : StandsAt w p q → q < c .row → Less (leaderValue c) (rowsPair w q p)
 
 -- it is a row that stands, with its value
 pub record Leads (w : List ℕ) (p : ℕ) (c : Leader) : Type 0 where
   pub below : c .row < p
-  pub exact : leaderValue c ≡ rowsTouch w (c .row) p
+  pub exact : leaderValue c ≡ rowsPair w (c .row) p
   pub stands : StandsAt w p (c .row)
 
 abbrev pub Real : List ℕ → ℕ → Leader → Type 0

@@ -5,20 +5,20 @@ use elimination::Record;
 use fractions::Fraction;
 use marks::Label;
 ghost use mathlib.Core.Path.{_≡_};
-ghost use Prim.Native.Nat.{_+_, _*_, _<_, _≤_};
+ghost use Prim.Native.Nat.{_+_, _-_, _*_, _<_, _≤_};
 ghost use lib.ListN.{length};
 ghost use Rattle.fractions.specs.Order.{Small};
 ghost use Rattle.marks.specs.Marks.{touchingOf};
 ghost use Rattle.grid.specs.Table.{cellCount, EntriesLow};
-ghost use Rattle.searching.specs.Rows.{rowSize, rowLabel, rowRecord, rowValue};
+ghost use Rattle.searching.specs.Rows.{rowSize, rowLabel, rowPopup, rowRecord, rowValue};
 ghost use Rattle.searching.specs.Scan.{Scanned};
-ghost use Rattle.searching.specs.Search.{leaderValue, none, precedes, Admitted, SearchFor, Adds, Only, Higher};
-ghost use Rattle.searching.specs.Cells.{Gridded, CellAdded, Own, Other, OthersFrom};
+ghost use Rattle.searching.specs.Search.{leaderValue, none, precedes, Paired, Admitted, SearchFor, Adds, Only, Higher};
+ghost use Rattle.searching.specs.Cells.{Gridded, CellAdded, Own, Other, Range};
 
 // Among so few rows a scan of all is as fast as a search by cells.
 const FEW: usize = 192;
 
-// The bytes of a row, and where the fields behind its number begin. The bytes before the record are room for a popup.
+// The bytes of a row, and where the fields behind its number begin.
 pub const ROW_SIZE: usize = 25;
 
 pub const ROW_X: usize = 2;
@@ -26,6 +26,11 @@ pub const ROW_X: usize = 2;
 pub const ROW_Y: usize = 4;
 
 pub const ROW_RADIUS: usize = 6;
+
+// A popup has 17 bits.
+pub const ROW_POPUP: usize = 8;
+
+pub const POPUP_BYTES: usize = 3;
 
 pub const ROW_RECORD: usize = 11;
 
@@ -41,6 +46,13 @@ pub fn row_label(w: &[u8], q: usize) -> Label
         y: numbers::read_i16(w, at + ROW_Y),
         radius: numbers::read_u16(w, at + ROW_RADIUS),
     }
+}
+
+fn row_popup(w: &[u8], q: usize) -> u32
+    requires { ⌜ rowSize * q + rowSize ≤ length (now w) ⌝ }
+    ensures { λ r. ⌜ r ≡ rowPopup (now (w .entry)) q ⌝ }
+{
+    numbers::read(w, ROW_SIZE * q + ROW_POPUP, POPUP_BYTES) as u32
 }
 
 // What was found for row q.
@@ -98,12 +110,12 @@ fn precedes(f: Fraction, j: usize, g: Fraction, k: usize) -> bool
     left < bound
 }
 
-// Row q against the best found so far for row p, whose label is given: it takes its place if it goes before it and is removed later.
-fn better(w: &[u8], q: usize, p: usize, label: Label, best: Leader) -> Leader
-    requires { ⌜ SearchFor (now w) p label × (q < p) × Admitted p best ⌝ }
+// Row q, whose pair value with row p is v, against the best found so far: it takes its place if v goes before its value and row q is removed
+// later.
+fn better_pair(w: &[u8], q: usize, p: usize, v: Fraction, best: Leader) -> Leader
+    requires { ⌜ Paired (now w) p q v × (q < p) × Admitted p best ⌝ }
     ensures { λ t. ⌜ Admitted p t × Adds (now (w .entry)) p (Only q) best t ⌝ }
 {
-    let v = touching_row(w, q, label);
     let row = best.row as usize;
     if precedes(v, q, leader_value(best), row) {
         if fractions::less_small(v, row_value(w, q)) {
@@ -118,9 +130,23 @@ fn better(w: &[u8], q: usize, p: usize, label: Label, best: Leader) -> Leader
     best
 }
 
+// The same for row p, whose label is given. Where no row has a popup, which `popped` tells, the touching value is the pair value; that `popped`
+// changes in no loop keeps the reading of popups out of the inner one.
+fn better(w: &[u8], q: usize, p: usize, label: Label, best: Leader, popped: bool) -> Leader
+    requires { ⌜ SearchFor popped (now w) p label × (q < p) × Admitted p best ⌝ }
+    ensures { λ t. ⌜ Admitted p t × Adds (now (w .entry)) p (Only q) best t ⌝ }
+{
+    let touch = touching_row(w, q, label);
+    if popped {
+        let k = marks::larger(row_popup(w, q), row_popup(w, p));
+        return better_pair(w, q, p, marks::pair_of(touch, k), best);
+    }
+    better_pair(w, q, p, touch, best)
+}
+
 // The best of all rows above p.
-fn scan_rows(w: &[u8], p: usize, label: Label) -> Leader
-    requires { ⌜ SearchFor (now w) p label ⌝ }
+fn scan_rows(w: &[u8], p: usize, label: Label, popped: bool) -> Leader
+    requires { ⌜ SearchFor popped (now w) p label ⌝ }
     ensures { λ t. ⌜ Admitted p t × Adds (now (w .entry)) p (Higher p) none t ⌝ }
 {
     let mut best = Leader {
@@ -130,7 +156,7 @@ fn scan_rows(w: &[u8], p: usize, label: Label) -> Leader
     };
     let mut q = 0;
     while q < p {
-        best = better(w, q, p, label, best);
+        best = better(w, q, p, label, best, popped);
         q += 1;
     }
     best
@@ -139,34 +165,43 @@ fn scan_rows(w: &[u8], p: usize, label: Label) -> Leader
 // ---- the best row by cells, of the grid at `at`
 
 // The rows of cell c against the best so far.
-fn scan_cell(w: &[u8], at: usize, p: usize, c: usize, label: Label, from: Leader) -> Leader
-    requires { ⌜ SearchFor (now w) p label × EntriesLow (now w) at p × (c < cellCount) × Admitted p from ⌝ }
+fn scan_cell(
+    w: &[u8],
+    at: usize,
+    p: usize,
+    c: usize,
+    label: Label,
+    from: Leader,
+    popped: bool,
+) -> Leader
+    requires { ⌜ SearchFor popped (now w) p label × EntriesLow (now w) at p × (c < cellCount) × Admitted p from ⌝ }
     ensures { λ t. ⌜ Admitted p t × CellAdded (now (w .entry)) at p (Own c) from t ⌝ }
 {
     let mut best = from;
     let mut h = grid::last_row(w, at, c);
     while 0 < h {
         let q = h - 1;
-        best = better(w, q, p, label, best);
+        best = better(w, q, p, label, best, popped);
         h = grid::previous_row(w, at, q);
     }
     best
 }
 
-// The same, but the cell `own`, an empty cell and one too far to hold a better row are left out.
+// The same, but the cell `skip`, an empty cell and one too far to hold a better row are left out.
 fn scan_other(
     w: &[u8],
     at: usize,
     p: usize,
-    own: usize,
+    skip: usize,
     c: usize,
     label: Label,
     best: Leader,
+    popped: bool,
 ) -> Leader
-    requires { ⌜ SearchFor (now w) p label × EntriesLow (now w) at p × (c < cellCount) × Admitted p best ⌝ }
-    ensures { λ t. ⌜ Admitted p t × CellAdded (now (w .entry)) at p (Other own c) best t ⌝ }
+    requires { ⌜ SearchFor popped (now w) p label × EntriesLow (now w) at p × (c < cellCount) × Admitted p best ⌝ }
+    ensures { λ t. ⌜ Admitted p t × CellAdded (now (w .entry)) at p (Other skip c) best t ⌝ }
 {
-    if c == own {
+    if c == skip {
         return best;
     }
     if grid::last_row(w, at, c) == 0 {
@@ -177,42 +212,70 @@ fn scan_other(
     if fractions::less_small(value, bound) {
         return best;
     }
-    scan_cell(w, at, p, c, label, best)
+    scan_cell(w, at, p, c, label, best, popped)
 }
 
-// The rows of the cells other than `own`. The cells of the large marks, which touch soonest, come first.
-fn scan_others(w: &[u8], at: usize, p: usize, own: usize, label: Label, from: Leader) -> Leader
-    requires { ⌜ SearchFor (now w) p label × EntriesLow (now w) at p × Admitted p from ⌝ }
-    ensures { λ t. ⌜ Admitted p t × CellAdded (now (w .entry)) at p (OthersFrom own 0) from t ⌝ }
+// The rows of the cells from `lo` to below `hi` but for the cell `skip`. The cells of the large marks, which touch soonest, come first.
+fn scan_cells(
+    w: &[u8],
+    at: usize,
+    p: usize,
+    lo: usize,
+    hi: usize,
+    skip: usize,
+    label: Label,
+    from: Leader,
+    popped: bool,
+) -> Leader
+    requires { ⌜ SearchFor popped (now w) p label × EntriesLow (now w) at p × (hi ≤ cellCount) × Admitted p from ⌝ }
+    ensures { λ t. ⌜ Admitted p t × CellAdded (now (w .entry)) at p (Range lo hi skip) from t ⌝ }
 {
     let mut best = from;
-    let mut c = grid::CELLS;
-    while 0 < c {
+    let mut c = hi;
+    while lo < c {
         c -= 1;
-        best = scan_other(w, at, p, own, c, label, best);
+        best = scan_other(w, at, p, skip, c, label, best, popped);
     }
     best
 }
 
-// The best of all rows above p, for a mark that belongs into the cell `own`: what lies near comes first, so that the rest is soon too far.
-// Where the rows are few, or most of them are in that cell, all are scanned.
-fn search(w: &[u8], at: usize, p: usize, own: usize, label: Label) -> Leader
-    requires { ⌜ SearchFor (now w) p label × Gridded (now w) at p × (own < cellCount) ⌝ }
+// The best of all rows above p by cells, for a mark that belongs into the cell `own`: what lies near comes first, so that the rest is soon too
+// far. Its own cell and then all others go through one loop, so that the loop over rows is compiled into it.
+fn scan_grid(w: &[u8], at: usize, p: usize, own: usize, label: Label, popped: bool) -> Leader
+    requires { ⌜ SearchFor popped (now w) p label × Gridded (now w) at p × (own < cellCount) ⌝ }
     ensures { λ t. ⌜ Admitted p t × Adds (now (w .entry)) p (Higher p) none t ⌝ }
 {
-    if p < FEW {
-        return scan_rows(w, p, label);
-    }
-    if p < 2 * grid::row_count(w, at, own) {
-        return scan_rows(w, p, label);
-    }
-    let nobody = Leader {
+    let mut best = Leader {
         num: 1,
         den: 0,
         row: 0,
     };
-    let near = scan_cell(w, at, p, own, label, nobody);
-    scan_others(w, at, p, own, label, near)
+    let mut lo = own;
+    let mut hi = own + 1;
+    let mut skip = grid::CELLS;
+    let mut pass = 0usize;
+    while pass < 2 {
+        best = scan_cells(w, at, p, lo, hi, skip, label, best, popped);
+        lo = 0;
+        hi = grid::CELLS;
+        skip = own;
+        pass += 1;
+    }
+    best
+}
+
+// The best of all rows above p. Where they are few, or most of them are in the cell that the mark belongs into, all are scanned.
+fn search(w: &[u8], at: usize, p: usize, own: usize, label: Label, popped: bool) -> Leader
+    requires { ⌜ SearchFor popped (now w) p label × Gridded (now w) at p × (own < cellCount) ⌝ }
+    ensures { λ t. ⌜ Admitted p t × Adds (now (w .entry)) p (Higher p) none t ⌝ }
+{
+    if p < FEW {
+        return scan_rows(w, p, label, popped);
+    }
+    if p < 2 * grid::row_count(w, at, own) {
+        return scan_rows(w, p, label, popped);
+    }
+    scan_grid(w, at, p, own, label, popped)
 }
 
 // ---- what was found
@@ -231,18 +294,18 @@ fn found_of(w: &[u8], p: usize, best: Leader) -> Record
     }
 }
 
-// What the rows above p make of the mark in row p, whose label is given.
-pub fn best_of(w: &[u8], p: usize, label: Label) -> Record
-    requires { ⌜ SearchFor (now w) p label ⌝ }
+// What the rows above p make of the mark in row p, whose label is given. `popped` is false only where none of them has a popup.
+pub fn best_of(w: &[u8], p: usize, label: Label, popped: bool) -> Record
+    requires { ⌜ SearchFor popped (now w) p label ⌝ }
     ensures { λ t. ⌜ Scanned (now (w .entry)) p t ⌝ }
 {
-    found_of(w, p, scan_rows(w, p, label))
+    found_of(w, p, scan_rows(w, p, label, popped))
 }
 
 // The same by the grid at `at`, for a mark that belongs into the cell `own`.
-pub fn best_in_grid(w: &[u8], at: usize, p: usize, own: usize, label: Label) -> Record
-    requires { ⌜ SearchFor (now w) p label × Gridded (now w) at p × (own < cellCount) ⌝ }
+pub fn best_in_grid(w: &[u8], at: usize, p: usize, own: usize, label: Label, popped: bool) -> Record
+    requires { ⌜ SearchFor popped (now w) p label × Gridded (now w) at p × (own < cellCount) ⌝ }
     ensures { λ t. ⌜ Scanned (now (w .entry)) p t ⌝ }
 {
-    found_of(w, p, search(w, at, p, own, label))
+    found_of(w, p, search(w, at, p, own, label, popped))
 }

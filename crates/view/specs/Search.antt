@@ -1,4 +1,4 @@
--- What the contracts of the search down the index cite. `s` is part 1 of a sheet, `p` part 2 and `t` part 3; an axis is true for x.
+-- What the contracts of the search down the index cite. `s` is part 1 of a sheet, `p` part 2, `q` part 5 and `t` part 3; an axis is true for x.
 use Prim.Native.Nat.{ℕ, zero, suc, _+_, _-_, _*_, _/_, _<_, _≤_}
 use mathlib.Core.Path.{_≡_}
 use mathlib.Core.Bool.{Bool, true, false, cond}
@@ -9,6 +9,7 @@ use lib.Dec.{ltb, leb, eqb}
 use Rattle.lists.specs.Counting.{count, both}
 use Rattle.lists.specs.Blocks.{block}
 use Rattle.marks.specs.Marks.{usedAt}
+use Rattle.marks.specs.Pairs.{GoodPopup}
 use Rattle.elimination.specs.Records.{valueAt}
 use Rattle.zoom.specs.Zoom.{largestScale}
 use Rattle.zoom.specs.Living.{livesAt}
@@ -21,11 +22,11 @@ use Rattle.view.specs.declared.Bounds.{Bounds}
 
 -- ---- the bounds
 
--- the greater of `widest` and, where it lives, mark m's used radius
+-- the greater of `widest` and, where it is not removed, mark m's used radius
 unfoldable pub wider : List ℕ → List ℕ → ℕ → ℕ → ℕ → ℕ
 wider s p k widest m = cond (leb (usedAt s m) widest) widest (cond (livesAt k (valueAt p m)) (usedAt s m) widest)
 
--- the greatest used radius of the marks below n that live at z
+-- the greatest used radius of the marks below n that are not removed at z, popped up or not
 unfoldable pub widestLiving : List ℕ → List ℕ → ℕ → ℕ → ℕ
 widestLiving s p k zero = 0
 widestLiving s p k (suc n) = wider s p k (widestLiving s p k n) n
@@ -75,9 +76,9 @@ pub record BitsSet (shown : ℕ → Bool) (l before after : List ℕ) : Type 0 w
   pub rest : (i : ℕ) → count (inByte i) l ≡ 0 → getD after i 0 ≡ getD before i 0
   pub long : length after ≡ length before
 
--- What the search of a block needs: it is a tree in the index of a sheet of n marks, whose bits the map holds; and who is shown lives at
--- z = k/64, and lies in the bounds.
-pub record Searchable (shown : ℕ → Bool) (s p t map : List ℕ) (b : Bounds) (k lo size : ℕ) (axis : Bool) : Type 0 where
+-- What the search of a block needs: it is a tree in the index of a sheet of n marks, whose bits the map holds; and who is shown is not
+-- removed at z = k/64, and lies in the bounds.
+pub record Searchable (shown : ℕ → Bool) (s p q t map : List ℕ) (b : Bounds) (k lo size : ℕ) (axis : Bool) : Type 0 where
   pub n : ℕ
   pub whole : Checkable s p t n
   pub below : AllBelow t n
@@ -85,5 +86,6 @@ pub record Searchable (shown : ℕ → Bool) (s p t map : List ℕ) (b : Bounds)
   pub room : mapSize n ≤ length map
   pub tree : isTree (beats p) (axisKey s) axis (block (entryAt t) lo size) ≡ true
   pub taken : k ≤ largestScale
+  pub popups : (m : ℕ) → m < n → GoodPopup q m
   pub lives : (m : ℕ) → shown m ≡ true → livesAt k (valueAt p m) ≡ true
   pub held : (m : ℕ) → m < n → shown m ≡ true → (axis : Bool) → Within s b m axis

@@ -13,6 +13,7 @@ use Rattle.turns.specs.Turns.{turnedPlace}
 use Rattle.view.specs.declared.Bounds.{Bounds}
 use Rattle.view.specs.declared.Corner.{Corner}
 use Rattle.view.specs.declared.Window.{Window}
+use Rattle.view.specs.Shown.{poppedUp}
 
 -- ---- the window turned back
 
@@ -58,5 +59,9 @@ distanceHere s b m = distance (gapHere (b .x0) (b .x1) (coordinate s true m)) (g
 unfoldable pub reachesHere : List ℕ → ℕ → Bounds → ℕ → Bool
 reachesHere s k b m = leb (4096 * distanceHere s b m) (k * k * (usedAt s m * usedAt s m))
 
-unfoldable pub shownHere : List ℕ → List ℕ → ℕ → Bounds → ℕ → Bool
-shownHere s p k b m = livesAt k (valueAt p m) && reachesHere s k b m
+-- who is shown, if it is not removed yet
+unfoldable pub visibleHere : List ℕ → List ℕ → ℕ → Bounds → ℕ → Bool
+visibleHere s q k b m = poppedUp q k m && reachesHere s k b m
+
+unfoldable pub shownHere : List ℕ → List ℕ → List ℕ → ℕ → Bounds → ℕ → Bool
+shownHere s p q k b m = livesAt k (valueAt p m) && visibleHere s q k b m

@@ -1,5 +1,5 @@
-// Who is shown: the search down the index, the map and the count. `marks`, `schedule` and `index` are the bytes of parts 1, 2 and 3 of a
-// sheet; an `axis` is true for x.
+// Who is shown: the search down the index, the map and the count. `marks`, `schedule`, `index` and `popups` are the bytes of parts 1, 2, 3
+// and 5 of a sheet, the last empty where it is not there; an `axis` is true for x.
 use turns::Place;
 ghost use mathlib.Core.Path.{_≡_};
 ghost use mathlib.Core.Bool.{true};
@@ -10,6 +10,7 @@ ghost use lib.IntN.{pos};
 ghost use Rattle.lists.specs.Blocks.{block};
 ghost use Rattle.zoom.specs.Zoom.{largestScale};
 ghost use Rattle.marks.specs.Marks.{markSize, shifted};
+ghost use Rattle.marks.specs.Pairs.{GoodPopup};
 ghost use Rattle.elimination.specs.Records.{recordSize};
 ghost use Rattle.index.specs.Index.{indexEntrySize};
 ghost use Rattle.index.specs.Blocks.{entryAt};
@@ -17,7 +18,7 @@ ghost use Rattle.index.specs.Check.{AllMarked};
 ghost use Rattle.view.specs.Shown.{shown};
 ghost use Rattle.view.specs.Questions.{isEdge, IsEdge, question20, question11};
 ghost use Rattle.view.specs.View.{Viewable, Viewed};
-ghost use Rattle.view.specs.Turning.{cornerOf, lower, higher, turnedBack, Edged, gapHere, reachesHere, shownHere};
+ghost use Rattle.view.specs.Turning.{cornerOf, lower, higher, turnedBack, Edged, gapHere, reachesHere, visibleHere, shownHere};
 ghost use Rattle.view.specs.Search.{wider, widestLiving, moved, boundsOf, boundOn, isBeyond, sizeToSearch, BitsSet, Searchable};
 
 // ---- windows
@@ -157,19 +158,30 @@ fn reaches(marks: &[u8], edges: Bounds, k: u32, m: usize) -> bool
     4096 * squared <= scale * scale * (radius * radius)
 }
 
-// Sets mark m's bit if its disk at z reaches the window.
-fn visit(marks: &[u8], edges: Bounds, k: u32, m: usize, map: &mut [u8])
-    requires { ⌜ (markSize * m + markSize ≤ length (now marks)) × (k ≤ largestScale) × Edged edges × (m / 8 < length (now map)) ⌝ }
-    ensures { λ _. ⌜ BitsSet (reachesHere (now (marks .entry)) k edges) (m ∷ []) (now (map .entry)) (now (map .exit)) ⌝ }
+// Has mark m popped up at z = k/64, and does its disk reach the window?
+fn is_visible(marks: &[u8], popups: &[u8], edges: Bounds, k: u32, m: usize) -> bool
+    requires { ⌜ (markSize * m + markSize ≤ length (now marks)) × (k ≤ largestScale) × Edged edges × GoodPopup (now popups) m ⌝ }
+    ensures { λ r. ⌜ r ≡ visibleHere (now (marks .entry)) (now (popups .entry)) k edges m ⌝ }
 {
-    if reaches(marks, edges, k, m) {
+    if k < marks::popup_at(popups, m) {
+        return false;
+    }
+    reaches(marks, edges, k, m)
+}
+
+// Sets mark m's bit if it is visible.
+fn visit(marks: &[u8], popups: &[u8], edges: Bounds, k: u32, m: usize, map: &mut [u8])
+    requires { ⌜ (markSize * m + markSize ≤ length (now marks)) × (k ≤ largestScale) × Edged edges × GoodPopup (now popups) m × (m / 8 < length (now map)) ⌝ }
+    ensures { λ _. ⌜ BitsSet (visibleHere (now (marks .entry)) (now (popups .entry)) k edges) (m ∷ []) (now (map .entry)) (now (map .exit)) ⌝ }
+{
+    if is_visible(marks, popups, edges, k, m) {
         bitmap::set_bit(map, m);
     }
 }
 
 // ---- the search
 
-// The greater of `widest` and mark m's used radius, where m lives. Living is asked last: it takes a product, and most marks are not wider.
+// The greater of `widest` and mark m's used radius, where m is not removed. That is asked last: it takes a product, and most marks are not wider.
 fn wider(marks: &[u8], schedule: &[u8], k: u32, widest: u16, m: usize) -> u16
     requires { ⌜ (markSize * m + markSize ≤ length (now marks)) × (recordSize * m + recordSize ≤ length (now schedule)) ⌝ }
     ensures { λ r. ⌜ r ≡ wider (now (marks .entry)) (now (schedule .entry)) k widest m ⌝ }
@@ -275,10 +287,12 @@ fn size_to_search(
 }
 
 // Sets the bits of the shown marks of a block: the `size` numbers of the index from number `lo` on. A block's root is removed last, so
-// where it does not live no mark of the block lives. A root that does not reach the window ends nothing: others of its block may.
+// where it is removed no mark of the block lives. A root that has not popped up, or does not reach the window, ends nothing: others of its
+// block may be shown.
 fn search(
     marks: &[u8],
     schedule: &[u8],
+    popups: &[u8],
     index: &[u8],
     edges: Bounds,
     bounds: Bounds,
@@ -288,8 +302,8 @@ fn search(
     size: usize,
     axis: bool,
 )
-    requires { ⌜ Searchable (shownHere (now marks) (now schedule) k edges) (now marks) (now schedule) (now index) (now map) bounds k lo size axis × Edged edges ⌝ }
-    ensures { λ _. ⌜ BitsSet (shownHere (now (marks .entry)) (now (schedule .entry)) k edges) (block (entryAt (now (index .entry))) lo size) (now (map .entry)) (now (map .exit)) ⌝ }
+    requires { ⌜ Searchable (shownHere (now marks) (now schedule) (now popups) k edges) (now marks) (now schedule) (now popups) (now index) (now map) bounds k lo size axis × Edged edges ⌝ }
+    ensures { λ _. ⌜ BitsSet (shownHere (now (marks .entry)) (now (schedule .entry)) (now (popups .entry)) k edges) (block (entryAt (now (index .entry))) lo size) (now (map .entry)) (now (map .exit)) ⌝ }
 {
     if size == 0 {
         return;
@@ -298,7 +312,7 @@ fn search(
     if !zoom::lives(elimination::value_at(schedule, root), k) {
         return;
     }
-    visit(marks, edges, k, root, map);
+    visit(marks, popups, edges, k, root, map);
     // Of the others the first half is the larger: half of `size`, rounded down, since `size` counts the root too.
     let first = size / 2;
     let second = size - 1 - first;
@@ -308,6 +322,7 @@ fn search(
     search(
         marks,
         schedule,
+        popups,
         index,
         edges,
         bounds,
@@ -321,6 +336,7 @@ fn search(
     search(
         marks,
         schedule,
+        popups,
         index,
         edges,
         bounds,
@@ -336,20 +352,33 @@ fn search(
 pub fn show(
     marks: &[u8],
     schedule: &[u8],
+    popups: &[u8],
     index: &[u8],
     n: usize,
     window: Window,
     k: u32,
     map: &mut [u8],
 ) -> u32
-    requires { ⌜ Viewable (now marks) (now schedule) (now index) (now map) n × (k ≤ largestScale) ⌝ }
+    requires { ⌜ Viewable (now marks) (now schedule) (now popups) (now index) (now map) n × (k ≤ largestScale) ⌝ }
     requires { ⌜ (question20 window ≡ true) × (question11 window ≡ true) ⌝ }
-    ensures { λ r. ⌜ Viewed (shown (now (marks .entry)) (now (schedule .entry)) k window) n (now (map .entry)) (now (map .exit)) r ⌝ }
+    ensures { λ r. ⌜ Viewed (shown (now (marks .entry)) (now (schedule .entry)) (now (popups .entry)) k window) n (now (map .entry)) (now (map .exit)) r ⌝ }
 {
     let edges = turned_back(window);
     let size = (n + 7) / 8;
     bitmap::clear(map, size);
     let bounds = bounds_of(edges, k, widest_living(marks, schedule, k, n));
-    search(marks, schedule, index, edges, bounds, k, map, 0, n, true);
+    search(
+        marks,
+        schedule,
+        popups,
+        index,
+        edges,
+        bounds,
+        k,
+        map,
+        0,
+        n,
+        true,
+    );
     bitmap::count(map, size) as u32
 }

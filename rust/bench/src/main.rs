@@ -9,13 +9,14 @@ mod race;
 use std::hint::black_box;
 
 use oracle::mark::{write_marks, Mark};
+use oracle::popup::write_popups;
 use oracle::rank::Edition;
-use oracle::sample::{marks, Shape};
+use oracle::sample::{marks, popups, Popups, Shape};
 use oracle::sheet::{join, join_parts};
 use oracle::view::{Edges, Window};
 use rollmap::{
-    map_bytes, scheduled_bytes, work_bytes, Refusal, Turn, View, Work, Zoom, EDITION_BYTES,
-    FARTHEST_EDGE,
+    map_bytes, scheduled_bytes, work_bytes, Refusal, Turn, View, Work, Zoom, FARTHEST_EDGE,
+    NO_POPUP,
 };
 
 use plain::schedule::Desk;
@@ -46,6 +47,20 @@ const VIEWED: [(&str, Shape); 4] = [
     ("1 % huge radius", Shape::FewHuge),
 ];
 
+/// The popups that scheduling and checking are timed with, beside the same marks without.
+const POPPING_UP: [(&str, Popups); 4] = [
+    ("all 0", Popups::Zero),
+    ("one in four", Popups::Few),
+    ("all, at any zoom", Popups::Any),
+    ("all, from zoom 256 on", Popups::Late),
+];
+
+/// Those that viewing is timed with.
+const VIEWED_POPPING_UP: [(&str, Popups); 2] = [
+    ("one in four", Popups::Few),
+    ("all, at any zoom", Popups::Any),
+];
+
 /// The numbers of marks that growth is seen over.
 const SIZES: [usize; 3] = [256, 1_024, 4_096];
 
@@ -71,10 +86,13 @@ fn main() {
     println!("{}", introduction());
     scheduling();
     editions();
+    popping_up();
     growth();
     changing();
     checking();
+    checking_popups();
     viewing();
+    viewing_popups();
     walking();
 }
 
@@ -195,24 +213,29 @@ fn with_priorities(shape: Shape, priorities: u16) -> Vec<Mark> {
     marks
 }
 
-/// The least times of scheduling marks by both editions: proved by the first and by the
-/// second, and plain by the second.
-fn time_editions(marks: &[Mark]) -> [Micros; 3] {
-    let [first, second] = Edition::ALL.map(|edition| named_sheet_of(edition, marks));
+/// The least times of scheduling two sheets of the same marks: proved of both, and plain of
+/// the second.
+fn time_two(first: &[u8], second: &[u8]) -> [Micros; 3] {
+    let written = |sheet| {
+        rollmap::schedule_to_vec(sheet)
+            .expect("the marks are taken")
+            .len()
+    };
+    let lengths = [first, second, second].map(written);
     let mut works = [(); 2].map(|()| vec![0; work_bytes(MOST)]);
-    let mut outs = [(); 3].map(|()| vec![0; scheduled_bytes(MOST) + EDITION_BYTES]);
+    let mut outs = lengths.map(|length| vec![0; length]);
     let mut desk = Desk::default();
-    let ([work_first, work_second], [by_first, by_second, plain]) = (&mut works, &mut outs);
+    let ([work_first, work_second], [of_first, of_second, plain]) = (&mut works, &mut outs);
     let times = race(
         ROUNDS,
         1,
         [
-            &mut || _ = black_box(rollmap::schedule(&first, Work(work_first), by_first)),
-            &mut || _ = black_box(rollmap::schedule(&second, Work(work_second), by_second)),
-            &mut || _ = black_box(desk.schedule_by_cells(&second, plain)),
+            &mut || _ = black_box(rollmap::schedule(first, Work(work_first), of_first)),
+            &mut || _ = black_box(rollmap::schedule(second, Work(work_second), of_second)),
+            &mut || _ = black_box(desk.schedule_by_cells(second, plain)),
         ],
     );
-    assert!(by_second == plain, "both write the same bytes");
+    assert!(of_second == plain, "both write the same bytes");
     times
 }
 
@@ -232,7 +255,8 @@ fn editions() {
     for (name, shape) in DATA {
         for priorities in [1, 16] {
             let marks = with_priorities(shape, priorities);
-            let [first, second, plain] = time_editions(&marks);
+            let [first, second] = Edition::ALL.map(|edition| named_sheet_of(edition, &marks));
+            let [first, second, plain] = time_two(&first, &second);
             println!(
                 "| {name} | {priorities} | {:.2} | {:.2} | {:.2} | {:.2} | {:.2} |",
                 first.millis(),
@@ -240,6 +264,48 @@ fn editions() {
                 second.over(first),
                 plain.millis(),
                 second.over(plain),
+            );
+        }
+    }
+}
+
+/// The sheet of some marks with popups in part 5.
+fn popping_sheet_of(how: Popups, marks: &[Mark]) -> Vec<u8> {
+    let part_5 = write_popups(&popups(how, marks, 1));
+    join_parts(&[(1, &write_marks(marks)), (5, &part_5)])
+}
+
+/// The scheduled sheet of a sample with popups.
+fn scheduled_popping_up(how: Popups, shape: Shape) -> Vec<u8> {
+    let sheet = popping_sheet_of(how, &marks(shape, MOST, 1));
+    rollmap::schedule_to_vec(&sheet).expect("the marks are taken")
+}
+
+fn popping_up() {
+    table(
+        "Scheduling 4,096 marks with popups, against the same marks without",
+        &[
+            "data",
+            "popups",
+            "proved without, ms",
+            "proved with, ms",
+            "ratio",
+            "plain Rust with, ms",
+            "ratio",
+        ],
+    );
+    for (name, shape) in DATA {
+        let marks = marks(shape, MOST, 1);
+        for (popups, how) in POPPING_UP {
+            let sheet = popping_sheet_of(how, &marks);
+            let [without, with, plain] = time_two(&one_part(&marks), &sheet);
+            println!(
+                "| {name} | {popups} | {:.2} | {:.2} | {:.2} | {:.2} | {:.2} |",
+                without.millis(),
+                with.millis(),
+                with.over(without),
+                plain.millis(),
+                with.over(plain),
             );
         }
     }
@@ -316,7 +382,9 @@ fn time_change(
 fn time_adding(new: &[Mark]) -> [Micros; 3] {
     let (last, others) = new.split_last().expect("there is a mark");
     let (sheet, last) = (three_parts(others), rollmap::Mark::from_bytes(last.write()));
-    time_change(new, |work, out| rollmap::add(&sheet, last, work, out))
+    time_change(new, |work, out| {
+        rollmap::add(&sheet, last, NO_POPUP, work, out)
+    })
 }
 
 /// The times of taking the middle one of these marks out.
@@ -400,6 +468,53 @@ fn checking() {
                 growth_of(&proved),
                 theirs.0,
                 ours.over(theirs),
+            );
+        }
+    }
+}
+
+/// The least times of checking a sheet and another one with popups: proved of both, and
+/// plain of the second.
+fn time_checking_two(without: &[u8], with: &[u8]) -> [Micros; 3] {
+    let accepted = [without, with].map(|sheet| rollmap::check(sheet).is_ok());
+    assert_eq!(accepted, [true; 2]);
+    assert!(plain::sheet::open(with).is_ok());
+    race(
+        QUICK_ROUNDS,
+        1,
+        [
+            &mut || _ = black_box(rollmap::check(black_box(without))),
+            &mut || _ = black_box(rollmap::check(black_box(with))),
+            &mut || _ = black_box(plain::sheet::open(black_box(with)).is_ok()),
+        ],
+    )
+}
+
+fn checking_popups() {
+    table(
+        "Checking a scheduled sheet of 4,096 marks with popups, against the same marks without",
+        &[
+            "data",
+            "popups",
+            "proved without, µs",
+            "proved with, µs",
+            "ratio",
+            "plain Rust with, µs",
+            "ratio",
+        ],
+    );
+    for (name, shape) in [("uniform", Shape::Uniform), ("clustered", Shape::Clustered)] {
+        let bare = scheduled(shape, MOST);
+        for (popups, how) in POPPING_UP {
+            let sheet = scheduled_popping_up(how, shape);
+            let [without, with, plain] = time_checking_two(&bare, &sheet);
+            println!(
+                "| {name} | {popups} | {:.1} | {:.1} | {:.2} | {:.1} | {:.2} |",
+                without.0,
+                with.0,
+                with.over(without),
+                plain.0,
+                with.over(plain),
             );
         }
     }
@@ -512,6 +627,78 @@ fn viewing() {
                     theirs_turned.0,
                     turned.over(theirs_turned),
                 );
+            }
+        }
+    }
+}
+
+/// The least times of a view at k/64 of a sheet and of another one with popups: proved of
+/// both, and plain of the second. Answers how many marks of the second are shown and looked
+/// at, too.
+fn time_viewing_two(
+    without: &[u8],
+    with: &[u8],
+    edges: Edges,
+    k: u32,
+) -> ([usize; 2], [Micros; 3]) {
+    let wheel = k as f32 / 64.0;
+    let (zoom, window) = (oracle::zoom::Zoom::Wheel(wheel), edges.unturned());
+    let view = bound(window, wheel);
+    let mut maps = [(); 3].map(|()| vec![0; map_bytes(MOST)]);
+    let [map_without, map_with, plain_map] = &mut maps;
+    let times = race(
+        QUICK_ROUNDS,
+        1,
+        [
+            &mut || _ = black_box(rollmap::view(without, view, map_without)),
+            &mut || _ = black_box(rollmap::view(with, view, map_with)),
+            &mut || _ = black_box(plain::view::view(with, window, zoom, plain_map)),
+        ],
+    );
+    assert!(map_with == plain_map, "both show the same");
+    let shown = map_with.iter().map(|byte| byte.count_ones()).sum::<u32>();
+    let visited = plain::view::visited(with, window, zoom);
+    ([shown as usize, visited.expect("the view is taken")], times)
+}
+
+fn viewing_popups() {
+    table(
+        "Viewing 4,096 marks with popups, against the same marks without; all check the sheet in \
+         each call",
+        &[
+            "data",
+            "popups",
+            "rectangle",
+            "64 times the zoom",
+            "shown",
+            "looked at",
+            "proved without, µs",
+            "proved with, µs",
+            "ratio",
+            "plain Rust with, µs",
+            "ratio",
+        ],
+    );
+    for (name, shape) in VIEWED {
+        let bare = scheduled(shape, MOST);
+        let first = marks(shape, MOST, 1)[0];
+        let small = square_about(first.x, first.y, 500);
+        for (popups, how) in VIEWED_POPPING_UP {
+            let sheet = scheduled_popping_up(how, shape);
+            for (size, edges) in [("1,000 wide", small), ("whole", Edges::WHOLE)] {
+                for k in [64, 1_024] {
+                    let ([shown, visited], times) = time_viewing_two(&bare, &sheet, edges, k);
+                    let [without, with, plain] = times;
+                    println!(
+                        "| {name} | {popups} | {size} | {k} | {shown} | {visited} | {:.1} | {:.1} \
+                         | {:.2} | {:.1} | {:.2} |",
+                        without.0,
+                        with.0,
+                        with.over(without),
+                        plain.0,
+                        with.over(plain),
+                    );
+                }
             }
         }
     }

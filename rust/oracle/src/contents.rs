@@ -1,6 +1,6 @@
 //! Contents and bodies of a sheet, and questions 1 to 3 (01, 'The sheet:
-//! contents, then bodies'; 02, request 6). A part goes by its code, and not by where
-//! it stands.
+//! contents, then bodies'; 02, requests 6 and 9). A part goes by its code, and not by
+//! where it stands.
 
 use crate::bytes::{field, put};
 use crate::{ask, Refusal};
@@ -17,7 +17,7 @@ const OFFSET_AT: usize = 2;
 const LENGTH_AT: usize = 6;
 
 /// The most parts a sheet has: one of each code.
-pub const MOST_PARTS: usize = 4;
+pub const MOST_PARTS: usize = 5;
 
 /// The code and the body of a part.
 pub type Part<'a> = (u16, &'a [u8]);
@@ -112,7 +112,7 @@ pub fn split(sheet: &[u8]) -> Result<Bodies<'_>, Refusal> {
 }
 
 /// Question 1: the entries, if there are the 2 bytes of the number of parts, 1 to
-/// 4 parts, and the whole contents.
+/// 5 parts, and the whole contents.
 #[inline]
 fn entries(sheet: &[u8]) -> Option<&[[u8; ENTRY_BYTES]]> {
     let (count, rest) = sheet.split_first_chunk()?;
@@ -129,8 +129,8 @@ pub(crate) fn count_fits(parts: usize) -> bool {
     (1..=MOST_PARTS).contains(&parts)
 }
 
-/// Question 2: "codes rising within 1 to 4", "part 1 present and part 3 only with
-/// part 2".
+/// Question 2: "codes rising within 1 to" 5, "part 1 present and part 3 only with part
+/// 2".
 #[inline]
 pub(crate) fn codes_fit(codes: impl Iterator<Item = u16> + Clone) -> bool {
     let holds = |wanted| codes.clone().any(|code| code == wanted);
@@ -171,7 +171,7 @@ pub(crate) fn extent(sheet: &[u8], code: u32) -> Option<(u32, u32)> {
 ///
 /// # Panics
 ///
-/// Where a body's end has no 4-byte number, which questions 4, 7 and 19 exclude, and
+/// Where a body's end has no 4-byte number, which questions 4, 7, 19 and 21 exclude, and
 /// where the buffer is short.
 #[inline]
 pub fn write_contents(parts: &[(u16, usize)], out: &mut [u8]) {
@@ -234,7 +234,13 @@ mod tests {
 
     #[test]
     fn splitting_gives_the_joined_bodies_back() {
-        let all: [Part; 4] = [(1, &[1, 2, 3, 4]), (2, &[]), (3, &[5; 300]), (4, &[6])];
+        let all: [Part; 5] = [
+            (1, &[1, 2, 3, 4]),
+            (2, &[]),
+            (3, &[5; 300]),
+            (4, &[6]),
+            (5, &[7; 9]),
+        ];
         for codes in CODES_TAKEN {
             let of_codes = |(code, _): &Part| codes.contains(code);
             let parts: Vec<Part> = all.into_iter().filter(of_codes).collect();
@@ -242,26 +248,28 @@ mod tests {
             let bodies = split(&sheet).unwrap();
             assert_eq!(bodies.present(), parts);
             assert_eq!(bodies, Bodies::of(&parts));
-            let named = codes.contains(&4).then_some(all[3]);
-            assert!(bodies.beyond_3().into_iter().eq(named));
+            let beyond = parts.iter().filter(|(code, _)| [4, 5].contains(code));
+            assert!(bodies.beyond_3().iter().eq(beyond));
         }
     }
 
     #[test]
     fn a_body_is_found_by_its_code() {
-        let sheet = join_parts(&[(1, &[7]), (4, &[])]);
+        let sheet = join_parts(&[(1, &[7]), (4, &[]), (5, &[8, 9])]);
         let bodies = split(&sheet).unwrap();
-        let found = [0, 1, 2, 3, 4, 5].map(|code| bodies.get(code));
-        assert_eq!(found, [None, Some(&[7][..]), None, None, Some(&[]), None]);
+        let found = [0, 1, 2, 3, 4, 5, 6].map(|code| bodies.get(code));
+        let [marks, popups] = [&[7][..], &[8, 9]].map(Some);
+        assert_eq!(found, [None, marks, None, None, Some(&[]), popups, None]);
         assert_eq!(bodies.part_1(), [7]);
-        assert_eq!(extent(&sheet, 4), Some((23, 0)));
+        assert_eq!(extent(&sheet, 4), Some((33, 0)));
+        assert_eq!(extent(&sheet, 5), Some((33, 2)));
         assert_eq!(extent(&sheet, 2), None);
     }
 
     #[test]
-    fn only_six_lists_of_codes_are_taken() {
-        for length in 0..=5 {
-            each_list(&[0, 1, 2, 3, 4, 5], length, &mut |codes| {
+    fn only_twelve_lists_of_codes_are_taken() {
+        for length in 0..=6 {
+            each_list(&[0, 1, 2, 3, 4, 5, 6], length, &mut |codes| {
                 let taken = count_fits(codes.len()) && codes_fit(codes.iter().copied());
                 assert_eq!(taken, CODES_TAKEN.contains(&codes), "{codes:?}");
             });

@@ -1,13 +1,15 @@
 //! The process (01, 'Touching, rank, removal'), once as it is told and twice
-//! faster. Ranks are those of the reel's edition.
+//! faster. Ranks are those of the reel's edition, and pair values stand in place of touching
+//! values (02, request 9).
 
 use std::cmp::Ordering;
 
 use crate::fraction::Fraction;
-use crate::rank::{RankKey, Reel};
+use crate::rank::RankKey;
 use crate::record::Record;
+use crate::reel::Reel;
 
-/// Two marks by their ranks, the higher one first, and their touching value.
+/// Two marks by their ranks, the higher one first, and their pair value.
 #[derive(Clone, Copy, Debug)]
 struct Pair {
     value: Fraction,
@@ -19,15 +21,14 @@ impl Pair {
     fn of(reel: Reel, a: usize, b: usize) -> Self {
         let (rank_a, rank_b) = (reel.rank(a), reel.rank(b));
         Self {
-            value: reel.touching_value(a, b),
+            value: reel.pair_value(a, b),
             higher: rank_a.min(rank_b),
             lower: rank_a.max(rank_b),
         }
     }
 
-    /// The order in which pairs are taken: the least touching value; among equal
-    /// values the pair whose higher mark ranks highest; then the pair whose lower
-    /// mark does.
+    /// The order in which pairs are taken: the least value; among equal values the
+    /// pair whose higher mark ranks highest; then the pair whose lower mark does.
     fn taking_order(&self, other: &Self) -> Ordering {
         let by_value = self.value.compare(other.value);
         let by_ranks = (self.higher, self.lower).cmp(&(other.higher, other.lower));
@@ -79,9 +80,9 @@ pub fn schedule_by_sorted_pairs(reel: Reel) -> Vec<Record> {
 }
 
 /// The schedule worked out mark by mark in rank order, which 01's two list rules
-/// make equal to the process: a mark goes at the least touching value it has with
-/// a higher-ranked mark that is removed later than that value; of equal values
-/// the highest-ranked such mark is the eliminator.
+/// make equal to the process: a mark goes at the least pair value it has with a
+/// higher-ranked mark that is removed later than that value; of equal values the
+/// highest-ranked such mark is the eliminator.
 pub fn schedule_in_rank_order(reel: Reel) -> Vec<Record> {
     let ranked = reel.ranked();
     let mut records = vec![Record::NEVER; reel.marks.len()];
@@ -95,7 +96,7 @@ pub fn schedule_in_rank_order(reel: Reel) -> Vec<Record> {
 fn settle(reel: Reel, records: &[Record], mark: usize, higher: &[usize]) -> Record {
     let mut best = Record::NEVER;
     for &other in higher {
-        let value = reel.touching_value(other, mark);
+        let value = reel.pair_value(other, mark);
         let outlives = records[other].removal().later_than(value);
         if outlives && best.removal().later_than(value) {
             best = Record::removed(other, value);

@@ -1,10 +1,8 @@
 //! Rank, which goes by the edition of the mill's marking handbook (01, 'Touching, rank,
 //! removal'; 02, request 6).
 
-use std::cmp::Ordering;
-
-use crate::fraction::Fraction;
-use crate::mark::{touching_value, Mark};
+use crate::mark::Mark;
+use crate::reel::Reel;
 
 /// An edition of the handbook. Without a part 4 the first one holds.
 #[derive(Clone, Copy, Debug, Default, PartialEq, Eq)]
@@ -40,11 +38,12 @@ impl Edition {
         }
     }
 
-    /// These marks, ranked by the edition.
+    /// These marks, ranked by the edition, all of them there from the start.
     pub fn reel(self, marks: &[Mark]) -> Reel<'_> {
         Reel {
             marks,
             edition: self,
+            popups: None,
         }
     }
 }
@@ -74,43 +73,6 @@ impl RankKey {
     #[inline]
     pub fn number(self) -> usize {
         self.0 as usize & 0xffff
-    }
-}
-
-/// All that decides a schedule: marks that questions 5 and 6 take, and the edition that
-/// ranks them.
-#[derive(Clone, Copy, Debug)]
-pub struct Reel<'a> {
-    pub marks: &'a [Mark],
-    pub edition: Edition,
-}
-
-impl Reel<'_> {
-    /// The rank of the mark of that number.
-    pub fn rank(&self, number: usize) -> RankKey {
-        RankKey::of(self.edition, &self.marks[number], number)
-    }
-
-    /// Rank as an order of mark numbers, highest rank first.
-    pub fn rank_order(&self, a: usize, b: usize) -> Ordering {
-        self.rank(a).cmp(&self.rank(b))
-    }
-
-    /// The numbers of the marks, highest rank first.
-    pub fn ranked(&self) -> Vec<usize> {
-        let mut numbers: Vec<usize> = (0..self.marks.len()).collect();
-        numbers.sort_by(|&a, &b| self.rank_order(a, b));
-        numbers
-    }
-
-    /// Whether mark number `a` ranks higher than mark number `b`.
-    pub fn outranks(&self, a: usize, b: usize) -> bool {
-        self.rank_order(a, b).is_lt()
-    }
-
-    /// The touching value of two marks by their numbers.
-    pub fn touching_value(&self, a: usize, b: usize) -> Fraction {
-        touching_value(&self.marks[a], &self.marks[b])
     }
 }
 

@@ -1,8 +1,8 @@
 //! The two rules that demand 3 sets for a list of removal values (01, 'Touching,
-//! rank, removal').
+//! rank, removal'), over pair values (02, request 9).
 
 use crate::fraction::{Fraction, Removal};
-use crate::rank::Reel;
+use crate::reel::Reel;
 
 /// What a list of removal values offends against.
 #[derive(Clone, Copy, Debug, PartialEq, Eq)]
@@ -17,7 +17,7 @@ pub enum Breach {
 }
 
 /// Whether a list of removal values keeps both rules for these marks, by the ranks of
-/// their edition, and where it does not.
+/// their edition and by their popups, and where it does not.
 pub fn keep_both(reel: Reel, list: &[Removal]) -> Result<(), Breach> {
     if list.len() != reel.marks.len() || !list.iter().all(names_a_value) {
         return Err(Breach::NoList);
@@ -39,23 +39,23 @@ fn names_a_value(entry: &Removal) -> bool {
     }
 }
 
-/// The first rule: no pair has both marks removed later than the pair's touching
-/// value. Answers a pair that has.
+/// The first rule: no pair has both marks removed later than the pair's value. Answers
+/// a pair that has.
 fn first_rule_breach(reel: Reel, list: &[Removal]) -> Option<(usize, usize)> {
     (0..list.len())
         .flat_map(|b| (0..b).map(move |a| (a, b)))
-        .find(|&(a, b)| outlive_touching(reel, list, a, b))
+        .find(|&(a, b)| outlive_their_value(reel, list, a, b))
 }
 
-/// Whether both marks of a pair are removed later than its touching value.
-fn outlive_touching(reel: Reel, list: &[Removal], a: usize, b: usize) -> bool {
-    let value = reel.touching_value(a, b);
+/// Whether both marks of a pair are removed later than its value.
+fn outlive_their_value(reel: Reel, list: &[Removal], a: usize, b: usize) -> bool {
+    let value = reel.pair_value(a, b);
     list[a].later_than(value) && list[b].later_than(value)
 }
 
-/// The second rule: each removal value equals the touching value with some
-/// higher-ranked mark that is removed later than that value. Answers a mark whose
-/// removal value does not. A mark that is never removed has none.
+/// The second rule: each removal value equals the pair value with some higher-ranked
+/// mark that is removed later than that value. Answers a mark whose removal value does
+/// not. A mark that is never removed has none.
 fn second_rule_breach(reel: Reel, list: &[Removal]) -> Option<usize> {
     (0..list.len()).find(|&mark| match list[mark] {
         Removal::Never => false,
@@ -65,9 +65,9 @@ fn second_rule_breach(reel: Reel, list: &[Removal]) -> Option<usize> {
     })
 }
 
-/// Whether `other` ranks higher than `mark`, touches it at this value, and is
+/// Whether `other` ranks higher than `mark`, has this pair value with it, and is
 /// removed later.
 fn accounts_for(reel: Reel, list: &[Removal], mark: usize, value: Fraction, other: usize) -> bool {
-    let touching = reel.touching_value(other, mark);
-    reel.outranks(other, mark) && touching.compare(value).is_eq() && list[other].later_than(value)
+    let pair = reel.pair_value(other, mark);
+    reel.outranks(other, mark) && pair.compare(value).is_eq() && list[other].later_than(value)
 }

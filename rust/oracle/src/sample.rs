@@ -1,12 +1,16 @@
-//! What tests and benchmarks are made of: marks made up from a seed, the same ones on
-//! every machine, all of which 01 takes; those of its first example, and those with ties
-//! in the tree; sheets that are refused; and what a test tries whole.
+//! What tests and benchmarks are made of: marks and popups made up from a seed, the same
+//! ones on every machine, all of which 01 and 02 take; the marks of some of 01's examples,
+//! and those with ties in the tree; worked examples of popups; sheets that are refused; and
+//! what a test tries whole.
 
-use crate::mark::{write_marks, Mark, LARGEST_RADIUS};
+use crate::fraction::Fraction;
+use crate::mark::{touching_value, write_marks, Mark, LARGEST_RADIUS};
+use crate::popup::{write_popups, LARGEST_POPUP};
 use crate::process::schedule_by_process;
 use crate::rank::Edition;
 use crate::record::{write_records, Record};
 use crate::sheet::{join, join_parts};
+use crate::zoom::{removal_zoom_in_64ths, zoom_squared};
 use crate::Refusal;
 
 /// The marks of P1 (01, 'The printed schedule').
@@ -15,6 +19,15 @@ pub const P1: [Mark; 4] = [
     Mark::plain(100, 0, 10, 5),
     Mark::plain(200, 0, 10, 5),
     Mark::plain(0, 3, 5, 1),
+];
+
+/// The marks of P5: two at one place.
+pub const P5: [Mark; 2] = [Mark::plain(7, 7, 1, 5), Mark::plain(7, 7, 1, 5)];
+
+/// The marks of P6: as far apart as there are places.
+pub const P6: [Mark; 2] = [
+    Mark::plain(i16::MIN, i16::MIN, 1, 0),
+    Mark::plain(i16::MAX, i16::MAX, 1, 0),
 ];
 
 /// Marks with ties in the tree: 1 and 2 go by 0 at one value, 1, 2 and 3 have one x, and 0
@@ -35,14 +48,168 @@ pub const TIED_RECORDS: [Record; 4] = [
     Record::NEVER,
 ];
 
-/// The lists of codes that question 2 takes (01 and 02, request 6).
-pub const CODES_TAKEN: [&[u16]; 6] = [
+/// Marks and their popups, the records that they are scheduled with, and what all places
+/// show at some zooms, each in 64ths with the only byte of its map.
+#[derive(Clone, Copy, Debug)]
+pub struct PopupExample {
+    pub marks: &'static [Mark],
+    pub popups: &'static [u32],
+    pub records: &'static [Record],
+    pub shown: &'static [(u32, u8)],
+}
+
+/// Worked examples of popups.
+pub const POPUP_EXAMPLES: [PopupExample; 11] = [
+    // P1 without popups. 0 and 1, as 1 and 2, touch at 64 times zoom 320; 0 and 2 at 640.
+    PopupExample {
+        marks: &P1,
+        popups: &[0; 4],
+        records: &[
+            Record::NEVER,
+            Record::new(0, 10_000, 400),
+            Record::new(0, 40_000, 400),
+            Record::new(0, 9, 225),
+        ],
+        shown: &[(1, 0x0f), (12, 0x0f), (13, 0x07), (320, 0x05), (640, 0x01)],
+    },
+    // 1 would pop up where it goes. Its popup value does not exceed the touching value, of
+    // which it keeps the numbers, and it never lives.
+    PopupExample {
+        marks: &P1,
+        popups: &[0, 320, 0, 0],
+        records: &[
+            Record::NEVER,
+            Record::new(0, 10_000, 400),
+            Record::new(0, 40_000, 400),
+            Record::new(0, 9, 225),
+        ],
+        shown: &[(1, 0x0d), (319, 0x05), (320, 0x05), (321, 0x05)],
+    },
+    // One 64th later it goes at its popup. So it does not remove 2 there.
+    PopupExample {
+        marks: &P1,
+        popups: &[0, 321, 0, 0],
+        records: &[
+            Record::NEVER,
+            Record::new(0, 103_041, 4_096),
+            Record::new(0, 40_000, 400),
+            Record::new(0, 9, 225),
+        ],
+        shown: &[(1, 0x0d), (320, 0x05), (321, 0x05), (640, 0x01)],
+    },
+    // One 64th sooner it lives for that long.
+    PopupExample {
+        marks: &P1,
+        popups: &[0, 319, 0, 0],
+        records: &[
+            Record::NEVER,
+            Record::new(0, 10_000, 400),
+            Record::new(0, 40_000, 400),
+            Record::new(0, 9, 225),
+        ],
+        shown: &[(318, 0x05), (319, 0x07), (320, 0x05)],
+    },
+    // 0, which is the root of the index, pops up last of all. Until then 1 ranks highest.
+    // With 2 its pair value is their touching value, which equals its popup value; but 2 is
+    // gone.
+    PopupExample {
+        marks: &P1,
+        popups: &[640, 0, 0, 0],
+        records: &[
+            Record::NEVER,
+            Record::new(0, 409_600, 4_096),
+            Record::new(1, 10_000, 400),
+            Record::new(1, 10_009, 225),
+        ],
+        shown: &[
+            (1, 0x0e),
+            (319, 0x0e),
+            (320, 0x0a),
+            (426, 0x0a),
+            (427, 0x02),
+            (639, 0x02),
+            (640, 0x01),
+        ],
+    },
+    // The same at the largest zoom.
+    PopupExample {
+        marks: &P1,
+        popups: &[65_536, 0, 0, 0],
+        records: &[
+            Record::NEVER,
+            Record::new(0, 4_294_967_296, 4_096),
+            Record::new(1, 10_000, 400),
+            Record::new(1, 10_009, 225),
+        ],
+        shown: &[(1, 0x0e), (640, 0x02), (65_535, 0x02), (65_536, 0x01)],
+    },
+    // All pop up at once, and the highest-ranked removes all others there.
+    PopupExample {
+        marks: &P1,
+        popups: &[65_536; 4],
+        records: &[
+            Record::NEVER,
+            Record::new(0, 4_294_967_296, 4_096),
+            Record::new(0, 4_294_967_296, 4_096),
+            Record::new(0, 4_294_967_296, 4_096),
+        ],
+        shown: &[(1, 0x00), (65_535, 0x00), (65_536, 0x01)],
+    },
+    // The larger popup counts, whichever of the two has it: 3 pops up at 64, and 0 at 128.
+    PopupExample {
+        marks: &P1,
+        popups: &[128, 0, 0, 64],
+        records: &[
+            Record::NEVER,
+            Record::new(0, 10_000, 400),
+            Record::new(0, 40_000, 400),
+            Record::new(0, 16_384, 4_096),
+        ],
+        shown: &[
+            (63, 0x06),
+            (64, 0x0e),
+            (127, 0x0e),
+            (128, 0x07),
+            (319, 0x07),
+        ],
+    },
+    // At one place the higher-ranked one pops up, and the other goes.
+    PopupExample {
+        marks: &P5,
+        popups: &[64, 0],
+        records: &[Record::NEVER, Record::new(0, 4_096, 4_096)],
+        shown: &[(1, 0x02), (63, 0x02), (64, 0x01)],
+    },
+    // And the lower-ranked one never lives.
+    PopupExample {
+        marks: &P5,
+        popups: &[0, 64],
+        records: &[Record::NEVER, Record::new(0, 4_096, 4_096)],
+        shown: &[(1, 0x01), (64, 0x01), (65, 0x01)],
+    },
+    // They touch beyond every popup.
+    PopupExample {
+        marks: &P6,
+        popups: &[65_536, 65_535],
+        records: &[Record::NEVER, Record::new(0, 8_589_672_450, 4)],
+        shown: &[(65_534, 0x00), (65_535, 0x02), (65_536, 0x03)],
+    },
+];
+
+/// The lists of codes that question 2 takes (01, and 02, requests 6 and 9).
+pub const CODES_TAKEN: [&[u16]; 12] = [
     &[1],
     &[1, 2],
     &[1, 4],
+    &[1, 5],
     &[1, 2, 3],
     &[1, 2, 4],
+    &[1, 2, 5],
+    &[1, 4, 5],
     &[1, 2, 3, 4],
+    &[1, 2, 3, 5],
+    &[1, 2, 4, 5],
+    &[1, 2, 3, 4, 5],
 ];
 
 /// A small generator of numbers (shifts and exclusive ors of one 64-bit word).
@@ -133,6 +300,76 @@ pub fn marks(shape: Shape, n: usize, seed: u64) -> Vec<Mark> {
     marks.collect()
 }
 
+/// How the marks of a sample pop up.
+#[derive(Clone, Copy, Debug, PartialEq, Eq)]
+pub enum Popups {
+    /// All are there from the start.
+    Zero,
+    /// All before zoom 1.
+    Early,
+    /// One in four at any zoom, the others from the start.
+    Few,
+    /// Each at any zoom, of which small ones are as many as large ones.
+    Any,
+    /// All from zoom 256 on.
+    Late,
+    /// Each where it would first touch some other mark, to the nearest 64th, or one 64th
+    /// before or after that: many popup values equal the touching value, or nearly so.
+    Touching,
+    /// At two zooms, so that many pop up together.
+    Together,
+    /// At the ends of the range.
+    Ends,
+}
+
+impl Popups {
+    /// Every way to pop up.
+    pub const ALL: [Self; 8] = [
+        Self::Zero,
+        Self::Early,
+        Self::Few,
+        Self::Any,
+        Self::Late,
+        Self::Touching,
+        Self::Together,
+        Self::Ends,
+    ];
+}
+
+/// The popups of some marks by a seed.
+pub fn popups(how: Popups, marks: &[Mark], seed: u64) -> Vec<u32> {
+    let mut generator = Generator::new(seed);
+    let two = [(); 2].map(|()| any_popup(&mut generator));
+    let mut popup = |mark: &Mark| match how {
+        Popups::Zero => 0,
+        Popups::Early => generator.below(64),
+        Popups::Few if generator.below(4) > 0 => 0,
+        Popups::Few | Popups::Any => any_popup(&mut generator),
+        Popups::Late => LARGEST_POPUP - generator.below(49_153),
+        Popups::Touching => popup_about(&mut generator, mark, marks),
+        Popups::Together => generator.choose(&two),
+        Popups::Ends => generator.choose(&[0, 1, LARGEST_POPUP - 1, LARGEST_POPUP]),
+    };
+    marks.iter().map(&mut popup).collect()
+}
+
+/// A popup from the whole range; each power of two is as likely as the next.
+fn any_popup(generator: &mut Generator) -> u32 {
+    generator.below(LARGEST_POPUP + 1) >> generator.below(17)
+}
+
+/// A popup about the zoom at which a mark touches one of some others; of a few that are
+/// tried, one elsewhere, which it touches at a whole 64th, if there is such a one.
+fn popup_about(generator: &mut Generator, mark: &Mark, others: &[Mark]) -> u32 {
+    let tried = [(); 8].map(|()| touching_value(mark, &generator.choose(others)));
+    let nearest = |value| removal_zoom_in_64ths(value) as u32;
+    let exact = |value: &Fraction| value.compare(zoom_squared(nearest(*value))).is_eq();
+    let mut elsewhere = tried.into_iter().filter(|value| value.numerator > 0);
+    let found = elsewhere.clone().find(exact).or(elsewhere.next());
+    let moved = nearest(found.unwrap_or(tried[0])) + generator.choose(&[0, 1, 1, 1, 2]);
+    moved.saturating_sub(1).min(LARGEST_POPUP)
+}
+
 /// Marks on four points with two radii and two priorities, whose sheets are full of
 /// ties.
 pub fn small_choice() -> Vec<Mark> {
@@ -158,7 +395,7 @@ pub fn raw_sheet(entries: &[(u16, u32, u32)], body: &[u8]) -> Vec<u8> {
     sheet
 }
 
-/// Sheets that questions 1 to 10 and 19 refuse, each with the number of the first that
+/// Sheets that questions 1 to 10, 19 and 21 refuse, each with the number of the first that
 /// does. The next one in turn would refuse it, too; but a sheet that 9 is asked of has the
 /// parts that 10 asks for, so that 8 stands once before either.
 pub fn refused_sheets() -> Vec<(Refusal, Vec<u8>)> {
@@ -168,6 +405,8 @@ pub fn refused_sheets() -> Vec<(Refusal, Vec<u8>)> {
     let part_1 = write_marks(&P1);
     let part_2 = write_records(&schedule_by_process(Edition::First.reel(&P1)));
     let (no_records, no_tree) = (vec![0; part_2.len()], [0; 8]);
+    let part_5 = write_popups(&[0; 4]);
+    let beyond = write_popups(&[0, LARGEST_POPUP, LARGEST_POPUP + 1, 0]);
     vec![
         (1, raw_sheet(&[(9, 0, 0); 8], &[])),
         (2, raw_sheet(&[(2, 0, 5)], &[])),
@@ -177,21 +416,37 @@ pub fn refused_sheets() -> Vec<(Refusal, Vec<u8>)> {
         (6, join(&[&write_marks(&[large]), &[0; 3]])),
         (7, join(&[&part_1, &no_records, &[], &[3]])),
         (7, join_parts(&[(1, &part_1), (2, &[]), (4, &[])])),
+        (7, join_parts(&[(1, &part_1), (2, &[]), (5, &[])])),
         (19, join(&[&part_1, &no_records, &no_tree, &[0]])),
+        (19, join(&[&part_1, &no_records, &no_tree, &[0], &beyond])),
         (
             19,
             join_parts(&[(1, &part_1), (2, &no_records), (4, &[1, 1])]),
         ),
         (19, join_parts(&[(1, &part_1), (4, &[])])),
+        (19, join_parts(&[(1, &part_1), (4, &[3]), (5, &[])])),
+        (21, join(&[&part_1, &no_records, &no_tree, &[2], &beyond])),
+        (
+            21,
+            join_parts(&[(1, &part_1), (2, &no_records), (5, &part_5[1..])]),
+        ),
+        (21, join_parts(&[(1, &part_1), (5, &beyond)])),
+        (21, join_parts(&[(1, &part_1), (4, &[1]), (5, &[])])),
+        (21, join_parts(&[(1, &[]), (5, &part_5)])),
+        (8, join(&[&part_1, &no_records, &no_tree, &[2], &part_5])),
         (8, join(&[&part_1, &no_records, &no_tree, &[2]])),
         (8, join(&[&part_1, &no_records, &no_tree])),
         (8, join(&[&part_1, &no_records])),
         (9, join(&[&part_1, &part_2, &no_tree])),
+        (9, join(&[&part_1, &part_2, &no_tree, &[1], &part_5])),
         (10, join(&[&part_1, &part_2])),
         (10, join_parts(&[(1, &part_1), (2, &part_2), (4, &[1])])),
+        (10, join_parts(&[(1, &part_1), (2, &part_2), (5, &part_5)])),
         (10, join(&[&part_1])),
         (10, join_parts(&[(1, &part_1), (4, &[2])])),
+        (10, join_parts(&[(1, &part_1), (5, &part_5)])),
         (10, join(&[&[], &[]])),
+        (10, join_parts(&[(1, &[]), (5, &[])])),
         (10, join(&[&[]])),
     ]
 }
@@ -296,11 +551,59 @@ mod tests {
     }
 
     #[test]
+    fn every_sample_has_a_popup_for_each_mark_that_is_taken() {
+        for how in Popups::ALL {
+            for n in [0, 1, 100, 4_096] {
+                let marks = marks(Shape::Grid, n, 1);
+                let part_5 = write_popups(&popups(how, &marks, 2));
+                assert_eq!(part_5.len(), 4 * n);
+                let sheet = join_parts(&[(1, &write_marks(&marks)), (5, &part_5)]);
+                assert_eq!(check(&sheet), 0);
+            }
+        }
+    }
+
+    #[test]
     fn seeds_give_different_samples() {
         for shape in Shape::ALL {
             assert_ne!(marks(shape, 50, 0), marks(shape, 50, 1));
             assert_ne!(marks(shape, 50, 0), marks(shape, 50, u64::MAX));
         }
+        let sample = marks(Shape::Line, 50, 0);
+        for how in Popups::ALL {
+            let differ = popups(how, &sample, 0) != popups(how, &sample, 1);
+            assert_eq!(differ, how != Popups::Zero);
+        }
+    }
+
+    #[test]
+    fn the_samples_pop_up_as_they_say() {
+        let sample = marks(Shape::Grid, 999, 5);
+        let drawn = |how| popups(how, &sample, 5);
+        assert_eq!(drawn(Popups::Zero), [0; 999]);
+        assert!(drawn(Popups::Early).iter().all(|&k| k < 64));
+        let zeros = drawn(Popups::Few).iter().filter(|&&k| k == 0).count();
+        assert!((600..900).contains(&zeros));
+        assert!(drawn(Popups::Late).iter().all(|&k| k >= 16_384));
+        assert!(drawn(Popups::Any).iter().any(|&k| k > 32_768));
+        assert!(drawn(Popups::Ends).contains(&LARGEST_POPUP));
+        let mut together = drawn(Popups::Together);
+        together.sort_unstable();
+        together.dedup();
+        assert_eq!(together.len(), 2);
+    }
+
+    #[test]
+    fn many_popup_values_equal_a_touching_value() {
+        let sample = marks(Shape::Grid, 50, 6);
+        let equals = |mark: &Mark, k: u32| {
+            let value = zoom_squared(k);
+            let touching = |other| touching_value(mark, other);
+            k > 0 && sample.iter().any(|it| touching(it).compare(value).is_eq())
+        };
+        let drawn = popups(Popups::Touching, &sample, 6);
+        let marks = sample.iter().zip(drawn);
+        assert!(marks.filter(|&(mark, k)| equals(mark, k)).count() > 15);
     }
 
     #[test]

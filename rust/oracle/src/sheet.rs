@@ -1,14 +1,17 @@
-//! The whole sheet: questions 4 to 9 and 19, and three of the five jobs, checking,
+//! The whole sheet: questions 4 to 9, 19 and 21, and three of the five jobs, checking,
 //! scheduling and putting together (01, 'The sheet: contents, then bodies' and
-//! 'Questions put in turn'; 02, request 6).
+//! 'Questions put in turn'; 02, requests 6 and 9).
 
 pub use crate::contents::{join, join_parts, split};
 
 use crate::contents::{codes_fit, count_fits, extent, Bodies, Part, ENTRY_BYTES};
-use crate::mark::{touching_value, Group, Mark, LARGEST_RADIUS, MARK_BYTES, MOST_MARKS};
+use crate::fraction::Fraction;
+use crate::mark::{Group, Mark, LARGEST_RADIUS, MARK_BYTES, MOST_MARKS};
+use crate::popup::{popup_fits, read_popup, read_popups, POPUP_BYTES};
 use crate::process::schedule_by_sorted_pairs;
-use crate::rank::{Edition, RankKey, Reel};
+use crate::rank::{Edition, RankKey};
 use crate::record::{read_records, write_records, Record, RECORD_BYTES};
+use crate::reel::Reel;
 use crate::tree::{self, read_tree, write_tree, INDEX_BYTES};
 use crate::{ask, Refusal};
 
@@ -34,29 +37,32 @@ pub const fn part_lengths(n: usize) -> [usize; 3] {
     [MARK_BYTES * n, RECORD_BYTES * n, INDEX_BYTES * n]
 }
 
-/// The parts of a sheet that questions 1 to 7 and 19 take, row by row as they stand in
-/// the caller's bytes: as many records and numbers of the index as marks, where they are
-/// there; and the edition, where part 4 names one.
+/// The parts of a sheet that questions 1 to 7, 19 and 21 take, row by row as they stand in
+/// the caller's bytes: as many records, numbers of the index and popups as marks, where
+/// they are there; and the edition, where part 4 names one.
 #[derive(Clone, Copy, Debug)]
 pub struct Rows<'a> {
     pub marks: &'a [[u8; MARK_BYTES]],
     pub records: Option<&'a [[u8; RECORD_BYTES]]>,
     pub index: Option<&'a [[u8; INDEX_BYTES]]>,
     pub named: Option<Edition>,
+    pub popups: Option<&'a [[u8; POPUP_BYTES]]>,
 }
 
 impl<'a> Rows<'a> {
-    /// The rows of a sheet's bodies. Asks 4 to 7, and 19.
+    /// The rows of a sheet's bodies. Asks 4 to 7, 19, and 21.
     #[inline]
     pub fn of(bodies: &Bodies<'a>) -> Result<Self, Refusal> {
         let marks = mark_rows(bodies.part_1())?;
         ask(7, lengths_fit(bodies, marks.len()))?;
         let named = named_edition(bodies)?;
+        let popups = popup_rows(bodies, marks.len())?;
         Ok(Self {
             marks,
             records: bodies.get(2).map(|body| body.as_chunks().0),
             index: bodies.get(3).map(|body| body.as_chunks().0),
             named,
+            popups,
         })
     }
 
@@ -64,6 +70,12 @@ impl<'a> Rows<'a> {
     #[inline]
     pub fn edition(&self) -> Edition {
         self.named.unwrap_or_default()
+    }
+
+    /// The popup of mark number m.
+    #[inline]
+    pub fn popup(&self, m: usize) -> u32 {
+        self.popups.map_or(0, |popups| read_popup(&popups[m]))
     }
 }
 
@@ -99,6 +111,22 @@ fn named_edition(bodies: &Bodies) -> Result<Option<Edition>, Refusal> {
     bodies.get(4).map(edition).transpose()
 }
 
+/// The popups of n marks in part 5, if it is there. Asks 21: it is 4n bytes, and no popup
+/// exceeds 65,536.
+#[inline]
+fn popup_rows<'a>(
+    bodies: &Bodies<'a>,
+    n: usize,
+) -> Result<Option<&'a [[u8; POPUP_BYTES]]>, Refusal> {
+    let popups = |part_5: &'a [u8]| {
+        let (popups, rest) = part_5.as_chunks();
+        let fit = || popups.iter().map(read_popup).all(popup_fits);
+        ask(21, rest.is_empty() && popups.len() == n && fit())?;
+        Ok(popups)
+    };
+    bodies.get(5).map(popups).transpose()
+}
+
 /// An accepted sheet, opened: its bodies as they stand in the caller's bytes, and
 /// what they mean. A part that is there may still be empty.
 #[derive(Clone, Debug, PartialEq, Eq)]
@@ -108,12 +136,17 @@ pub struct Opened<'a> {
     pub records: Option<Vec<Record>>,
     pub tree: Option<Vec<u16>>,
     pub edition: Edition,
+    pub popups: Option<Vec<u32>>,
 }
 
 impl Opened<'_> {
     /// What decides the schedule of the marks.
     pub fn reel(&self) -> Reel<'_> {
-        self.edition.reel(&self.marks)
+        Reel {
+            marks: &self.marks,
+            edition: self.edition,
+            popups: self.popups.as_deref(),
+        }
     }
 
     /// The records of a sheet that has parts 2 and 3. Asks 10.
@@ -133,24 +166,28 @@ pub fn open(sheet: &[u8]) -> Result<Opened<'_>, Refusal> {
 /// Opens the bodies of a sheet. Asks 4 to 9.
 fn open_bodies(bodies: Bodies<'_>) -> Result<Opened<'_>, Refusal> {
     let rows = Rows::of(&bodies)?;
-    let edition = rows.edition();
-    let marks: Vec<Mark> = rows.marks.iter().map(Mark::read).collect();
-    let records = bodies.get(2).map(read_records);
-    if let Some(records) = &records {
-        let fits = |m| record_fits(edition, m, marks.len(), |m| marks[m], |m| records[m]);
-        ask(8, (0..marks.len()).all(fits))?;
-    }
-    let tree = bodies.get(3).map(read_tree);
-    if let (Some(records), Some(tree)) = (&records, &tree) {
-        ask(9, *tree == tree::build(&marks, records))?;
-    }
-    Ok(Opened {
+    let opened = Opened {
         bodies,
-        marks,
-        records,
-        tree,
-        edition,
-    })
+        marks: rows.marks.iter().map(Mark::read).collect(),
+        records: bodies.get(2).map(read_records),
+        tree: bodies.get(3).map(read_tree),
+        edition: rows.edition(),
+        popups: bodies.get(5).map(read_popups),
+    };
+    if let Some(records) = &opened.records {
+        ask(8, records_fit(opened.reel(), records))?;
+    }
+    if let (Some(records), Some(tree)) = (&opened.records, &opened.tree) {
+        ask(9, *tree == tree::build(&opened.marks, records))?;
+    }
+    Ok(opened)
+}
+
+/// Question 8 of the records of a reel, one for each mark.
+fn records_fit(reel: Reel, records: &[Record]) -> bool {
+    let (rank, pair) = (|m| reel.rank(m), |a, b| reel.pair_value(a, b));
+    let n = records.len();
+    (0..n).all(|m| record_fits(m, n, rank, pair, |m| records[m]))
 }
 
 /// Reads marks as they stand in part 1. Asks 4 to 6.
@@ -158,15 +195,15 @@ pub fn open_marks(part_1: &[u8]) -> Result<Vec<Mark>, Refusal> {
     Ok(mark_rows(part_1)?.iter().map(Mark::read).collect())
 }
 
-/// Question 8 of the record of mark m of n, by the marks and records of their numbers:
-/// it is the 'never' record; or it names a mark below n that ranks higher in this edition,
-/// with their touching value as its two unreduced numbers, and that mark is removed later.
+/// Question 8 of the record of mark m of n, by the ranks, pair values and records of their
+/// numbers: it is the 'never' record; or it names a higher-ranked mark below n, with their
+/// pair value as its two unreduced numbers, and that mark is removed later.
 #[inline]
 pub fn record_fits(
-    edition: Edition,
     m: usize,
     n: usize,
-    mark: impl Fn(usize) -> Mark,
+    rank: impl Fn(usize) -> RankKey,
+    pair: impl Fn(usize, usize) -> Fraction,
     record: impl Fn(usize) -> Record,
 ) -> bool {
     let own = record(m);
@@ -174,12 +211,9 @@ pub fn record_fits(
         return true;
     }
     let eliminator = usize::from(own.eliminator);
-    if eliminator >= n {
-        return false;
-    }
-    let (higher, lower) = (mark(eliminator), mark(m));
-    RankKey::of(edition, &higher, eliminator) < RankKey::of(edition, &lower, m)
-        && own.value == touching_value(&higher, &lower)
+    eliminator < n
+        && rank(eliminator) < rank(m)
+        && own.value == pair(eliminator, m)
         && record(eliminator).removal().later_than(own.value)
 }
 
@@ -250,8 +284,12 @@ mod tests {
     }
 
     #[test]
-    fn part_4_adds_11_bytes() {
-        assert_eq!(kept_bytes(&Bodies::of(&[(1, &[0; 22]), (2, &[])])), 0);
-        assert_eq!(kept_bytes(&Bodies::of(&[(1, &[]), (4, &[2])])), 11);
+    fn part_4_adds_11_bytes_and_part_5_10_and_4_a_mark() {
+        let kept = |parts: &[Part]| kept_bytes(&Bodies::of(parts));
+        assert_eq!(kept(&[(1, &[0; 22]), (2, &[])]), 0);
+        assert_eq!(kept(&[(1, &[]), (4, &[2])]), 11);
+        assert_eq!(kept(&[(1, &[]), (5, &[])]), 10);
+        assert_eq!(kept(&[(1, &[0; 22]), (5, &[0; 8])]), 10 + 4 * 2);
+        assert_eq!(kept(&[(1, &[0; 22]), (4, &[1]), (5, &[0; 8])]), 29);
     }
 }

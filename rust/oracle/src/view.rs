@@ -1,10 +1,11 @@
-//! The view and who is shown in it (01, 'The view and its map'; 02, requests 1 and 8).
+//! The view and who is shown in it (01, 'The view and its map'; 02, requests 1, 8 and 9).
 
 use crate::fraction::Removal;
 use crate::label::{squared_distance, Label};
 use crate::map::{map_bytes, set_bit};
 use crate::mark::Mark;
 use crate::record::removals;
+use crate::reel::Reel;
 use crate::sheet::open;
 use crate::turn::MOST_TURNS;
 use crate::zoom::{lives, zoom_in_64ths, Zoom};
@@ -79,15 +80,6 @@ pub fn disk_reaches(label: Label, edges: Edges, k: u32) -> bool {
     4_096 * squared_distance(dx, dy) <= k * k * (radius * radius)
 }
 
-/// Whether a mark is shown: it lives, and its disk reaches the rectangle.
-///
-/// # Panics
-///
-/// As [`reaches`] does.
-pub fn shown(mark: &Mark, removal: Removal, window: Window, k: u32) -> bool {
-    lives(removal, k) && reaches(mark, window, k)
-}
-
 /// Answers a view by looking at every mark: the bytes written to the map, and the
 /// count of shown marks. Asks 1 to 13.
 pub fn view(
@@ -100,21 +92,21 @@ pub fn view(
     let records = opened.indexed_records()?;
     let k = ask_view(window, zoom)?;
     ask(13, map_length >= map_bytes(opened.marks.len()))?;
-    Ok(map_and_count(&opened.marks, &removals(records), window, k))
+    Ok(map_and_count(opened.reel(), &removals(records), window, k))
 }
 
-/// The map of the shown marks, and their count.
-pub fn map_and_count(
-    marks: &[Mark],
-    removals: &[Removal],
-    window: Window,
-    k: u32,
-) -> (Vec<u8>, u32) {
-    let mut map = vec![0; map_bytes(marks.len())];
+/// The map of the shown marks of a reel, and their count. A mark is shown if it lives,
+/// by the removal value that a list names for it, and its disk reaches the rectangle.
+///
+/// # Panics
+///
+/// As [`reaches`] does.
+pub fn map_and_count(reel: Reel, list: &[Removal], window: Window, k: u32) -> (Vec<u8>, u32) {
+    let mut map = vec![0; map_bytes(list.len())];
     let mut count = 0;
-    for (number, (mark, &removal)) in marks.iter().zip(removals).enumerate() {
-        let shown = shown(mark, removal, window, k);
-        set_bit(&mut map, number, shown);
+    for (m, &removal) in list.iter().enumerate() {
+        let shown = lives(reel.popup(m), removal, k) && reaches(&reel.marks[m], window, k);
+        set_bit(&mut map, m, shown);
         count += u32::from(shown);
     }
     (map, count)

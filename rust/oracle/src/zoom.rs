@@ -1,5 +1,6 @@
 //! Zooms: which are taken, who lives at one, and the one that is printed (01, 'The view
-//! and its map' and 'The printed schedule'; 02, request 7). Zoom z is map units per pixel, and k = 64z.
+//! and its map' and 'The printed schedule'; 02, requests 7 and 9). Zoom z is map units per
+//! pixel, and k = 64z.
 
 use std::cmp::Ordering;
 
@@ -69,11 +70,18 @@ pub fn zoom_squared(k: u32) -> Fraction {
     Fraction::new(k * k, 4_096)
 }
 
-/// Whether a mark with this removal value lives at zoom k/64: the squared zoom is
-/// below the removal value, or it has none.
+/// Whether a mark with this removal value is not removed yet at zoom k/64: the squared
+/// zoom is below the removal value, or it has none.
 #[inline]
-pub fn lives(removal: Removal, k: u32) -> bool {
+pub fn remains(removal: Removal, k: u32) -> bool {
     removal.later_than(zoom_squared(k))
+}
+
+/// Whether a mark with this popup and removal value lives at zoom k/64: it is not removed
+/// yet, and "living also needs z² at least the mark's own popup value" (02, request 9).
+#[inline]
+pub fn lives(popup: u32, removal: Removal, k: u32) -> bool {
+    zoom_squared(popup).compare(zoom_squared(k)).is_le() && remains(removal, k)
 }
 
 /// The removal zoom to the nearest 64th, an exact half to the even number (02,
@@ -173,18 +181,33 @@ mod tests {
     #[test]
     fn a_mark_is_gone_at_its_own_removal_zoom() {
         let five = Removal::At(Fraction::new(10_000, 400));
-        assert!(lives(five, 319));
-        assert!(!lives(five, 320));
-        assert!(!lives(five, 321));
-        assert!(!lives(Removal::At(Fraction::new(0, 4)), 1));
+        assert!(lives(0, five, 319));
+        assert!(!lives(0, five, 320));
+        assert!(!lives(0, five, 321));
+        assert!(!lives(0, Removal::At(Fraction::new(0, 4)), 1));
+    }
+
+    #[test]
+    fn a_mark_is_there_from_its_popup_on() {
+        let five = Removal::At(Fraction::new(10_000, 400));
+        let from = |popup| [1, 200, 201, 319, 320, 65_536].map(|k| lives(popup, five, k));
+        assert_eq!(from(0), [true, true, true, true, false, false]);
+        assert_eq!(from(201), [false, false, true, true, false, false]);
+        assert_eq!(from(319), [false, false, false, true, false, false]);
+        // One that goes where it would pop up never lives.
+        assert_eq!(from(320), [false; 6]);
+        for popup in 1..=65_536 {
+            assert!(!lives(popup, Removal::Never, popup - 1));
+            assert!(lives(popup, Removal::Never, popup));
+        }
     }
 
     #[test]
     fn the_largest_zoom_is_compared_without_wrapping() {
         let million = 1 << 20; // z² at k = 65,536
-        assert!(lives(Removal::Never, 65_536));
-        assert!(lives(Removal::At(Fraction::new(million + 1, 1)), 65_536));
-        assert!(!lives(Removal::At(Fraction::new(million, 1)), 65_536));
+        assert!(lives(65_536, Removal::Never, 65_536));
+        assert!(remains(Removal::At(Fraction::new(million + 1, 1)), 65_536));
+        assert!(!remains(Removal::At(Fraction::new(million, 1)), 65_536));
     }
 
     #[test]

@@ -1,13 +1,16 @@
-//! Marks that come and go (02, request 5): examples, and each question answered with no
-//! in its turn.
+//! Marks that come and go (02, request 5), with their popups (request 9): examples, and
+//! each question answered with no in its turn.
 
 mod common;
 
 use common::{
-    one_part, scheduled, scheduled_by, three_parts, with_edition, with_part_4, EDITION, OUT, WORK,
+    each_popping_up, five_parts, one_part, popup_bytes, scheduled, scheduled_by,
+    scheduled_popping_up, three_parts, with_edition, with_part, with_part_4, with_popups, EDITION,
+    LONGEST, OUT, WORK,
 };
 use oracle::change::{add, take_out};
 use oracle::mark::{read_marks, Mark};
+use oracle::popup::read_popups;
 use oracle::process::schedule_in_rank_order;
 use oracle::rank::Edition;
 use oracle::record::{read_records, Record};
@@ -40,14 +43,19 @@ const fn with(kind: u8, radius: u16) -> Mark {
     }
 }
 
-/// Adds a mark in buffers that are long enough for any sheet.
+/// Adds a mark without a popup in buffers that are long enough for any sheet.
 fn add_large(sheet: &[u8], mark: Mark) -> Result<Vec<u8>, u32> {
-    add(sheet, mark, WORK, OUT + EDITION)
+    add_popping_up(sheet, mark, 0)
+}
+
+/// Adds a mark with a popup in buffers that are long enough for any sheet.
+fn add_popping_up(sheet: &[u8], mark: Mark, popup: u32) -> Result<Vec<u8>, u32> {
+    add(sheet, mark, popup, WORK, LONGEST)
 }
 
 /// Takes a mark out in buffers that are long enough for any sheet.
 fn take_out_large(sheet: &[u8], m: u32) -> Result<Vec<u8>, u32> {
-    take_out(sheet, m, WORK, OUT + EDITION)
+    take_out(sheet, m, WORK, LONGEST)
 }
 
 /// The records of a sheet of three parts.
@@ -109,7 +117,7 @@ fn the_new_mark_stands_at_the_end_as_it_was_given() {
 #[test]
 fn a_mark_alone_comes_and_goes() {
     let empty = scheduled(&[]);
-    let one = add(&empty, NEW, 1_056, 59).unwrap();
+    let one = add(&empty, NEW, 0, 1_056, 59).unwrap();
     assert_eq!(one, scheduled(&[NEW]));
     assert_eq!(take_out(&one, 0, 1_024, 32).unwrap(), empty);
     assert_eq!(take_out_large(&empty, 0), Err(17));
@@ -195,6 +203,85 @@ fn a_larger_mark_of_equal_priority_comes_and_goes() {
     }
 }
 
+#[test]
+fn p1_comes_and_goes_with_its_popups() {
+    let popups = [640, 0, 321, 65_536];
+    let mut sheet = scheduled_popping_up(&[], &[]);
+    for n in 0..P1.len() {
+        sheet = add_popping_up(&sheet, P1[n], popups[n]).unwrap();
+        assert_eq!(sheet, scheduled_popping_up(&P1[..=n], &popups[..=n]));
+    }
+    assert_eq!(read_popups(split(&sheet).unwrap().get(5).unwrap()), popups);
+    for n in 0..P1.len() {
+        sheet = take_out_large(&sheet, 0).unwrap();
+        assert_eq!(sheet, scheduled_popping_up(&P1[n + 1..], &popups[n + 1..]));
+    }
+    // Part 5 of no marks is still there.
+    assert_eq!(sheet.len(), 42);
+    assert_eq!(split(&sheet).unwrap().get(5), Some(&[][..]));
+}
+
+#[test]
+fn the_popup_of_each_mark_taken_out_goes_with_it() {
+    let popups = [5, 260, 65_536, 0];
+    let sheet = scheduled_popping_up(&P1, &popups);
+    for m in 0..4 {
+        let (mut marks, mut left) = (P1.to_vec(), popups.to_vec());
+        marks.remove(m);
+        left.remove(m);
+        let expected = scheduled_popping_up(&marks, &left);
+        assert_eq!(take_out_large(&sheet, m as u32), Ok(expected));
+    }
+}
+
+#[test]
+fn without_part_5_a_popup_is_0_and_none_is_written() {
+    for sheet in [
+        scheduled(&P1),
+        scheduled_by(Edition::Second, &P1),
+        scheduled(&[]),
+    ] {
+        let more = add_popping_up(&sheet, NEW, 0).unwrap();
+        assert_eq!(split(&more).unwrap().get(5), None);
+        for popup in [1, 64, 65_536, 65_537, u32::MAX] {
+            assert_eq!(add_popping_up(&sheet, NEW, popup), Err(21), "{popup}");
+        }
+    }
+}
+
+#[test]
+fn marks_come_and_go_by_the_sheets_own_edition_and_popups() {
+    let mut generator = Generator::new(3);
+    each_popping_up(&[1, 2, 7, 20], |marks, popups| {
+        let mut sample = marks.to_vec();
+        sample.iter_mut().for_each(|mark| mark.priority &= 1);
+        let m = generator.below(sample.len() as u32) as usize;
+        for edition in Edition::ALL {
+            let of = |marks: &[Mark], popups: &[u32]| {
+                five_parts(edition.reel(marks).with_popups(popups))
+            };
+            let (all, (last, others)) = (of(&sample, popups), sample.split_last().unwrap());
+            let (popup, earlier) = popups.split_last().unwrap();
+            let fewer = of(others, earlier);
+            assert_eq!(add_popping_up(&fewer, *last, *popup).as_ref(), Ok(&all));
+            assert_eq!(take_out_large(&all, others.len() as u32), Ok(fewer));
+            let (mut left, mut popups) = (sample.clone(), popups.to_vec());
+            left.remove(m);
+            popups.remove(m);
+            assert_eq!(take_out_large(&all, m as u32), Ok(of(&left, &popups)));
+        }
+    });
+}
+
+#[test]
+fn a_schedule_by_other_popups_is_fresh_after_a_change() {
+    // All 'never' is taken with any popups.
+    let popups = [0, 640, 0, 12];
+    let never = with_popups(&three_parts(&P1, &[Record::NEVER; 4]), &popups);
+    let both = add_popping_up(&never, NEW, 65_536).and_then(|sheet| take_out_large(&sheet, 4));
+    assert_eq!(both, Ok(scheduled_popping_up(&P1, &popups)));
+}
+
 // ---- refusals
 
 #[test]
@@ -202,8 +289,8 @@ fn questions_1_to_10_come_first() {
     let (_, unknown) = REFUSED[0];
     for (number, sheet) in refused_sheets() {
         for (work, out) in [(0, 0), (WORK, OUT)] {
-            for mark in [NEW, unknown] {
-                assert_eq!(add(&sheet, mark, work, out), Err(number));
+            for (mark, popup) in [(NEW, 0), (NEW, 1), (unknown, 0), (unknown, 65_537)] {
+                assert_eq!(add(&sheet, mark, popup, work, out), Err(number));
             }
             for m in [0, 4, 65_536, u32::MAX] {
                 assert_eq!(take_out(&sheet, m, work, out), Err(number));
@@ -231,6 +318,17 @@ fn question_19_before_10_17_and_18() {
 }
 
 #[test]
+fn question_21_of_the_sheet_before_10_17_and_18() {
+    let full = marks(Shape::Grid, 4_096, 1);
+    let damaged = with_part(&one_part(&full), 5, &[0; 4]);
+    assert_eq!(add_large(&damaged, NEW), Err(21));
+    assert_eq!(take_out_large(&damaged, 4_096), Err(21));
+    let unscheduled = with_popups(&one_part(&full), &[0; 4_096]);
+    assert_eq!(add_popping_up(&unscheduled, NEW, 65_537), Err(10));
+    assert_eq!(take_out_large(&unscheduled, 4_096), Err(10));
+}
+
+#[test]
 fn question_17_is_of_the_whole_number() {
     let sheet = scheduled(&P1);
     assert!(take_out_large(&sheet, 3).is_ok());
@@ -254,25 +352,41 @@ fn question_17_before_13() {
 }
 
 #[test]
-fn questions_18_5_6_and_13_in_this_order() {
+fn questions_18_5_6_21_and_13_in_this_order() {
     let full = marks(Shape::OnePlace, 4_096, 1);
     let never = [Record::NEVER; 4_096];
-    let (most, fewer) = (
-        three_parts(&full, &never),
-        three_parts(&full[1..], &never[1..]),
-    );
-    for (number, mark) in REFUSED {
-        for (work, out) in [(0, 0), (WORK, OUT)] {
-            assert_eq!(add(&most, mark, work, out), Err(18));
-            assert_eq!(add(&fewer, mark, work, out), Err(number));
+    let most = three_parts(&full, &never);
+    let fewer = three_parts(&full[1..], &never[1..]);
+    let more = popup_bytes(4_096);
+    // Without part 5 every popup but 0 is refused, and with it those above 65,536.
+    for (most, fewer, taken, refused, out) in [
+        (&most, &fewer, [0; 3], [1, 65_536, 65_537], OUT),
+        (
+            &with_popups(&most, &[0; 4_096]),
+            &with_popups(&fewer, &[0; 4_095]),
+            [0, 1, 65_536],
+            [65_537, 131_072, u32::MAX],
+            OUT + more,
+        ),
+    ] {
+        for (work, out) in [(0, 0), (WORK, out)] {
+            for popup in taken.into_iter().chain(refused) {
+                for (number, mark) in REFUSED {
+                    assert_eq!(add(most, mark, popup, work, out), Err(18));
+                    assert_eq!(add(fewer, mark, popup, work, out), Err(number));
+                }
+                assert_eq!(add(most, NEW, popup, work, out), Err(18));
+            }
+            for popup in refused {
+                assert_eq!(add(fewer, NEW, popup, work, out), Err(21));
+            }
+        }
+        for popup in taken {
+            assert_eq!(add(fewer, NEW, popup, WORK - 1, out), Err(13));
+            assert_eq!(add(fewer, NEW, popup, WORK, out - 1), Err(13));
+            assert_eq!(add(fewer, with(199, 16_383), popup, 0, 0), Err(13));
         }
     }
-    for (work, out) in [(0, 0), (WORK, OUT)] {
-        assert_eq!(add(&most, NEW, work, out), Err(18));
-    }
-    assert_eq!(add(&fewer, NEW, WORK - 1, OUT), Err(13));
-    assert_eq!(add(&fewer, NEW, WORK, OUT - 1), Err(13));
-    assert_eq!(add(&fewer, with(199, 16_383), 0, 0), Err(13));
 }
 
 #[test]
@@ -287,23 +401,28 @@ fn the_last_mark_that_is_held_comes_and_goes() {
 }
 
 #[test]
-fn question_13_goes_by_the_new_number_of_marks_and_by_part_4() {
+fn question_13_goes_by_the_new_number_of_marks_and_by_parts_4_and_5() {
     for n in 0..=4 {
         let sheet = scheduled(&P1[..n]);
-        question_13(&sheet, n, 0);
+        let popping_up = with_popups(&sheet, &[0; 4][..n]);
+        question_13(&sheet, n, |_| 0);
+        question_13(&popping_up, n, popup_bytes);
         for edition in Edition::ALL {
-            question_13(&with_edition(&sheet, edition), n, EDITION);
+            question_13(&with_edition(&sheet, edition), n, |_| EDITION);
+            let both = with_edition(&popping_up, edition);
+            question_13(&both, n, |n| EDITION + popup_bytes(n));
         }
     }
 }
 
-/// Asks 13 of changes of a sheet of n marks, with so many bytes more to write.
-fn question_13(sheet: &[u8], n: usize, more: usize) {
-    let lengths = |n: usize| (work_bytes(n), scheduled_bytes(n) + more);
+/// Asks 13 of changes of a sheet of n marks, where so many bytes more are written for a
+/// number of marks.
+fn question_13(sheet: &[u8], n: usize, more: fn(usize) -> usize) {
+    let lengths = |n: usize| (work_bytes(n), scheduled_bytes(n) + more(n));
     let (work, out) = lengths(n + 1);
-    assert_eq!(add(sheet, NEW, work, out).unwrap().len(), out);
-    assert_eq!(add(sheet, NEW, work - 1, out), Err(13));
-    assert_eq!(add(sheet, NEW, work, out - 1), Err(13));
+    assert_eq!(add(sheet, NEW, 0, work, out).unwrap().len(), out);
+    assert_eq!(add(sheet, NEW, 0, work - 1, out), Err(13));
+    assert_eq!(add(sheet, NEW, 0, work, out - 1), Err(13));
     let Some(fewer) = n.checked_sub(1) else {
         return;
     };

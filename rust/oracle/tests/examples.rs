@@ -14,7 +14,7 @@ use oracle::rank::Edition::{self, First, Second};
 use oracle::record::{read_records, removals, Record};
 use oracle::report::print;
 use oracle::rules::{keep_both, Breach};
-use oracle::sample::{P1, TIED_IN_TREE, TIED_RECORDS};
+use oracle::sample::{P1, P5, P6, TIED_IN_TREE, TIED_RECORDS};
 use oracle::sheet::{check, open, split};
 use oracle::tree;
 use oracle::view::{reaches, view, Edges, Window};
@@ -72,16 +72,13 @@ fn p4() {
 
 #[test]
 fn p5() {
-    let marks = [Mark::plain(7, 7, 1, 5), Mark::plain(7, 7, 1, 5)];
-    assert_eq!(records(&marks), [Record::NEVER, Record::new(0, 0, 4)]);
+    assert_eq!(records(&P5), [Record::NEVER, Record::new(0, 0, 4)]);
 }
 
 #[test]
 fn p6() {
-    let low = Mark::plain(-32_768, -32_768, 1, 0);
-    let high = Mark::plain(32_767, 32_767, 1, 0);
     let expected = [Record::NEVER, Record::new(0, 8_589_672_450, 4)];
-    assert_eq!(records(&[low, high]), expected);
+    assert_eq!(records(&P6), expected);
 }
 
 #[test]
@@ -397,14 +394,12 @@ fn a_priority_counts_before_a_radius() {
 #[test]
 fn the_examples_are_the_same_in_both_editions() {
     // Where their priorities are equal, so are their radii.
-    let p5 = [Mark::plain(7, 7, 1, 5), Mark::plain(7, 7, 1, 5)];
-    let p6 = [i16::MIN, i16::MAX].map(|place| Mark::plain(place, place, 1, 0));
     let p11 = [
         Mark::plain(60, 0, 2, 5),
         Mark::plain(-100, 0, 10, 9),
         Mark::plain(0, 0, 10, 1),
     ];
-    for marks in [&P1[..], &p5, &p6, &p11, &[]] {
+    for marks in [&P1[..], &P5, &P6, &p11, &[]] {
         for edition in Edition::ALL {
             let expected = with_edition(&scheduled(marks), edition);
             assert_eq!(scheduled_by(edition, marks), expected);

@@ -1,13 +1,13 @@
 //! The three ways to schedule agree, on sheets full of ties and at the ends of
-//! every range, in both editions.
+//! every range, in both editions, with popups and without.
 
 use oracle::fraction::Fraction;
 use oracle::mark::Mark;
 use oracle::process::{schedule_by_process, schedule_by_sorted_pairs, schedule_in_rank_order};
 use oracle::rank::Edition::{self, First, Second};
-use oracle::rank::Reel;
 use oracle::record::Record;
-use oracle::sample::{marks, small_choice, Shape};
+use oracle::reel::Reel;
+use oracle::sample::{each_list, marks, popups, small_choice, Popups, Shape};
 
 /// The schedule of the process, once the two others are seen to give it too.
 fn schedule_reel(reel: Reel) -> Vec<Record> {
@@ -45,6 +45,40 @@ fn all_agree_on_small_samples() {
 }
 
 #[test]
+fn all_agree_on_small_samples_that_pop_up() {
+    let (mut ties, mut differing) = (0, 0);
+    for (shape, how) in Shape::ALL
+        .into_iter()
+        .flat_map(|shape| Popups::ALL.map(|how| (shape, how)))
+    {
+        for seed in 0..80 {
+            let marks = marks(shape, seed as usize % 12, seed);
+            let popups = popups(how, &marks, seed);
+            for edition in Edition::ALL {
+                let reel = edition.reel(&marks);
+                let records = schedule_reel(reel.with_popups(&popups));
+                ties += usize::from(tied(&records));
+                differing += usize::from(records != schedule_reel(reel));
+            }
+        }
+    }
+    assert!(ties > 1_000, "only {ties} samples have a tie");
+    assert!(differing > 3_000, "only {differing} schedules are others");
+}
+
+#[test]
+fn all_agree_on_every_choice_of_a_few_popups() {
+    // On this line marks touch at 64ths that are among the popups: 16, 32, 48 and 64.
+    let marks =
+        [(0, 5), (1, 7), (2, 5), (3, 6)].map(|(x, priority)| Mark::plain(x, 0, 2, priority));
+    each_list(&[0, 16, 17, 32, 47, 48, 65_536], 4, &mut |popups| {
+        for edition in Edition::ALL {
+            schedule_reel(edition.reel(&marks).with_popups(popups));
+        }
+    });
+}
+
+#[test]
 fn all_agree_on_every_sheet_of_three_marks_from_a_small_choice() {
     let choice = small_choice();
     for &a in &choice {
@@ -59,7 +93,11 @@ fn all_agree_on_every_sheet_of_three_marks_from_a_small_choice() {
 #[test]
 fn all_agree_on_middling_samples() {
     for shape in Shape::ALL {
-        schedule(&marks(shape, 40, 77));
+        let marks = marks(shape, 40, 77);
+        schedule(&marks);
+        for how in Popups::ALL {
+            schedule_reel(First.reel(&marks).with_popups(&popups(how, &marks, 77)));
+        }
     }
 }
 
@@ -67,8 +105,11 @@ fn all_agree_on_middling_samples() {
 fn the_two_faster_ones_agree_on_larger_samples() {
     for shape in Shape::ALL {
         let marks = marks(shape, 250, 3);
+        let popups = popups(Popups::Any, &marks, 3);
         for reel in Edition::ALL.map(|edition| edition.reel(&marks)) {
-            assert_eq!(schedule_by_sorted_pairs(reel), schedule_in_rank_order(reel));
+            for reel in [reel, reel.with_popups(&popups)] {
+                assert_eq!(schedule_by_sorted_pairs(reel), schedule_in_rank_order(reel));
+            }
         }
     }
 }
@@ -77,10 +118,13 @@ fn the_two_faster_ones_agree_on_larger_samples() {
 fn exactly_the_highest_ranked_mark_is_never_removed() {
     for shape in Shape::ALL {
         let marks = marks(shape, 30, 11);
+        let popups = popups(Popups::Late, &marks, 11);
         for reel in Edition::ALL.map(|edition| edition.reel(&marks)) {
-            let records = schedule_reel(reel);
-            let kept = (0..marks.len()).filter(|&mark| records[mark] == Record::NEVER);
-            assert!(kept.eq([reel.ranked()[0]]));
+            for reel in [reel, reel.with_popups(&popups)] {
+                let records = schedule_reel(reel);
+                let kept = (0..marks.len()).filter(|&mark| records[mark] == Record::NEVER);
+                assert!(kept.eq([reel.ranked()[0]]));
+            }
         }
     }
 }

@@ -4,11 +4,13 @@
 mod common;
 
 use common::{
-    one_part, schedule_large, three_parts, with_edition, with_part_4, with_tree, EDITION, OUT, WORK,
+    one_part, popup_bytes, schedule_large, three_parts, with_edition, with_part, with_part_4,
+    with_popups, with_tree, EDITION, OUT, WORK,
 };
 use oracle::contents::Part;
 use oracle::map::walk;
 use oracle::mark::{write_marks, Mark};
+use oracle::popup::write_popups;
 use oracle::rank::Edition;
 use oracle::record::{write_records, Record};
 use oracle::report::print;
@@ -62,10 +64,10 @@ fn question_1_two_bytes_and_a_number_of_parts() {
     assert_eq!(check(&[]), 1);
     assert_eq!(check(&[1]), 1);
     assert_eq!(check(&raw(&[], 0)), 1);
-    let [a, b, c, d, e] = [1, 2, 3, 4, 5].map(|code| (code, 52, 0));
-    assert_eq!(check(&raw(&[a, b, c, d, e], 0)), 1);
-    assert_eq!(check(&raw(&[(9, 0, 0); 5], 0)), 1);
-    assert_eq!(check(&raw(&[(9, 0, 0); 4], 0)), 2);
+    let six = [1, 2, 3, 4, 5, 6].map(|code| (code, 62, 0));
+    assert_eq!(check(&raw(&six, 0)), 1);
+    assert_eq!(check(&raw(&[(9, 0, 0); 6], 0)), 1);
+    assert_eq!(check(&raw(&[(9, 0, 0); 5], 0)), 2);
     // 257 parts, by both bytes of the number, with all of its contents.
     assert_eq!(check(&raw(&[(1, 12, 0); 257], 0)), 1);
 }
@@ -77,7 +79,9 @@ fn question_1_the_whole_contents() {
         raw(&[(1, 22, 0), (2, 22, 0)], 0),
         raw(&[(1, 32, 0), (2, 32, 0), (3, 32, 0)], 0),
         join_parts(&[(1, &[]), (4, &[1])]),
+        join_parts(&[(1, &[]), (5, &[])]),
         join(&[&[], &[], &[], &[2]]),
+        join(&[&[], &[], &[], &[2], &[]]),
     ];
     for sheet in sheets {
         assert_eq!(check(&sheet), 0);
@@ -93,14 +97,15 @@ fn question_1_the_whole_contents() {
 }
 
 /// The number that questions 1 and 2 refuse a list of codes by, or 0, as 02 words it:
-/// "questions 1 and 2 allow four parts with codes rising within 1 to 4 [..], part 1
-/// present and part 3 only with part 2".
+/// "questions 1 and 2 allow four parts with codes rising within 1 to 4 (one part and code
+/// more with each code added later), part 1 present and part 3 only with part 2"; and later
+/// "contents may hold code 5".
 fn refusal_of_codes(codes: &[u16]) -> u32 {
     let rising = codes.windows(2).all(|pair| pair[0] < pair[1]);
-    let within = codes.iter().all(|code| [1, 2, 3, 4].contains(code));
+    let within = codes.iter().all(|code| [1, 2, 3, 4, 5].contains(code));
     let third_with_second = !codes.contains(&3) || codes.contains(&2);
     match codes.len() {
-        0 | 5.. => 1,
+        0 | 6.. => 1,
         _ if rising && within && codes.contains(&1) && third_with_second => 0,
         _ => 2,
     }
@@ -117,8 +122,8 @@ fn empty_body(code: u16) -> &'static [u8] {
 #[test]
 fn questions_1_and_2_of_every_list_of_codes() {
     let mut taken = Vec::new();
-    for length in 0..=5 {
-        each_list(&[0, 1, 2, 3, 4, 5], length, &mut |codes| {
+    for length in 0..=6 {
+        each_list(&[0, 1, 2, 3, 4, 5, 6], length, &mut |codes| {
             let expected = refusal_of_codes(codes);
             let bodies: Vec<&[u8]> = codes.iter().map(|&code| empty_body(code)).collect();
             let parts: Vec<(u16, &[u8])> = codes.iter().copied().zip(bodies.clone()).collect();
@@ -143,7 +148,7 @@ fn question_2_codes_have_two_bytes() {
         assert_eq!(check(&raw(&[(code, 12, 0)], 0)), 2, "{code}");
         assert_eq!(assemble(&[code], &[&[]], 99), Err(2));
     }
-    for code in [258, 260, 1_028, 65_535] {
+    for code in [258, 260, 261, 1_028, 65_535] {
         assert_eq!(check(&raw(&[(1, 22, 0), (code, 22, 0)], 0)), 2, "{code}");
         assert_eq!(assemble(&[1, code], &[&[], &[1]], 99), Err(2));
     }
@@ -324,6 +329,166 @@ fn question_19_comes_before_8_and_9() {
             assert_eq!(check(&sheet), number);
         }
     }
+}
+
+/// A sheet of P1 and its records, of one to three parts, and sheets without marks.
+fn sheets_without_popups() -> [(Vec<u8>, usize); 5] {
+    let (part_1, part_2) = (write_marks(&P1), write_records(&p1_records()));
+    [
+        (join(&[&part_1]), 4),
+        (join(&[&part_1, &part_2]), 4),
+        (three_parts(&P1, &p1_records()), 4),
+        (join(&[&[]]), 0),
+        (join(&[&[], &[], &[]]), 0),
+    ]
+}
+
+#[test]
+fn question_21_four_bytes_a_mark() {
+    for (sheet, n) in sheets_without_popups() {
+        for sheet in [sheet.clone(), with_edition(&sheet, Edition::Second)] {
+            for length in 0..40 {
+                let number = check(&with_part(&sheet, 5, &vec![0; length]));
+                assert_eq!(number, if length == 4 * n { 0 } else { 21 }, "{length}");
+            }
+        }
+    }
+}
+
+#[test]
+fn question_21_no_popup_above_65_536() {
+    let taken = [0, 1, 255, 256, 319, 65_535, 65_536];
+    let refused = [65_537, 65_538, 131_072, 1 << 24, 1 << 31, u32::MAX];
+    let (bare, marked) = (one_part(&P1), three_parts(&P1, &[Record::NEVER; 4]));
+    for m in 0..4 {
+        let with = |sheet: &[u8], popup| {
+            let mut popups = [0; 4];
+            popups[m] = popup;
+            with_popups(sheet, &popups)
+        };
+        for sheet in [&bare, &marked, &with_edition(&marked, Edition::First)] {
+            let numbers = taken.map(|popup| check(&with(sheet, popup)));
+            assert_eq!(numbers, [0; 7]);
+            let numbers = refused.map(|popup| check(&with(sheet, popup)));
+            assert_eq!(numbers, [21; 6]);
+        }
+        let damaged = with(&marked, 65_537);
+        assert_eq!(schedule_large(&damaged), Err(21));
+        assert_eq!(view_all(&damaged), Err(21));
+        assert_eq!(print(&damaged), "refused 21\n");
+    }
+}
+
+/// Bodies of part 5 that question 21 refuses for the four marks of P1.
+fn no_popups() -> [Vec<u8>; 6] {
+    [
+        vec![],
+        vec![0; 4],
+        vec![0; 15],
+        vec![0; 17],
+        write_popups(&[65_537, 0, 0, 0]),
+        write_popups(&[0, 0, 65_536, u32::MAX]),
+    ]
+}
+
+#[test]
+fn question_21_comes_after_7_and_19() {
+    let part_1 = write_marks(&P1);
+    for part_5 in no_popups() {
+        let number = |part_2: &[u8], part_3: &[u8], part_4: &[u8]| {
+            check(&join(&[&part_1, part_2, part_3, part_4, &part_5]))
+        };
+        assert_eq!(number(&[0; 55], &[0; 8], &[1]), 7);
+        assert_eq!(number(&[0; 56], &[0; 7], &[1]), 7);
+        assert_eq!(number(&[0; 55], &[0; 8], &[0]), 7);
+        for part_4 in NO_EDITIONS {
+            assert_eq!(number(&[0; 56], &[0; 8], part_4), 19);
+            let parts = [(1, part_1.as_slice()), (4, part_4), (5, &part_5)];
+            assert_eq!(check(&join_parts(&parts)), 19);
+        }
+        for edition in [[1], [2]] {
+            assert_eq!(number(&[0; 56], &[0; 8], &edition), 21);
+        }
+        let unnamed = |part_2: &[u8]| {
+            let parts = [(1, part_1.as_slice()), (2, part_2), (5, &part_5)];
+            check(&join_parts(&parts))
+        };
+        assert_eq!(unnamed(&[0; 57]), 7);
+        assert_eq!(unnamed(&[0; 56]), 21);
+        assert_eq!(check(&with_part(&one_part(&[LARGE_RADIUS]), 5, &part_5)), 6);
+    }
+}
+
+#[test]
+fn question_21_comes_before_8_and_9() {
+    let (part_1, part_2) = (write_marks(&P1), write_records(&p1_records()));
+    for (records, tree, number) in [
+        (&[0; 56][..], &[0; 8][..], 8),
+        (&part_2, &[0; 8], 9),
+        (&part_2, &[0, 0, 1, 0, 3, 0, 2, 0], 0),
+    ] {
+        for edition in Edition::ALL.map(Edition::write) {
+            let with = |part_5: &[u8]| check(&join(&[&part_1, records, tree, &edition, part_5]));
+            assert!(no_popups().iter().all(|part_5| with(part_5) == 21));
+            assert_eq!(with(&[0; 16]), number);
+        }
+        let sheet = join(&[&part_1, records, tree]);
+        for part_5 in no_popups() {
+            assert_eq!(check(&with_part(&sheet, 5, &part_5)), 21);
+        }
+    }
+}
+
+#[test]
+fn question_8_goes_by_pair_values() {
+    // They touch at 64 times zoom 320.
+    let marks = [P1[0], P1[1]];
+    let gone_at = |numerator, denominator| Record::new(0, numerator, denominator);
+    let number = |popups: [u32; 2], record| {
+        let sheet = three_parts(&marks, &[Record::NEVER, record]);
+        check(&with_popups(&sheet, &popups))
+    };
+    let touching = gone_at(10_000, 400);
+    for popups in [[0, 0], [0, 319], [319, 0], [320, 0], [0, 320], [320, 320]] {
+        assert_eq!(number(popups, touching), 0);
+        assert_eq!(number(popups, gone_at(102_400, 4_096)), 8);
+        assert_eq!(number(popups, gone_at(103_041, 4_096)), 8);
+    }
+    // The larger popup of the two counts, also where it is the eliminator's.
+    for popups in [[0, 321], [321, 0], [321, 321], [321, 320], [5, 321]] {
+        assert_eq!(number(popups, gone_at(103_041, 4_096)), 0);
+        assert_eq!(number(popups, touching), 8);
+        // It stands unreduced, and as no other popup's.
+        assert_eq!(number(popups, gone_at(206_082, 8_192)), 8);
+        assert_eq!(number(popups, gone_at(103_684, 4_096)), 8);
+    }
+    let even = [
+        gone_at(409_600, 4_096),
+        gone_at(100, 1),
+        gone_at(40_000, 400),
+    ];
+    assert_eq!(even.map(|record| number([640, 0], record)), [0, 8, 8]);
+    let last = gone_at(1 << 32, 4_096);
+    assert_eq!(number([65_536, 7], last), 0);
+    assert_eq!(number([65_536, 7], gone_at(0, 4_096)), 8);
+    assert_eq!(number([0, 0], Record::NEVER), 0);
+    assert_eq!(number([65_536; 2], Record::NEVER), 0);
+}
+
+#[test]
+fn question_8_an_eliminator_that_goes_where_it_would_pop_up_removes_nobody_there() {
+    // 1 goes by 0 at its popup, at which it would touch 2 first.
+    let marks = [P1[0], P1[1], P1[2]];
+    let records = |of_2| [Record::NEVER, Record::new(0, 409_600, 4_096), of_2];
+    let number = |of_2| {
+        check(&with_popups(
+            &three_parts(&marks, &records(of_2)),
+            &[0, 640, 0],
+        ))
+    };
+    assert_eq!(number(Record::new(1, 409_600, 4_096)), 8);
+    assert_eq!(number(Record::new(0, 40_000, 400)), 0);
+    assert_eq!(number(Record::NEVER), 0);
 }
 
 #[test]
@@ -591,7 +756,15 @@ fn question_13_of_scheduling() {
         let sheet = one_part(&P1[..n]);
         let (work, out) = (32 * n + 1_024, 32 + 27 * n);
         let named = with_edition(&sheet, Edition::Second);
-        for (sheet, out) in [(&sheet, out), (&named, out + EDITION)] {
+        let with_popups = |sheet: &[u8]| with_popups(sheet, &[9; 4][..n]);
+        let [popping_up, both] = [&sheet, &named].map(|sheet| with_popups(sheet));
+        let more = popup_bytes(n);
+        for (sheet, out) in [
+            (&sheet, out),
+            (&named, out + EDITION),
+            (&popping_up, out + more),
+            (&both, out + EDITION + more),
+        ] {
             assert_eq!(schedule(sheet, work, out).unwrap().len(), out);
             assert_eq!(schedule(sheet, work - 1, out), Err(13));
             assert_eq!(schedule(sheet, work, out - 1), Err(13));
@@ -615,12 +788,12 @@ fn scheduling_does_not_heal_a_bad_part_2_or_3() {
 
 #[test]
 fn question_1_of_putting_together_is_of_codes_and_bodies() {
-    let codes: [u16; 6] = [1, 2, 3, 4, 5, 6];
-    let bodies: [&[u8]; 6] = [&[], &[], &[], &[1], &[], &[]];
-    for count in 0..=6 {
-        for given in 0..=6 {
+    let codes: [u16; 7] = [1, 2, 3, 4, 5, 6, 7];
+    let bodies: [&[u8]; 7] = [&[], &[], &[], &[1], &[], &[], &[]];
+    for count in 0..=7 {
+        for given in 0..=7 {
             let assembled = assemble(&codes[..count], &bodies[..given], OUT);
-            let taken = (1..=4).contains(&count) && given >= count;
+            let taken = (1..=5).contains(&count) && given >= count;
             assert_eq!(assembled, taken.then(|| join(&bodies[..count])).ok_or(1));
         }
     }
@@ -628,8 +801,8 @@ fn question_1_of_putting_together_is_of_codes_and_bodies() {
 
 #[test]
 fn question_1_of_putting_together_comes_before_2() {
-    for codes in [&[][..], &[0, 0, 0, 0, 0], &[4, 3, 2, 1, 0]] {
-        assert_eq!(assemble(codes, &[&[0][..]; 5], 0), Err(1));
+    for codes in [&[][..], &[0; 6], &[5, 4, 3, 2, 1, 0]] {
+        assert_eq!(assemble(codes, &[&[0][..]; 6], 0), Err(1));
     }
     assert_eq!(assemble(&[2, 1], &[&[0]], 0), Err(1));
     assert_eq!(assemble(&[2, 1], &[&[0], &[0]], 0), Err(2));
@@ -643,7 +816,8 @@ fn putting_together_asks_2_before_4_and_4_to_9_before_13() {
     let unknown = write_marks(&[UNKNOWN_KIND]);
     let large = write_marks(&[LARGE_RADIUS]);
     let (short_index, no_records) = (&part_3[1..], [0; 56]);
-    let cases: [(u32, &[Part]); 9] = [
+    let beyond = write_popups(&[0, 0, 0, 65_537]);
+    let cases: [(u32, &[Part]); 12] = [
         (2, &[(2, &part_1[1..])]),
         (4, &[(1, &part_1[1..])]),
         (5, &[(1, &unknown)]),
@@ -656,6 +830,12 @@ fn putting_together_asks_2_before_4_and_4_to_9_before_13() {
             19,
             &[(1, &part_1), (2, &no_records), (3, &part_3), (4, &[0])],
         ),
+        (19, &[(1, &part_1), (4, &[0]), (5, &beyond)]),
+        (21, &[(1, &part_1), (2, &no_records), (5, &beyond)]),
+        (
+            21,
+            &[(1, &part_1), (2, &no_records), (4, &[1]), (5, &[0; 15])],
+        ),
         (8, &[(1, &part_1), (2, &no_records), (4, &[1])]),
         (8, &[(1, &part_1), (2, &no_records), (3, &[0; 8])]),
         (9, &[(1, &part_1), (2, &part_2), (3, &[0; 8]), (4, &[2])]),
@@ -666,9 +846,9 @@ fn putting_together_asks_2_before_4_and_4_to_9_before_13() {
             assert_eq!(assemble(&codes, &bodies, out), Err(number), "{codes:?}");
         }
     }
-    let bodies: [&[u8]; 4] = [&part_1, &part_2, &part_3, &[2]];
-    for (count, length) in [(1, 56), (2, 122), (3, 140), (4, 151)] {
-        let codes = &[1, 2, 3, 4][..count];
+    let bodies: [&[u8]; 5] = [&part_1, &part_2, &part_3, &[2], &[0; 16]];
+    for (count, length) in [(1, 56), (2, 122), (3, 140), (4, 151), (5, 177)] {
+        let codes = &[1, 2, 3, 4, 5][..count];
         assert_eq!(assemble(codes, &bodies, length - 1), Err(13));
         assert_eq!(assemble(codes, &bodies, length), Ok(join(&bodies[..count])));
     }
@@ -680,8 +860,13 @@ fn putting_together_takes_bodies_in_the_order_of_the_codes() {
     let sheet = assemble(&[1, 4], &[&part_1, &[2]], 67).unwrap();
     assert_eq!(sheet, with_edition(&one_part(&P1), Edition::Second));
     assert_eq!(assemble(&[4, 1], &[&[2], &part_1], 67), Err(2));
-    // Part 4 is no part 2 though it stands second.
+    // Part 4 is no part 2 though it stands second, and part 5 neither.
     assert_eq!(assemble(&[1, 2], &[&part_1, &[2]], 67), Err(7));
+    let popups = write_popups(&[0, 1, 65_536, 9]);
+    let sheet = assemble(&[1, 5], &[&part_1, &popups], 82).unwrap();
+    assert_eq!(sheet, with_popups(&one_part(&P1), &[0, 1, 65_536, 9]));
+    assert_eq!(assemble(&[1, 4], &[&part_1, &popups], 82), Err(19));
+    assert_eq!(assemble(&[1, 5], &[&part_1, &[2]], 82), Err(21));
 }
 
 #[test]
@@ -694,6 +879,7 @@ fn putting_together_ignores_further_bodies() {
     }
     assert_eq!(assemble(&[1, 2], &[&part_1, junk, junk], OUT), Err(7));
     assert_eq!(assemble(&[1, 4], &[&part_1, junk, junk], OUT), Err(19));
+    assert_eq!(assemble(&[1, 5], &[&part_1, junk, junk], OUT), Err(21));
 }
 
 #[test]

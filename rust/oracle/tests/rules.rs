@@ -1,33 +1,55 @@
-//! Demand 3's two rules: the process keeps them, and no other list does.
+//! Demand 3's two rules: the process keeps them, and no other list does, with popups and
+//! without.
 
 use oracle::fraction::{Fraction, Removal};
 use oracle::mark::{touching_value, Mark};
 use oracle::process::schedule_by_process;
 use oracle::rank::Edition::{self, First, Second};
-use oracle::rank::Reel;
 use oracle::record::removals;
+use oracle::reel::Reel;
 use oracle::rules::{keep_both, Breach};
-use oracle::sample::{each_list, marks, Shape, P1};
+use oracle::sample::{each_list, marks, popups, Popups, Shape, P1};
+use oracle::zoom::zoom_squared;
 
 /// The removal values the process gives.
 fn list_of(reel: Reel) -> Vec<Removal> {
     removals(&schedule_by_process(reel))
 }
 
-/// The marks in both editions.
-fn reels(marks: &[Mark]) -> [Reel<'_>; 2] {
-    Edition::ALL.map(|edition| edition.reel(marks))
+/// Calls `visit` with the marks in both editions, without popups and popping up in these
+/// ways.
+fn each_reel(marks: &[Mark], ways: &[Popups], seed: u64, mut visit: impl FnMut(Reel)) {
+    let drawn: Vec<Vec<u32>> = ways.iter().map(|&it| popups(it, marks, seed)).collect();
+    for reel in Edition::ALL.map(|edition| edition.reel(marks)) {
+        visit(reel);
+        drawn
+            .iter()
+            .for_each(|popups| visit(reel.with_popups(popups)));
+    }
 }
 
 fn at(numerator: u64, denominator: u32) -> Removal {
     Removal::At(Fraction::new(numerator, denominator))
 }
 
-/// 'Never' and the touching values of all pairs.
-fn candidates(marks: &[Mark]) -> Vec<Removal> {
-    let pairs = (0..marks.len()).flat_map(|b| (0..b).map(move |a| (a, b)));
-    let values = pairs.map(|(a, b)| Removal::At(touching_value(&marks[a], &marks[b])));
-    values.chain([Removal::Never]).collect()
+/// 'Never', the touching values and the pair values of all pairs, and the popup values;
+/// each value once.
+fn candidates(reel: Reel) -> Vec<Removal> {
+    let numbers = 0..reel.marks.len();
+    let pairs = numbers.clone().flat_map(|b| (0..b).map(move |a| (a, b)));
+    let of_pair = |(a, b): (usize, usize)| {
+        let touching = touching_value(&reel.marks[a], &reel.marks[b]);
+        [touching, reel.pair_value(a, b)]
+    };
+    let popups = numbers.map(|m| zoom_squared(reel.popup(m)));
+    let values = pairs.flat_map(of_pair).chain(popups).map(Removal::At);
+    let mut candidates = vec![Removal::Never];
+    for value in values {
+        if !candidates.iter().any(|other| other.equals(value)) {
+            candidates.push(value);
+        }
+    }
+    candidates
 }
 
 #[test]
@@ -35,9 +57,9 @@ fn the_process_keeps_both_rules() {
     for shape in Shape::ALL {
         for seed in 0..100 {
             let marks = marks(shape, seed as usize % 15, seed);
-            for reel in reels(&marks) {
+            each_reel(&marks, &Popups::ALL, seed, |reel| {
                 assert_eq!(keep_both(reel, &list_of(reel)), Ok(()), "{reel:?}");
-            }
+            });
         }
     }
 }
@@ -59,17 +81,17 @@ fn a_list_with_one_changed_value_breaks_a_rule() {
     for shape in Shape::ALL {
         for seed in 0..20 {
             let marks = marks(shape, 2 + seed as usize % 5, seed);
-            for reel in reels(&marks) {
+            each_reel(&marks, &Popups::ALL, seed, |reel| {
                 let ours = list_of(reel);
-                for mark in 0..marks.len() {
-                    for other in candidates(&marks) {
-                        let mut list = ours.clone();
-                        list[mark] = other;
-                        let kept = keep_both(reel, &list).is_ok();
-                        assert_eq!(kept, other.equals(ours[mark]), "{reel:?} {list:?}");
-                    }
+                for (mark, other) in (0..marks.len())
+                    .flat_map(|mark| candidates(reel).into_iter().map(move |it| (mark, it)))
+                {
+                    let mut list = ours.clone();
+                    list[mark] = other;
+                    let kept = keep_both(reel, &list).is_ok();
+                    assert_eq!(kept, other.equals(ours[mark]), "{reel:?} {list:?}");
                 }
-            }
+            });
         }
     }
 }
@@ -78,34 +100,36 @@ fn a_list_with_one_changed_value_breaks_a_rule() {
 fn a_value_a_hair_earlier_or_later_breaks_a_rule() {
     for seed in 0..50 {
         let marks = marks(Shape::Uniform, 6, seed);
-        let reel = First.reel(&marks);
-        let ours = list_of(reel);
-        for mark in 0..marks.len() {
-            let Removal::At(value) = ours[mark] else {
-                continue;
-            };
-            let (twice, denominator) = (2 * value.numerator, 2 * value.denominator);
-            let mut list = ours.clone();
-            list[mark] = at(twice + 1, denominator);
-            assert!(matches!(keep_both(reel, &list), Err(Breach::First(..))));
-            list[mark] = at(twice - 1, denominator);
-            assert_eq!(keep_both(reel, &list), Err(Breach::Second(mark)));
-        }
+        each_reel(&marks, &Popups::ALL, seed, |reel| {
+            let ours = list_of(reel);
+            for mark in 0..marks.len() {
+                let Removal::At(value) = ours[mark] else {
+                    continue;
+                };
+                let (twice, denominator) = (2 * value.numerator, 2 * value.denominator);
+                let mut list = ours.clone();
+                list[mark] = at(twice + 1, denominator);
+                assert!(matches!(keep_both(reel, &list), Err(Breach::First(..))));
+                list[mark] = at(twice - 1, denominator);
+                assert_eq!(keep_both(reel, &list), Err(Breach::Second(mark)));
+            }
+        });
     }
 }
 
 #[test]
 fn only_lists_equal_to_ours_keep_both_rules() {
+    let ways = [Popups::Few, Popups::Any, Popups::Touching, Popups::Together];
     for shape in [Shape::Grid, Shape::Uniform, Shape::Extreme, Shape::OnePlace] {
-        for seed in 0..6 {
+        for seed in 0..3 {
             let marks = marks(shape, 4, seed);
-            for reel in reels(&marks) {
+            each_reel(&marks, &ways, seed, |reel| {
                 let ours = list_of(reel);
-                each_list(&candidates(&marks), 4, &mut |list| {
+                each_list(&candidates(reel), 4, &mut |list| {
                     let equal = list.iter().zip(&ours).all(|(one, own)| one.equals(*own));
                     assert_eq!(keep_both(reel, list).is_ok(), equal, "{reel:?} {list:?}");
                 });
-            }
+            });
         }
     }
 }
@@ -171,6 +195,28 @@ fn a_list_is_held_to_the_ranks_of_the_edition() {
         keep_both(Second.reel(&two), &lower_stays),
         Err(Breach::Second(1))
     );
+}
+
+#[test]
+fn a_list_is_held_to_the_popups() {
+    // They touch at zoom 1, and the second pops up at zoom 2.
+    let two = [Mark::plain(0, 0, 1, 5), Mark::plain(2, 0, 1, 5)];
+    let lists = [1, 4].map(|value| [Removal::Never, at(value, 1)]);
+    let kept = |popups: Option<&[u32]>| {
+        let reel = Reel {
+            popups,
+            ..First.reel(&two)
+        };
+        lists.each_ref().map(|list| keep_both(reel, list))
+    };
+    let too_late = Err(Breach::First(0, 1));
+    for early in [None, Some(&[0, 0][..]), Some(&[0, 64]), Some(&[64, 63])] {
+        assert_eq!(kept(early), [Ok(()), too_late], "{early:?}");
+    }
+    // Whichever of the two has the popup.
+    for late in [[0, 128], [128, 0], [128, 128], [7, 128]] {
+        assert_eq!(kept(Some(&late)), [Err(Breach::Second(1)), Ok(())]);
+    }
 }
 
 #[test]

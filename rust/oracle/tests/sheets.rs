@@ -5,21 +5,22 @@ mod common;
 use std::collections::BTreeSet;
 
 use common::{
-    one_part, schedule_large, scheduled, scheduled_by, three_parts, with_edition, EDITION, OUT,
-    WORK,
+    each_popping_up, one_part, popup_bytes, schedule_large, scheduled, scheduled_by,
+    scheduled_popping_up, three_parts, with_edition, with_popups, EDITION, LONGEST, OUT, WORK,
 };
 use oracle::map::{is_set, walk, NO_MARK};
 use oracle::mark::{write_marks, Mark};
 use oracle::process::schedule_by_process;
 use oracle::rank::Edition;
 use oracle::record::{removals, Record};
+use oracle::reel::Reel;
 use oracle::report::print;
 use oracle::rules::keep_both;
-use oracle::sample::{marks, Generator, Shape, CODES_TAKEN};
+use oracle::sample::{marks, popups, Generator, Popups, Shape, CODES_TAKEN, P6};
 use oracle::sheet::{assemble, check, join, join_parts, open, part_extent, schedule, split};
 use oracle::tree;
 use oracle::view::{reaches, view, Edges, Window};
-use oracle::zoom::{lives, zoom_in_64ths, Zoom};
+use oracle::zoom::{lives, remains, zoom_in_64ths, Zoom};
 
 /// The numbers of marks that are tried: about whole bytes of a map, and more.
 const NUMBERS: [usize; 8] = [0, 1, 2, 7, 8, 9, 17, 33];
@@ -111,7 +112,8 @@ fn without_part_4_all_is_as_in_the_first_edition() {
 #[test]
 fn putting_the_bodies_of_a_sheet_together_gives_the_sheet() {
     each_sample(|marks| {
-        let sheet = scheduled_by(Edition::First, marks);
+        let popups = vec![0; marks.len()];
+        let sheet = with_popups(&scheduled_by(Edition::First, marks), &popups);
         let bodies = split(&sheet).unwrap();
         for codes in CODES_TAKEN {
             let parts = codes.iter().map(|&code| bodies.get(code.into()).unwrap());
@@ -125,20 +127,21 @@ fn putting_the_bodies_of_a_sheet_together_gives_the_sheet() {
     });
 }
 
-/// The marks that a search down the tree shows. It ends at a root that does not
-/// live, since all below it are removed no later.
-fn search(marks: &[Mark], records: &[Record], tree: &[u16], window: Window, k: u32) -> Vec<usize> {
+/// The marks that a search down the tree shows. It ends at a root that is removed, since
+/// all below it are removed no later; but not at one that has not popped up.
+fn search(reel: Reel, records: &[Record], tree: &[u16], window: Window, k: u32) -> Vec<usize> {
     let Some((&root, left, right)) = tree::branches(tree) else {
         return Vec::new();
     };
     let root = usize::from(root);
-    if !lives(records[root].removal(), k) {
+    let removal = records[root].removal();
+    if !remains(removal, k) {
         return Vec::new();
     }
-    let reached = reaches(&marks[root], window, k);
-    let mut found: Vec<usize> = reached.then_some(root).into_iter().collect();
-    found.extend(search(marks, records, left, window, k));
-    found.extend(search(marks, records, right, window, k));
+    let shown = lives(reel.popup(root), removal, k) && reaches(&reel.marks[root], window, k);
+    let mut found: Vec<usize> = shown.then_some(root).into_iter().collect();
+    found.extend(search(reel, records, left, window, k));
+    found.extend(search(reel, records, right, window, k));
     found.sort_unstable();
     found
 }
@@ -172,33 +175,40 @@ fn rectangle(generator: &mut Generator, marks: &[Mark], turn: u8) -> Window {
     edges.of_turned(turn)
 }
 
+/// Views a scheduled sheet at every stop, and sees that each shows what a search down the
+/// tree finds. Answers how many of the views show some of the marks.
+fn compare_with_search(generator: &mut Generator, sheet: &[u8]) -> usize {
+    let opened = open(sheet).unwrap();
+    let (reel, n) = (opened.reel(), opened.marks.len());
+    let (records, tree) = (opened.records.as_deref(), opened.tree.as_deref());
+    let mut partly = 0;
+    for stop in 0..=if n == 0 { 0 } else { 16 } {
+        let window = match n {
+            0 => Window::WHOLE,
+            _ => rectangle(generator, reel.marks, stop % 4),
+        };
+        let k = zoom_in_64ths(Zoom::Stop(stop)).unwrap();
+        let (map, count) = view(sheet, window, Zoom::Stop(stop), n.div_ceil(8)).unwrap();
+        let found = search(reel, records.unwrap(), tree.unwrap(), window, k);
+        assert_eq!(walked(&map, n), found);
+        assert_eq!(count as usize, found.len());
+        assert!((n..8 * map.len()).all(|unused| !is_set(&map, unused)));
+        partly += usize::from(!found.is_empty() && found.len() < n);
+    }
+    partly
+}
+
 #[test]
 fn a_view_shows_what_a_search_down_the_tree_finds() {
     let mut generator = Generator::new(9);
-    let mut cut_short = 0;
-    each_sample(|marks| {
-        let n = marks.len();
-        let sheet = scheduled(marks);
-        let opened = open(&sheet).unwrap();
-        let (records, tree) = (opened.records.unwrap(), opened.tree.unwrap());
-        for stop in 0..=if n == 0 { 0 } else { 16 } {
-            let window = match n {
-                0 => Window::WHOLE,
-                _ => rectangle(&mut generator, marks, stop % 4),
-            };
-            let k = zoom_in_64ths(Zoom::Stop(stop)).unwrap();
-            let (map, count) = view(&sheet, window, Zoom::Stop(stop), n.div_ceil(8)).unwrap();
-            let found = search(marks, &records, &tree, window, k);
-            assert_eq!(walked(&map, n), found);
-            assert_eq!(count as usize, found.len());
-            assert!((n..8 * map.len()).all(|unused| !is_set(&map, unused)));
-            cut_short += usize::from(!found.is_empty() && found.len() < n);
-        }
+    let (mut partly, mut popping_up) = (0, 0);
+    each_sample(|marks| partly += compare_with_search(&mut generator, &scheduled(marks)));
+    each_popping_up(&NUMBERS, |marks, popups| {
+        let sheet = scheduled_popping_up(marks, popups);
+        popping_up += compare_with_search(&mut generator, &sheet);
     });
-    assert!(
-        cut_short > 100,
-        "only {cut_short} views show some of the marks"
-    );
+    assert!(partly > 100, "only {partly} views show some of the marks");
+    assert!(popping_up > 1_000, "only {popping_up} with popups do");
 }
 
 #[test]
@@ -215,31 +225,43 @@ fn a_view_uses_the_schedule_as_the_sheet_has_it() {
 #[test]
 fn parts_are_found_in_accepted_sheets_only() {
     let mut sheet = scheduled(&marks(Shape::Grid, 4, 1));
-    let extents = |sheet: &[u8]| [0, 1, 2, 3, 4, 5].map(|code| part_extent(sheet, code));
-    let all = [(0, 0), (32, 44), (76, 56), (132, 8), (0, 0), (0, 0)];
+    // Of codes 1 to 5, once there is seen to be none about these.
+    let extents = |sheet: &[u8]| {
+        for code in [0, 6, 65_537, 65_540, 65_541] {
+            assert_eq!(part_extent(sheet, code), (0, 0));
+        }
+        [1, 2, 3, 4, 5].map(|code| part_extent(sheet, code))
+    };
+    let all = [(32, 44), (76, 56), (132, 8), (0, 0), (0, 0)];
     assert_eq!(extents(&sheet), all);
-    assert_eq!(part_extent(&sheet, 65_537), (0, 0));
     let named = with_edition(&sheet, Edition::Second);
-    let all = [(0, 0), (42, 44), (86, 56), (142, 8), (150, 1), (0, 0)];
+    let all = [(42, 44), (86, 56), (142, 8), (150, 1), (0, 0)];
     assert_eq!(extents(&named), all);
-    assert_eq!(part_extent(&named, 65_540), (0, 0));
-    let empty = [(0, 0), (22, 0), (22, 0), (0, 0), (0, 0), (0, 0)];
+    let all = [(52, 44), (96, 56), (152, 8), (160, 1), (161, 16)];
+    assert_eq!(extents(&with_popups(&named, &[0; 4])), all);
+    let unnamed = [(42, 44), (86, 56), (142, 8), (0, 0), (150, 16)];
+    assert_eq!(extents(&with_popups(&sheet, &[0; 4])), unnamed);
+    let empty = [(22, 0), (22, 0), (0, 0), (0, 0), (0, 0)];
     assert_eq!(extents(&join(&[&[], &[]])), empty);
-    let no_schedule = [(0, 0), (22, 0), (0, 0), (0, 0), (22, 1), (0, 0)];
+    let no_schedule = [(22, 0), (0, 0), (0, 0), (22, 1), (0, 0)];
     assert_eq!(extents(&join_parts(&[(1, &[]), (4, &[1])])), no_schedule);
+    let popups_alone = [(22, 0), (0, 0), (0, 0), (0, 0), (22, 0)];
+    assert_eq!(extents(&join_parts(&[(1, &[]), (5, &[])])), popups_alone);
     sheet.push(0);
-    assert_eq!(extents(&sheet), [(0, 0); 6]);
+    assert_eq!(extents(&sheet), [(0, 0); 5]);
 }
 
-/// A sheet of up to four parts with a byte too many in a body, some bytes
+/// A sheet of up to five parts with a byte too many in a body, some bytes
 /// changed, some missing at the end, or as it should be.
 fn changed_sheet(generator: &mut Generator) -> Vec<u8> {
     let shape = generator.choose(&Shape::ALL);
     let n = generator.below(6) as usize;
-    let edition = generator.choose(&Edition::ALL);
-    let whole = scheduled_by(edition, &marks(shape, n, generator.draw()));
+    let sample = marks(shape, n, generator.draw());
+    let named = with_edition(&one_part(&sample), generator.choose(&Edition::ALL));
+    let popups = popups(generator.choose(&Popups::ALL), &sample, generator.draw());
+    let whole = schedule_large(&with_popups(&named, &popups)).unwrap();
     let mut parts = split(&whole).unwrap().present();
-    for code in [4, 3, 2] {
+    for code in [5, 4, 3, 2] {
         if generator.below(3) == 0 {
             parts.retain(|&(other, _)| other != code && (code != 2 || other != 3));
         }
@@ -288,7 +310,7 @@ fn all_jobs_refuse_a_changed_sheet_by_the_number_that_checking_gives() {
             assert_eq!(assemble_again(&sheet), Err(number));
         }
     }
-    assert_eq!(numbers, BTreeSet::from_iter((0..=9).chain([19])));
+    assert_eq!(numbers, BTreeSet::from_iter((0..=9).chain([19, 21])));
 }
 
 #[test]
@@ -301,6 +323,11 @@ fn the_largest_sheet_is_scheduled() {
     let named = with_edition(&sheet, Edition::First);
     assert_eq!(schedule(&named, WORK, OUT + EDITION), Ok(named.clone()));
     assert_eq!(schedule(&named, WORK, OUT + EDITION - 1), Err(13));
+    assert_eq!(popup_bytes(4_096), 16_394);
+    let popping_up = with_popups(&named, &[0; 4_096]);
+    assert_eq!(popping_up.len(), LONGEST);
+    assert_eq!(schedule(&popping_up, WORK, LONGEST), Ok(popping_up.clone()));
+    assert_eq!(schedule(&popping_up, WORK, LONGEST - 1), Err(13));
 }
 
 #[test]
@@ -312,10 +339,6 @@ fn sheets_of_no_mark_and_one_mark_are_printed() {
 
 #[test]
 fn the_removal_zoom_is_printed_though_no_view_has_it() {
-    let marks = [
-        Mark::plain(i16::MIN, i16::MIN, 1, 0),
-        Mark::plain(i16::MAX, i16::MAX, 1, 0),
-    ];
-    let text = print(&one_part(&marks));
+    let text = print(&one_part(&P6));
     assert_eq!(text, "marks 2\n0 -\n1 0 8589672450 4 2965776\n");
 }

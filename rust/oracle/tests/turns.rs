@@ -4,10 +4,10 @@
 
 mod common;
 
-use common::{schedule_large, scheduled, scheduled_by};
+use common::{one_part, schedule_large, scheduled, scheduled_by, with_edition, with_popups};
 use oracle::mark::{write_marks, Mark};
 use oracle::rank::Edition;
-use oracle::sample::{marks, Generator, Shape, P1};
+use oracle::sample::{marks, popups, Generator, Popups, Shape, P1};
 use oracle::sheet::{assemble, open};
 use oracle::turn::{turned_marks, MOST_TURNS};
 use oracle::view::{view, Edges};
@@ -44,7 +44,7 @@ fn some_edges(generator: &mut Generator, marks: &[Mark], turn: u8) -> Edges {
 }
 
 /// A sample of every shape and of some numbers of marks, scheduled by either edition, or
-/// without one named.
+/// without one named, and with popups of every kind.
 fn each_sheet(mut visit: impl FnMut(&[u8], &[Mark])) {
     for shape in Shape::ALL {
         for n in [0, 1, 2, 9, 40] {
@@ -53,6 +53,14 @@ fn each_sheet(mut visit: impl FnMut(&[u8], &[Mark])) {
             sample.iter_mut().for_each(|mark| mark.priority &= 1);
             for edition in Edition::ALL {
                 visit(&scheduled_by(edition, &sample), &sample);
+            }
+            for (how, edition) in Popups::ALL
+                .into_iter()
+                .zip(Edition::ALL.into_iter().cycle())
+            {
+                let sheet = with_popups(&one_part(&sample), &popups(how, &sample, 1));
+                let named = with_edition(&sheet, edition);
+                visit(&schedule_large(&named).unwrap(), &sample);
             }
         }
     }
@@ -94,7 +102,7 @@ fn turned_marks_have_the_same_records_and_mostly_another_tree() {
             };
             let (old, new) = (open(sheet).unwrap(), open(&turned).unwrap());
             assert_eq!(old.records, new.records);
-            assert_eq!(old.edition, new.edition);
+            assert_eq!((old.edition, &old.popups), (new.edition, &new.popups));
             assert_eq!(old.bodies.beyond_3(), new.bodies.beyond_3());
             others += usize::from(old.tree != new.tree);
         }

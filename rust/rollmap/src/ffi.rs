@@ -65,6 +65,7 @@ extern "C" {
         priority: u16,
         kind: u8,
         tag: u16,
+        popup: u32,
         work: *mut u8,
         work_length: usize,
         out: *mut u8,
@@ -163,7 +164,7 @@ pub(crate) fn schedule(sheet: &[u8], work: &mut [u8], out: &mut [u8]) -> Answer 
     }
 }
 
-pub(crate) fn add(sheet: &[u8], mark: Mark, work: &mut [u8], out: &mut [u8]) -> Answer {
+pub(crate) fn add(sheet: &[u8], mark: Mark, popup: u32, work: &mut [u8], out: &mut [u8]) -> Answer {
     // SAFETY: pointers and lengths are slices' (see the top of this file).
     unsafe {
         rollmap_add(
@@ -175,6 +176,7 @@ pub(crate) fn add(sheet: &[u8], mark: Mark, work: &mut [u8], out: &mut [u8]) -> 
             mark.priority,
             mark.kind,
             mark.tag,
+            popup,
             work.as_mut_ptr(),
             work.len(),
             out.as_mut_ptr(),

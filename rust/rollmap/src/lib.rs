@@ -3,15 +3,17 @@
 //! These are safe bindings to the proved library, the static library `rollmap`.
 //! A sheet is a run of bytes that has the marks in part 1 and, once it is scheduled,
 //! the schedule in part 2 and the index in part 3; part 4 may name the [`Edition`] that
-//! ranks the marks. Nothing is copied or kept: a call borrows its buffers and answers.
+//! ranks the marks, and part 5 the [`popups`] from which they are there. Nothing is copied
+//! or kept: a call borrows its buffers and answers.
 //!
 //! A call asks the questions that its comment names, in turn; the first no is its
-//! [`Refusal`], and then no buffer is written. Where these are 4 to 9, question
-//! [19](Refusal::Edition) is asked after 7; a view asks [20](Refusal::Window) after 10.
+//! [`Refusal`], and then no buffer is written. Where these are 4 to 9, questions
+//! [19](Refusal::Edition) and [21](Refusal::Popups) are asked, in this order, after 7; a
+//! view asks [20](Refusal::Window) after 10.
 //!
 //! ```
-//! use rollmap::{assemble_to_vec, marks_to_vec, records, schedule_to_vec, view_to_map};
-//! use rollmap::{Code, Mark, Record, Turn, View, Zoom};
+//! use rollmap::{assemble_to_vec, marks_to_vec, popups_to_vec, records, schedule_to_vec};
+//! use rollmap::{view_to_map, Code, Mark, Record, Turn, View, Zoom, NO_POPUP};
 //!
 //! // Two marks at (0, 0) and (100, 0); the first has the higher priority. They touch at
 //! // zoom 5.
@@ -34,6 +36,15 @@
 //!
 //! let gone = Record::Removed { eliminator: 0, numerator: 10_000, denominator: 400 };
 //! assert!(records(&scheduled).unwrap().eq([Record::Never, gone]));
+//!
+//! // The first mark is for the overview: it pops up at zoom 8, and until then the other one
+//! // lives.
+//! let popups = popups_to_vec(&[8 * 64, NO_POPUP]);
+//! let sheet = assemble_to_vec(&[(Code::Marks, &marks), (Code::Popups, &popups)])?;
+//! let scheduled = schedule_to_vec(&sheet)?;
+//! let at = |zoom| view_to_map(&scheduled, View { zoom: Zoom::Wheel(zoom), ..view });
+//! assert!(at(7.0)?.iter().eq([1]));
+//! assert!(at(8.0)?.iter().eq([0]));
 //! # Ok::<(), rollmap::Refusal>(())
 //! ```
 
@@ -46,6 +57,7 @@ mod fill;
 mod log;
 mod mark;
 mod part;
+mod popup;
 mod record;
 mod refusal;
 mod sheet;
@@ -59,6 +71,7 @@ pub use fill::{fill, fill_to_vec, rescue};
 pub use log::{log_to_marks, log_to_marks_vec, marks_to_log, marks_to_log_vec, LOG_RECORD_BYTES};
 pub use mark::{marks, marks_to_vec, Mark, MARK_BYTES};
 pub use part::{part, Code};
+pub use popup::{popups, popups_bytes, popups_to_vec, LARGEST_POPUP, NO_POPUP, POPUP_BYTES};
 pub use record::{records, Record, RECORD_BYTES};
 pub use refusal::Refusal;
 pub use sheet::{

@@ -15,11 +15,19 @@ pub enum Code {
     Index = 3,
     /// Part 4: the [`Edition`](crate::Edition) that ranks the marks.
     Edition = 4,
+    /// Part 5: the [`popups`](crate::popups()), one for each mark.
+    Popups = 5,
 }
 
 impl Code {
     /// Every code, rising: the order in which a sheet has its parts.
-    pub const ALL: &'static [Self] = &[Self::Marks, Self::Schedule, Self::Index, Self::Edition];
+    pub const ALL: &'static [Self] = &[
+        Self::Marks,
+        Self::Schedule,
+        Self::Index,
+        Self::Edition,
+        Self::Popups,
+    ];
 
     /// The code as the contents have it.
     pub const fn number(self) -> u16 {
@@ -45,7 +53,7 @@ mod tests {
     #[test]
     fn codes_rise_from_1() {
         let codes = Code::ALL.iter().map(|code| code.number());
-        assert!(codes.eq(1..=4));
+        assert!(codes.eq(1..=5));
         assert!(Code::ALL.is_sorted());
     }
 }

@@ -10,14 +10,15 @@ pub const RECORD_BYTES: usize = 14;
 pub enum Record {
     /// It is never removed.
     Never,
-    /// It goes where the squared zoom reaches its removal value.
+    /// It goes where the squared zoom reaches its removal value, which is its pair value
+    /// with another mark: where both are there and touch.
     Removed {
-        /// The number of the mark that it touches there. That one lives on, and goes
-        /// later or never.
+        /// The number of that mark. It lives on, and goes later or never.
         eliminator: u16,
-        /// The squared distance of the two.
+        /// The squared distance of the two; or the square of the larger popup of both, where
+        /// they touch before it.
         numerator: u64,
-        /// The squared sum of their radii; above 0 in an accepted sheet.
+        /// The squared sum of their radii, or 4,096; above 0 in an accepted sheet.
         denominator: u32,
     },
 }

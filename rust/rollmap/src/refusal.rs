@@ -51,6 +51,8 @@ pub enum Refusal {
     Edition = 19,
     /// 20: the turn of a view, or how far out its edges lie.
     Window = 20,
+    /// 21: the popups in part 5, or that of a mark to be added.
+    Popups = 21,
 }
 
 impl Refusal {
@@ -76,6 +78,7 @@ impl Refusal {
         Self::Full,
         Self::Edition,
         Self::Window,
+        Self::Popups,
     ];
 
     /// The question's number.
@@ -92,9 +95,9 @@ impl Refusal {
     /// The question in words.
     pub const fn question(self) -> &'static str {
         match self {
-            Self::Contents => "are there 2 bytes, 1 to 4 parts, and the whole contents?",
+            Self::Contents => "are there 2 bytes, 1 to 5 parts, and the whole contents?",
             Self::Codes => {
-                "do the codes rise within 1 to 4, is part 1 there, and part 3 only with part 2?"
+                "do the codes rise within 1 to 5, is part 1 there, and part 3 only with part 2?"
             }
             Self::Bodies => {
                 "does the first body start right after the contents, each next one where the \
@@ -109,8 +112,8 @@ impl Refusal {
             Self::Lengths => "are parts 2 and 3, if present, 14n and 2n bytes?",
             Self::Schedule => {
                 "is each schedule record the 'never' record, or else does it name a \
-                 higher-ranked mark below n, with their touching value as its two unreduced \
-                 numbers, and is that mark removed later?"
+                 higher-ranked mark below n, with their pair value as its two unreduced numbers, \
+                 and is that mark removed later?"
             }
             Self::Index => "is part 3 the tree that parts 1 and 2 give?",
             Self::Unscheduled => "are parts 2 and 3 there?",
@@ -134,6 +137,10 @@ impl Refusal {
             Self::Edition => "is part 4, if present, one byte of 1 or 2?",
             Self::Window => {
                 "is the turn 0 to 3 quarter turns, and each edge from -32,768 to 32,768?"
+            }
+            Self::Popups => {
+                "is part 5, if present, 4n bytes, with no popup above 65,536; and is the popup \
+                 of a new mark at most that, and 0 where part 5 is not there?"
             }
         }
     }
@@ -169,14 +176,14 @@ mod tests {
     use super::*;
 
     #[test]
-    fn numbers_are_1_to_20_in_order() {
+    fn numbers_are_1_to_21_in_order() {
         let numbers = Refusal::ALL.iter().map(|refusal| refusal.number());
-        assert!(numbers.eq(1..=20));
+        assert!(numbers.eq(1..=21));
         for &refusal in Refusal::ALL {
             assert_eq!(Refusal::from_number(refusal.number()), Some(refusal));
         }
         assert_eq!(Refusal::from_number(0), None);
-        assert_eq!(Refusal::from_number(21), None);
+        assert_eq!(Refusal::from_number(22), None);
     }
 
     #[test]

@@ -1,6 +1,6 @@
 //! Checking, scheduling and putting together a sheet, and reading its parts.
 
-use crate::{ffi, part, Code, Refusal, EDITION_BYTES, MARK_BYTES};
+use crate::{ffi, part, popups_bytes, Code, Refusal, EDITION_BYTES, MARK_BYTES};
 
 /// The most marks a sheet has.
 pub const MOST_MARKS: usize = 4_096;
@@ -15,15 +15,16 @@ pub const fn work_bytes(n: usize) -> usize {
     32 * n + 1_024
 }
 
-/// Bytes of the sheet that scheduling n marks writes, where no part 4 is kept;
-/// [`EDITION_BYTES`] more where one is.
+/// Bytes of the sheet that scheduling n marks writes, where no part beyond 3 is kept;
+/// [`EDITION_BYTES`] more where part 4 is, and [`popups_bytes`] of the marks where part 5
+/// is.
 pub const fn scheduled_bytes(n: usize) -> usize {
     32 + 27 * n
 }
 
-/// A work buffer that is lent to what schedules marks: at least [`work_bytes`] of the marks, which
-/// hold anything before, and anything after a success. It has a type of its own so that
-/// it cannot be taken for the buffer that is written.
+/// A work buffer that is lent to what schedules marks: at least [`work_bytes`] of the
+/// marks, which hold anything before, and anything after a success. It has a type of its
+/// own so that it cannot be taken for the buffer that is written.
 #[derive(Debug)]
 pub struct Work<'a>(pub &'a mut [u8]);
 
@@ -38,10 +39,11 @@ pub fn check(sheet: &[u8]) -> Result<(), Refusal> {
     Ok(())
 }
 
-/// Schedules a sheet afresh into `out`, by its own [`Edition`](crate::Edition), with its
-/// index, whatever schedule it has, and answers the number of bytes written,
-/// [`scheduled_bytes`] of its marks, and [`EDITION_BYTES`] where it has a part 4, which is
-/// kept. Bytes past these stay as they are.
+/// Schedules a sheet afresh into `out`, by its own [`Edition`](crate::Edition) and its own
+/// [`popups`](crate::popups()), with its index, whatever schedule it has. Parts 4 and 5 are
+/// kept, where it has them. Answers the number of bytes written: [`scheduled_bytes`] of its
+/// marks, [`EDITION_BYTES`] with part 4, and [`popups_bytes`] of its marks with part 5.
+/// Bytes past these stay as they are.
 ///
 /// # Errors
 ///
@@ -62,14 +64,14 @@ pub fn schedule_to_vec(sheet: &[u8]) -> Result<Vec<u8>, Refusal> {
     scheduled_to_vec(n, |work, out| schedule(sheet, work, out))
 }
 
-/// What a call writes that schedules n marks, in buffers of its own, with room for a part
-/// 4 that is kept.
+/// What a call writes that schedules n marks, in buffers of its own, with room for the
+/// parts that are kept.
 pub(crate) fn scheduled_to_vec(
     n: usize,
     call: impl FnOnce(Work<'_>, &mut [u8]) -> Result<usize, Refusal>,
 ) -> Result<Vec<u8>, Refusal> {
     let mut work = vec![0; work_bytes(n)];
-    let mut out = vec![0; scheduled_bytes(n) + EDITION_BYTES];
+    let mut out = vec![0; scheduled_bytes(n) + EDITION_BYTES + popups_bytes(n)];
     let written = call(Work(&mut work), &mut out)?;
     out.truncate(written);
     Ok(out)

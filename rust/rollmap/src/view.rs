@@ -55,9 +55,9 @@ pub const fn map_bytes(n: usize) -> usize {
 
 /// Answers a view: writes which marks are shown to `map`, mark m as bit m mod 8 of
 /// byte m / 8, and answers their count. A mark is shown if it lives at the zoom and its
-/// disk there, about its turned place, reaches the rectangle, touching included. Unused
-/// bits of the last byte become 0, and bytes past the first [`map_bytes`] of the marks
-/// stay as they are.
+/// disk there, about its turned place, reaches the rectangle, touching included. It lives
+/// from its [popup](crate::popups()) on until it is removed. Unused bits of the last byte
+/// become 0, and bytes past the first [`map_bytes`] of the marks stay as they are.
 ///
 /// Of a sheet that scheduling wrote, a view with a turn gives what a view without one
 /// gives of the sheet that is scheduled from the marks at their [turned](Turn::turned)

@@ -4,13 +4,13 @@
 mod common;
 
 use common::{
-    bodies_of, code, our_records, scheduled_with, some_room, some_sheet, Lent, SomeBodies, Tally,
-    NAMED,
+    bodies_of, code, our_records, scheduled_of, some_room, some_sheet, Lent, SomeBodies, Tally,
 };
 use oracle::contents::Part;
 use oracle::mark::write_marks;
+use oracle::popup::write_popups;
 use oracle::rank::Edition::{First, Second};
-use oracle::sample::{each_list, marks, Generator, Shape, CODES_TAKEN, P1};
+use oracle::sample::{each_list, marks, popups, Generator, Popups, Shape, CODES_TAKEN, P1};
 use oracle::sheet::{join, join_parts, part_extent, split};
 use rollmap::Code;
 
@@ -30,26 +30,28 @@ fn assemble(parts: &[Part], out_length: usize, seed: u64) -> u32 {
     out.assert_answered(&answer, &expected)
 }
 
-/// The bodies of P1, scheduled, by code, with an edition in which they are the same.
-fn p1_bodies() -> [Vec<u8>; 4] {
+/// The bodies of P1, scheduled, by code, with an edition and popups with which they are the
+/// same.
+fn p1_bodies() -> [Vec<u8>; 5] {
     let [part_1, part_2, part_3] = bodies_of(&P1, &our_records(&P1));
-    [part_1, part_2, part_3, Second.write().to_vec()]
+    let part_5 = write_popups(&[12, 320, 319, 0]);
+    [part_1, part_2, part_3, Second.write().to_vec(), part_5]
 }
 
 /// The parts of these codes.
-fn parts_of<'a>(codes: &[u16], bodies: &'a [Vec<u8>; 4]) -> Vec<Part<'a>> {
+fn parts_of<'a>(codes: &[u16], bodies: &'a [Vec<u8>; 5]) -> Vec<Part<'a>> {
     let body = |code: u16| bodies[usize::from(code) - 1].as_slice();
     codes.iter().map(|&code| (code, body(code))).collect()
 }
 
 #[test]
 fn every_list_of_codes() {
-    let empty = [vec![], vec![], vec![], vec![1]];
-    let faulty = [(); 4].map(|()| vec![0]);
-    for length in 0..=6 {
-        each_list(&[1, 2, 3, 4], length, &mut |codes| {
+    let empty = [vec![], vec![], vec![], vec![1], vec![]];
+    let faulty = [(); 5].map(|()| vec![0]);
+    for length in 0..=7 {
+        each_list(&[1, 2, 3, 4, 5], length, &mut |codes| {
             let expected = match codes.len() {
-                0 | 5.. => 1,
+                0 | 6.. => 1,
                 _ if CODES_TAKEN.contains(&codes) => 0,
                 _ => 2,
             };
@@ -67,7 +69,7 @@ fn every_list_of_codes() {
 
 #[test]
 fn every_length_of_the_written_buffer() {
-    let empty = [vec![], vec![], vec![], vec![2]];
+    let empty = [vec![], vec![], vec![], vec![2], vec![]];
     for bodies in [&p1_bodies(), &empty] {
         for codes in CODES_TAKEN {
             let parts = parts_of(codes, bodies);
@@ -83,7 +85,7 @@ fn every_length_of_the_written_buffer() {
 #[test]
 fn a_part_goes_by_its_code_and_not_by_its_place() {
     let bodies = p1_bodies();
-    let [part_1, part_2, _, part_4] = bodies.each_ref().map(Vec::as_slice);
+    let [part_1, part_2, _, part_4, part_5] = bodies.each_ref().map(Vec::as_slice);
     assert_eq!(assemble(&[(1, part_1), (4, part_4)], 67, 1), 0);
     assert_eq!(assemble(&[(1, part_1), (2, part_4)], 67, 2), 7);
     assert_eq!(assemble(&[(1, part_1), (4, part_2)], 200, 3), 19);
@@ -91,6 +93,10 @@ fn a_part_goes_by_its_code_and_not_by_its_place() {
         assemble(&[(1, part_1), (2, part_2), (4, part_4)], 133, 4),
         0
     );
+    assert_eq!(assemble(&[(1, part_1), (5, part_5)], 82, 5), 0);
+    assert_eq!(assemble(&[(1, part_1), (2, part_5)], 82, 6), 7);
+    assert_eq!(assemble(&[(1, part_1), (4, part_5)], 82, 7), 19);
+    assert_eq!(assemble(&[(1, part_1), (5, part_4)], 82, 8), 21);
 }
 
 #[test]
@@ -108,15 +114,44 @@ fn damaged_editions() {
 }
 
 #[test]
+fn damaged_popups() {
+    let mut bodies = p1_bodies();
+    let longer = [bodies[4].as_slice(), &[0]].concat();
+    let damaged = [
+        vec![],
+        bodies[4][1..].to_vec(),
+        longer,
+        write_popups(&[0, 0, 0, 65_537]),
+        write_popups(&[u32::MAX, 0, 0, 0]),
+    ];
+    for part_5 in damaged {
+        bodies[4] = part_5;
+        for codes in CODES_TAKEN {
+            for part_4 in [[2], [0]] {
+                bodies[3] = part_4.to_vec();
+                let refused = match codes {
+                    _ if codes.contains(&4) && part_4 == [0] => Some(19),
+                    _ if codes.contains(&5) => Some(21),
+                    _ => None,
+                };
+                let parts = parts_of(codes, &bodies);
+                assert_eq!(assemble(&parts, 200, 1), refused.unwrap_or(0));
+                assert_eq!(assemble(&parts, 0, 1), refused.unwrap_or(13));
+            }
+        }
+    }
+}
+
+#[test]
 fn every_byte_of_the_bodies_with_some_values() {
     let mut bodies = p1_bodies();
-    for body in 0..4 {
+    for body in 0..5 {
         for at in 0..bodies[body].len() {
             let own = bodies[body][at];
             for value in [0, 1, 2, 3, 10, 64, 199, 200, 255, own ^ 1, own ^ 128] {
                 bodies[body][at] = value;
                 for codes in CODES_TAKEN {
-                    assemble(&parts_of(codes, &bodies), 151, u64::from(value));
+                    assemble(&parts_of(codes, &bodies), 177, u64::from(value));
                 }
             }
             bodies[body][at] = own;
@@ -133,16 +168,16 @@ fn many_bodies_with_a_few_faults() {
         let mut parts = drawn.parts();
         if generator.below(20) == 0 {
             let at = generator.below(parts.len() as u32) as usize;
-            parts[at].0 = generator.choose(&[1, 2, 3, 4]);
+            parts[at].0 = generator.choose(&[1, 2, 3, 4, 5]);
         }
         if generator.below(40) == 0 {
-            parts.resize(generator.choose(&[0, 5, 6]), (4, &[1]));
+            parts.resize(generator.choose(&[0, 6, 7]), (4, &[1]));
         }
         let needed = join_parts(&parts).len();
         let length = some_room(&mut generator, needed);
         numbers.add(assemble(&parts, length, seed));
     }
-    numbers.assert_reached([0, 1, 2, 4, 5, 6, 7, 8, 9, 13, 19], 100);
+    numbers.assert_reached([0, 1, 2, 4, 5, 6, 7, 8, 9, 13, 19, 21], 100);
 }
 
 #[test]
@@ -151,15 +186,13 @@ fn the_longest_bodies() {
     let sample = marks(Shape::Clustered, 4_096, 2);
     let records = common::foreign_records(&mut generator, First.reel(&sample));
     let [part_1, part_2, part_3] = bodies_of(&sample, &records);
-    let bodies = [part_1, part_2, part_3, First.write().to_vec()];
-    for (codes, needed) in CODES_TAKEN.into_iter().zip([
-        12 + 45_056,
-        22 + 102_400,
-        22 + 45_057,
-        32 + 110_592,
-        32 + 102_401,
-        42 + 110_593,
-    ]) {
+    let part_5 = write_popups(&[0; 4_096]);
+    let bodies = [part_1, part_2, part_3, First.write().to_vec(), part_5];
+    let lengths = [45_056, 57_344, 8_192, 1, 16_384];
+    assert_eq!(bodies.each_ref().map(Vec::len), lengths);
+    for codes in CODES_TAKEN {
+        let body = |&code: &u16| 10 + lengths[usize::from(code) - 1];
+        let needed = 2 + codes.iter().map(body).sum::<usize>();
         assert_eq!(assemble(&parts_of(codes, &bodies), needed, 1), 0);
         assert_eq!(assemble(&parts_of(codes, &bodies), needed - 1, 2), 13);
     }
@@ -182,7 +215,7 @@ fn the_buffer_of_its_own_is_long_enough() {
         assert_eq!(assembled.map_err(|refusal| refusal.number()), expected);
         numbers.add(number);
     }
-    numbers.assert_reached([0, 4, 5, 6, 7, 8, 9, 19], 10);
+    numbers.assert_reached([0, 4, 5, 6, 7, 8, 9, 19, 21], 10);
 }
 
 // ---- reading parts
@@ -210,12 +243,10 @@ fn parts(sheet: &[u8]) -> Vec<Option<&[u8]>> {
 fn parts_of_accepted_sheets() {
     for shape in Shape::ALL {
         for n in [0, 1, 2, 9, 40] {
-            let whole = scheduled_with(Some(First), &marks(shape, n, n as u64));
-            let present = split(&whole).unwrap().present();
+            let sample = marks(shape, n, n as u64);
             for codes in CODES_TAKEN {
-                let mut own = present.clone();
-                own.retain(|(code, _)| codes.contains(code));
-                let sheet = join_parts(&own);
+                let sheet = scheduled_of(codes, &sample, &popups(Popups::Any, &sample, 1));
+                let own = split(&sheet).unwrap().present();
                 let body = |code: &Code| own.iter().find(|(own, _)| *own == code.number());
                 let expected = Code::ALL.iter().map(|code| body(code).map(|part| part.1));
                 assert!(parts(&sheet).into_iter().eq(expected));
@@ -227,8 +258,8 @@ fn parts_of_accepted_sheets() {
 
 #[test]
 fn parts_of_every_sheet_with_a_byte_changed() {
-    for named in NAMED {
-        let mut sheet = scheduled_with(named, &P1);
+    for codes in CODES_TAKEN {
+        let mut sheet = scheduled_of(codes, &P1, &[640, 0, 5, 65_536]);
         for at in 0..sheet.len() {
             for bit in 0..8 {
                 sheet[at] ^= 1 << bit;
@@ -238,9 +269,9 @@ fn parts_of_every_sheet_with_a_byte_changed() {
             parts(&sheet[..at]);
         }
         sheet.push(0);
-        assert_eq!(parts(&sheet), [None; 4]);
+        assert_eq!(parts(&sheet), [None; 5]);
     }
-    assert_eq!(parts(&[]), [None; 4]);
+    assert_eq!(parts(&[]), [None; 5]);
 }
 
 #[test]
@@ -258,8 +289,9 @@ fn parts_of_many_sheets_with_a_few_faults() {
 #[test]
 fn putting_the_parts_of_a_sheet_together_gives_the_sheet() {
     for shape in Shape::ALL {
-        for named in NAMED {
-            let sheet = scheduled_with(named, &marks(shape, 33, 9));
+        let sample = marks(shape, 33, 9);
+        for codes in CODES_TAKEN {
+            let sheet = scheduled_of(codes, &sample, &popups(Popups::Few, &sample, 9));
             let own = Code::ALL
                 .iter()
                 .map(|&code| Some((code, part(&sheet, code)?)));

@@ -8,13 +8,13 @@ use std::io::Write;
 use std::path::{Path, PathBuf};
 use std::process::{Command, Stdio};
 
-use common::{one_part, scheduled, scheduled_with, some_room, some_sheet, SomeBodies, NAMED};
+use common::{one_part, scheduled, scheduled_of, some_room, some_sheet, SomeBodies};
 use oracle::map::map_bytes;
-use oracle::sample::{each_list, marks, refused_sheets, Generator, Shape, P1};
+use oracle::sample::{each_list, marks, refused_sheets, Generator, Shape, CODES_TAKEN, P1};
 use oracle::view::{view, Edges, Window};
 use oracle::zoom::Zoom;
 
-use rollmap::{Code, Edition, Refusal, Turn, FARTHEST_EDGE};
+use rollmap::{Code, Edition, Refusal, Turn, FARTHEST_EDGE, LARGEST_POPUP, NO_POPUP};
 
 /// The archive that this crate was built with.
 const ARCHIVE: &str = env!("ROLLMAP_ARCHIVE");
@@ -48,6 +48,7 @@ crossed edges: 11 0, map ee
 short map: 13 65535
 add in short work: 13 0, then ee
 add an unknown kind: 5 0, then ee
+add a popup without part 5: 21 0, then ee
 add: 0 167, then ee, mark d4 fe 01 04 00 00 01 02 95 fe ff
 take it out: 0 140, the same 1, then ee
 take out 4 of 4: 17 0
@@ -61,6 +62,15 @@ no parts: 1 0
 edition 1: 0 67, in a short buffer 13 0, scheduled 0 151, then ee, part 4 at 150: 1, 1 by 0, 2 by 1
 edition 2: 0 67, in a short buffer 13 0, scheduled 0 151, then ee, part 4 at 150: 2, 1 by 2, 2 by 0
 edition 3: 19 0
+popups: 0 82, in a short buffer 13 0, scheduled 0 166, then ee, part 5 at 150, 16 bytes
+1: 0 409600 4096
+2: 1 10000 400
+stop 0: 0, count 3, map 0e ee, marks 1 2 3
+wheel 10: 0, count 1, map 01 ee, marks 0
+add a popup of 65537: 21 0, then ee
+add a popup of 65536: 0 197, then ee, part 5 ends in 00 00 01 00
+take it out: 0 166, the same 1, then ee
+a popup of 66176: 21 0
 short fill: 13 0, then ee
 fill: 0 11, radius 120, tag 7, then ee
 marks to log: 0 13, x 12 34 5d, then ee
@@ -152,10 +162,14 @@ fn the_header_names_every_code_and_every_edition() {
 }
 
 #[test]
-fn the_header_names_no_turn_and_the_farthest_edge() {
+fn the_header_names_no_popup_no_turn_and_the_farthest_edge() {
     assert_eq!(
         defined("#define ROLLMAP_NO_"),
-        [("MARK", 65_535), ("TURN", Turn::None.quarters().into()),]
+        [
+            ("POPUP", NO_POPUP),
+            ("MARK", 65_535),
+            ("TURN", Turn::None.quarters().into()),
+        ]
     );
     // It has a sign.
     let edge = format!("#define ROLLMAP_FARTHEST_EDGE {FARTHEST_EDGE}\n");
@@ -168,8 +182,10 @@ fn the_header_has_the_sizes_and_the_version_of_this_crate() {
         ("MOST_MARKS", rollmap::MOST_MARKS),
         ("MARK_BYTES", rollmap::MARK_BYTES),
         ("RECORD_BYTES", rollmap::RECORD_BYTES),
+        ("POPUP_BYTES", rollmap::POPUP_BYTES),
         ("LOG_RECORD_BYTES", rollmap::LOG_RECORD_BYTES),
         ("EDITION_BYTES", rollmap::EDITION_BYTES),
+        ("LARGEST_POPUP", LARGEST_POPUP as usize),
     ];
     for (name, size) in sizes {
         assert!(
@@ -363,17 +379,21 @@ fn assert_printed(name: &str, cases: Vec<(Vec<u8>, String)>) {
 
 #[test]
 fn every_list_of_codes_through_c() {
-    let bodies: [&[u8]; 7] = [&[], &[], &[], &[2], &[], &[0xff; 5], &[0; 300]];
+    let bodies: [&[u8]; 6] = [&[], &[], &[], &[2], &[], &[0xff; 5]];
     let body = |&code: &u16| bodies[usize::from(code).saturating_sub(1)];
     let mut cases = Vec::new();
+    let mut try_list = |codes: &[u16]| {
+        let own: Vec<&[u8]> = codes.iter().map(body).collect();
+        cases.push(assemble_case(codes, &own, 60));
+    };
     for length in 0..=5 {
-        each_list(&[0, 1, 2, 3, 4, 5], length, &mut |codes| {
-            let own: Vec<&[u8]> = codes.iter().map(body).collect();
-            cases.push(assemble_case(codes, &own, 50));
-        });
+        each_list(&[0, 1, 2, 3, 4, 5, 6], length, &mut try_list);
     }
+    // One more than there are.
+    each_list(&[1, 5, 6], 6, &mut try_list);
+    try_list(&[1, 2, 3, 4, 5, 6]);
     // Both bytes of a code count.
-    for code in [256, 257, 258, 260, 1_028, 65_281, 65_535] {
+    for code in [256, 257, 258, 260, 261, 1_028, 65_281, 65_535] {
         cases.push(assemble_case(&[code], &[&[]], 50));
         cases.push(assemble_case(&[1, code], &[&[], &[1]], 50));
     }
@@ -388,7 +408,7 @@ fn other_numbers_of_bodies_than_of_codes_through_c() {
         let drawn = SomeBodies::draw(&mut generator);
         let mut codes = drawn.codes.to_vec();
         if generator.below(20) == 0 {
-            codes.resize(generator.choose(&[0, 5, 16]), 4);
+            codes.resize(generator.choose(&[0, 6, 16]), 4);
         }
         let own: Vec<&[u8]> = drawn.parts().into_iter().map(|(_, body)| body).collect();
         // Further bodies are junk, and some lack.
@@ -408,12 +428,14 @@ fn other_numbers_of_bodies_than_of_codes_through_c() {
 #[test]
 fn every_code_of_a_part_through_c() {
     let mut generator = Generator::new(52);
-    let sheets = NAMED.map(|named| scheduled_with(named, &P1));
-    let mut sheets = sheets.to_vec();
+    let popups = [640, 0, 5, 65_536];
+    let mut sheets = CODES_TAKEN
+        .map(|codes| scheduled_of(codes, &P1, &popups))
+        .to_vec();
     sheets.extend((0..300).map(|_| some_sheet(&mut generator)));
     let mut cases = Vec::new();
     for sheet in sheets {
-        for code in (0..10).chain([256, 257, 258, 260, 65_536, 65_537, 65_540, u32::MAX]) {
+        for code in (0..10).chain([256, 257, 258, 261, 65_536, 65_537, 65_541, u32::MAX]) {
             cases.push(part_case(&sheet, code));
         }
     }

@@ -3,8 +3,8 @@
 mod common;
 
 use common::{
-    bound, foreign_records, lengths_with, longest, number, one_part, schedule_in, scheduled,
-    some_marks, some_room, some_sheet, three_parts, tied_marks, Expected, Tally, Written,
+    bound, foreign_records, lengths, longest, number, one_part, schedule_in, scheduled, some_marks,
+    some_room, some_sheet, three_parts, tied_marks, Beyond, Expected, Tally, Written,
 };
 use oracle::mark::Mark;
 use oracle::rank::Edition::First;
@@ -22,10 +22,10 @@ const NEW: Mark = Mark {
     tag: 65_534,
 };
 
-/// A mark comes, or the mark of a number goes.
+/// A mark comes, with its popup, or the mark of a number goes.
 #[derive(Clone, Copy, Debug)]
 enum Change {
-    Add(Mark),
+    Add(Mark, u32),
     TakeOut(u32),
 }
 
@@ -35,7 +35,7 @@ impl Change {
     /// What the library makes of a sheet.
     fn make(self, sheet: &[u8], work: Work<'_>, out: &mut [u8]) -> Written {
         match self {
-            Add(mark) => rollmap::add(sheet, bound(&mark), work, out),
+            Add(mark, popup) => rollmap::add(sheet, bound(&mark), popup, work, out),
             TakeOut(m) => rollmap::take_out(sheet, m, work, out),
         }
     }
@@ -43,7 +43,7 @@ impl Change {
     /// What the library makes of a sheet in buffers of its own.
     fn make_to_vec(self, sheet: &[u8]) -> Result<Vec<u8>, Refusal> {
         match self {
-            Add(mark) => rollmap::add_to_vec(sheet, bound(&mark)),
+            Add(mark, popup) => rollmap::add_to_vec(sheet, bound(&mark), popup),
             TakeOut(m) => rollmap::take_out_to_vec(sheet, m),
         }
     }
@@ -51,7 +51,7 @@ impl Change {
     /// What the oracle makes of a sheet in buffers of these lengths.
     fn expected(self, sheet: &[u8], [work, out]: [usize; 2]) -> Expected {
         match self {
-            Add(mark) => oracle::change::add(sheet, mark, work, out),
+            Add(mark, popup) => oracle::change::add(sheet, mark, popup, work, out),
             TakeOut(m) => oracle::change::take_out(sheet, m, work, out),
         }
     }
@@ -60,18 +60,24 @@ impl Change {
     fn of(self, old: &[Mark]) -> Vec<Mark> {
         let mut new = old.to_vec();
         match self {
-            Add(mark) => new.push(mark),
+            Add(mark, _) => new.push(mark),
             TakeOut(m) => _ = new.remove(m as usize),
         }
         new
     }
 
-    /// Some change of n marks, most often one that is not refused.
-    fn draw(generator: &mut Generator, n: usize) -> Self {
+    /// Some change of a sheet of n marks, most often one that is not refused where it has a
+    /// part 5, or has none.
+    fn draw(generator: &mut Generator, n: usize, part_5: bool) -> Self {
         if generator.below(2) == 0 {
             let mut choice = marks(generator.choose(&Shape::ALL), 1, generator.draw());
             choice.extend([NEW, NEW]);
-            return Add(generator.choose(&choice));
+            let popup = match generator.below(8) {
+                0 => generator.choose(&[1, 65_536, 65_537, 1 << 17, u32::MAX]),
+                1..=5 if part_5 => generator.below(65_537) >> generator.below(17),
+                _ => 0,
+            };
+            return Add(generator.choose(&choice), popup);
         }
         let n = n as u32;
         let wide = generator.choose(&[1 << 8, 1 << 12, 1 << 16, 1 << 31]);
@@ -82,11 +88,6 @@ impl Change {
             _ => generator.below(n.max(1)),
         })
     }
-}
-
-/// The lengths of work and out that scheduling n marks without part 4 asks for.
-fn lengths(n: usize) -> [usize; 2] {
-    lengths_with(false, n)
 }
 
 /// Makes a change in buffers of these lengths, and sees that the answer and every byte
@@ -128,8 +129,8 @@ fn split_last(marks: &[Mark]) -> (&[Mark], Mark) {
 fn p1_comes_and_goes_mark_by_mark() {
     let mut sheet = scheduled(&[]);
     for n in 0..P1.len() {
-        becomes(&sheet, &P1[..n], Add(P1[n]));
-        sheet = changed(&sheet, [Add(P1[n])]);
+        becomes(&sheet, &P1[..n], Add(P1[n], 0));
+        sheet = changed(&sheet, [Add(P1[n], 0)]);
     }
     assert_eq!(sheet, scheduled(&P1));
     for n in 0..P1.len() {
@@ -149,7 +150,7 @@ fn eliminators_go_by_the_new_numbers() {
         Record::new(0, 10_009, 225),
     ];
     assert_eq!(records(&fewer), expected);
-    let more = changed(&fewer, [Add(P1[0])]);
+    let more = changed(&fewer, [Add(P1[0], 0)]);
     let expected = [
         Record::new(3, 10_000, 400),
         Record::new(3, 40_000, 400),
@@ -177,7 +178,7 @@ fn every_field_of_a_new_mark() {
     ];
     for mark in ends {
         for old in [&[], &P1[..1], &P1[..]] {
-            becomes(&scheduled(old), old, Add(mark));
+            becomes(&scheduled(old), old, Add(mark, 0));
         }
     }
 }
@@ -188,7 +189,7 @@ fn many_small_sheets() {
         for seed in 0..600 {
             let sample = marks(shape, 1 + seed as usize % 24, seed);
             let (others, last) = split_last(&sample);
-            becomes(&scheduled(others), others, Add(last));
+            becomes(&scheduled(others), others, Add(last, 0));
             let m = seed as u32 % sample.len() as u32;
             becomes(&scheduled(&sample), &sample, TakeOut(m));
         }
@@ -217,7 +218,7 @@ fn every_change_of_two_marks_from_a_small_choice() {
         for &b in &choice {
             let sheet = scheduled(&[a, b]);
             for &new in &choice {
-                becomes(&sheet, &[a, b], Add(new));
+                becomes(&sheet, &[a, b], Add(new, 0));
             }
             becomes(&sheet, &[a, b], TakeOut(0));
             becomes(&sheet, &[a, b], TakeOut(1));
@@ -232,7 +233,7 @@ fn many_sheets_full_of_ties() {
         let n = 2 + generator.below(30);
         let sample = tied_marks(&mut generator, n as usize);
         let (others, last) = split_last(&sample);
-        becomes(&scheduled(others), others, Add(last));
+        becomes(&scheduled(others), others, Add(last, 0));
         let m = generator.below(n);
         becomes(&scheduled(&sample), &sample, TakeOut(m));
     }
@@ -245,7 +246,7 @@ fn sheets_about_the_number_from_which_cells_are_used() {
         for n in [191, 192, 193, 255, 256, 257, 300, 700] {
             let sample = marks(shape, n, 8);
             let (others, last) = split_last(&sample);
-            becomes(&scheduled(others), others, Add(last));
+            becomes(&scheduled(others), others, Add(last, 0));
             let m = generator.below(n as u32);
             becomes(&scheduled(&sample), &sample, TakeOut(m));
         }
@@ -263,7 +264,7 @@ fn the_largest_sheets() {
     for shape in shapes {
         let sample = marks(shape, 4_096, 9);
         let (others, last) = split_last(&sample);
-        becomes(&scheduled(others), others, Add(last));
+        becomes(&scheduled(others), others, Add(last, 0));
         let sheet = scheduled(&sample);
         for m in [0, 2_048, 4_095] {
             becomes(&sheet, &sample, TakeOut(m));
@@ -280,12 +281,12 @@ fn a_schedule_that_is_not_ours_is_taken_and_the_result_is_fresh() {
             let never = vec![Record::NEVER; n];
             for records in [never, foreign_records(&mut generator, First.reel(&sample))] {
                 let foreign = three_parts(&sample, &records);
-                becomes(&foreign, &sample, Add(NEW));
+                becomes(&foreign, &sample, Add(NEW, 0));
                 if n > 0 {
                     let m = generator.below(n as u32);
                     becomes(&foreign, &sample, TakeOut(m));
                 }
-                let back = changed(&foreign, [Add(NEW), TakeOut(n as u32)]);
+                let back = changed(&foreign, [Add(NEW, 0), TakeOut(n as u32)]);
                 assert_eq!(back, scheduled(&sample));
             }
         }
@@ -300,12 +301,12 @@ fn a_scheduled_sheet_comes_back_byte_for_byte() {
         let n = sample.len();
         let sheet = rollmap::schedule_to_vec(&one_part(&sample)).unwrap();
         let new = marks(generator.choose(&Shape::ALL), 1, generator.draw());
-        let back = changed(&sheet, [Add(new[0]), TakeOut(n as u32)]);
+        let back = changed(&sheet, [Add(new[0], 0), TakeOut(n as u32)]);
         assert_eq!(back, sheet);
         // A copy of a mark that is there is a mark of its own.
         if n > 0 {
             let twin = generator.choose(&sample);
-            let back = changed(&sheet, [Add(twin), TakeOut(n as u32)]);
+            let back = changed(&sheet, [Add(twin, 0), TakeOut(n as u32)]);
             assert_eq!(back, sheet);
         }
     }
@@ -319,9 +320,10 @@ fn changes_one_after_the_other_are_one_scheduling() {
         let first = scheduled(&held);
         let mut changes = Vec::new();
         for _ in 0..generator.below(20) {
-            let next = match Change::draw(&mut generator, held.len()) {
-                TakeOut(m) if m as usize >= held.len() => Add(NEW),
-                taken => taken,
+            let next = match Change::draw(&mut generator, held.len(), false) {
+                TakeOut(m) if (m as usize) < held.len() => TakeOut(m),
+                TakeOut(_) => Add(NEW, 0),
+                Add(mark, _) => Add(mark, 0),
             };
             held = next.of(&held);
             changes.push(next);
@@ -337,7 +339,7 @@ fn what_the_work_buffer_held_makes_no_difference() {
         let sample = marks(Shape::Clustered, n, 31);
         let sheet = scheduled(&sample);
         let first = (n > 0).then_some(TakeOut(0));
-        for next in [Add(NEW)].into_iter().chain(first) {
+        for next in [Add(NEW, 0)].into_iter().chain(first) {
             let expected = scheduled(&next.of(&sample));
             let mut work = vec![0; work_bytes(n + 1)];
             let mut out = vec![0; expected.len()];
@@ -378,8 +380,9 @@ fn questions_1_to_10_come_first() {
     let [(_, unknown), ..] = refused_marks();
     for (number, sheet) in refused_sheets() {
         for next in [
-            Add(NEW),
-            Add(unknown),
+            Add(NEW, 0),
+            Add(NEW, 65_537),
+            Add(unknown, 0),
             TakeOut(0),
             TakeOut(4),
             TakeOut(65_536),
@@ -426,19 +429,24 @@ fn a_full_sheet_is_asked_before_the_new_mark() {
     let full = three_parts(&sample, &never);
     let fewer = three_parts(&sample[1..], &never[1..]);
     for (number, mark) in refused_marks() {
-        for lengths in [[0, 0], longest()] {
-            assert_eq!(change(&full, Add(mark), lengths), 18);
-            assert_eq!(change(&fewer, Add(mark), lengths), number);
+        for (lengths, popup) in [[0, 0], longest()]
+            .into_iter()
+            .flat_map(|lengths| [0, 1, 65_537].map(|popup| (lengths, popup)))
+        {
+            assert_eq!(change(&full, Add(mark, popup), lengths), 18);
+            assert_eq!(change(&fewer, Add(mark, popup), lengths), number);
         }
     }
     for lengths in [[0, 0], lengths(4_096), lengths(4_097)] {
-        assert_eq!(change(&full, Add(NEW), lengths), 18);
+        assert_eq!(change(&full, Add(NEW, 0), lengths), 18);
+        assert_eq!(change(&full, Add(NEW, 65_537), lengths), 18);
+        assert_eq!(change(&fewer, Add(NEW, 65_537), lengths), 21);
     }
     let [work, out] = lengths(4_096);
-    assert_eq!(change(&fewer, Add(NEW), [work - 1, out]), 13);
-    assert_eq!(change(&fewer, Add(NEW), [work, out - 1]), 13);
+    assert_eq!(change(&fewer, Add(NEW, 0), [work - 1, out]), 13);
+    assert_eq!(change(&fewer, Add(NEW, 0), [work, out - 1]), 13);
     assert_eq!(change(&full, TakeOut(4_096), longest()), 17);
-    assert_eq!(change(&one_part(&sample), Add(NEW), longest()), 10);
+    assert_eq!(change(&one_part(&sample), Add(NEW, 0), longest()), 10);
     assert_eq!(change(&one_part(&sample), TakeOut(4_096), longest()), 10);
 }
 
@@ -457,9 +465,12 @@ fn every_kind_of_a_new_mark_with_radii_at_both_sides_of_the_limit() {
                 (_, 16_384..) => 6,
                 _ => 0,
             };
-            assert_eq!(change(&sheet, Add(mark), lengths(5)), expected);
+            assert_eq!(change(&sheet, Add(mark, 0), lengths(5)), expected);
             let short = if expected == 0 { 13 } else { expected };
-            assert_eq!(change(&sheet, Add(mark), [0, 0]), short);
+            assert_eq!(change(&sheet, Add(mark, 0), [0, 0]), short);
+            // The popup is asked about right after these.
+            let popup = if expected == 0 { 21 } else { expected };
+            assert_eq!(change(&sheet, Add(mark, 7), [0, 0]), popup);
         }
     }
 }
@@ -469,7 +480,7 @@ fn lengths_of_both_buffers() {
     for n in [0, 1, 4] {
         let sheet = scheduled(&P1[..n]);
         let first = (n > 0).then_some(TakeOut(0));
-        for next in [Add(NEW)].into_iter().chain(first) {
+        for next in [Add(NEW, 0)].into_iter().chain(first) {
             let [work, out] = lengths(next.of(&P1[..n]).len());
             for (longer_work, longer_out) in [(0, 0), (1, 0), (0, 1), (100, 3), (7, 500)] {
                 let longer = [work + longer_work, out + longer_out];
@@ -492,26 +503,27 @@ fn many_sheets_and_changes_with_a_few_faults() {
     let (mut added, mut taken_out) = (Tally::default(), Tally::default());
     for _ in 0..40_000 {
         let sheet = some_sheet(&mut generator);
-        let (n, named) = oracle::sheet::open(&sheet).map_or((4, false), |opened| {
-            (opened.marks.len(), opened.bodies.get(4).is_some())
-        });
-        let mut next = Change::draw(&mut generator, n);
-        if let (Add(mark), 0) = (&mut next, generator.below(6)) {
+        let (n, beyond) = oracle::sheet::open(&sheet).map_or_else(
+            |_| (4, Beyond::default()),
+            |opened| (opened.marks.len(), Beyond::of(&opened)),
+        );
+        let mut next = Change::draw(&mut generator, n, beyond.popups.is_some());
+        if let (Add(mark, _), 0) = (&mut next, generator.below(6)) {
             (_, *mark) = generator.choose(&refused_marks());
         }
         let n = match next {
-            Add(_) => n + 1,
+            Add(..) => n + 1,
             TakeOut(_) => n.saturating_sub(1),
         };
-        let lengths = lengths_with(named, n).map(|needed| some_room(&mut generator, needed));
-        let number = change(&sheet, next, lengths);
+        let needed = beyond.lengths(n);
+        let number = change(&sheet, next, needed.map(|it| some_room(&mut generator, it)));
         match next {
-            Add(_) => added.add(number),
+            Add(..) => added.add(number),
             TakeOut(_) => taken_out.add(number),
         }
     }
-    added.assert_reached((0..=10).chain([13, 19]), 50);
-    taken_out.assert_reached((0..=10).chain([13, 17, 19]), 50);
+    added.assert_reached((0..=10).chain([13, 19, 21]), 50);
+    taken_out.assert_reached((0..=10).chain([13, 17, 19, 21]), 50);
 }
 
 #[test]
@@ -520,7 +532,7 @@ fn a_new_mark_is_refused_on_sheets_that_are_taken() {
     for _ in 0..500 {
         let sample = some_marks(&mut generator);
         for (number, mark) in refused_marks() {
-            assert_eq!(change(&scheduled(&sample), Add(mark), longest()), number);
+            assert_eq!(change(&scheduled(&sample), Add(mark, 0), longest()), number);
         }
     }
 }
@@ -531,8 +543,10 @@ fn the_buffers_of_its_own_are_long_enough() {
     let mut numbers = Tally::default();
     for _ in 0..4_000 {
         let sheet = some_sheet(&mut generator);
-        let n = oracle::sheet::open(&sheet).map_or(4, |opened| opened.marks.len());
-        let next = Change::draw(&mut generator, n);
+        let (n, part_5) = oracle::sheet::open(&sheet).map_or((4, false), |opened| {
+            (opened.marks.len(), opened.popups.is_some())
+        });
+        let next = Change::draw(&mut generator, n, part_5);
         let made = next.make_to_vec(&sheet);
         match next.expected(&sheet, longest()) {
             Ok(expected) => assert_eq!(made.as_ref(), Ok(&expected)),
@@ -540,9 +554,10 @@ fn the_buffers_of_its_own_are_long_enough() {
         }
         numbers.add(number(&made));
     }
-    numbers.assert_reached((0..=10).chain([17, 19]), 5);
+    numbers.assert_reached((0..=10).chain([17, 19, 21]), 5);
     let full = three_parts(&marks(Shape::Line, 4_096, 5), &[Record::NEVER; 4_096]);
-    assert_eq!(rollmap::add_to_vec(&full, bound(&NEW)), Err(Refusal::Full));
+    let refused = rollmap::add_to_vec(&full, bound(&NEW), 0);
+    assert_eq!(refused, Err(Refusal::Full));
     let refused = rollmap::take_out_to_vec(&full, 4_096);
     assert_eq!(refused, Err(Refusal::Missing));
 }

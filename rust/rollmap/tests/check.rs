@@ -3,14 +3,18 @@
 mod common;
 
 use common::{
-    bodies_of, joined, number, one_part, our_records, scheduled, scheduled_with, some_sheet,
-    three_parts, with_part_4, Tally, NAMED,
+    bodies_of, joined, number, one_part, our_records, scheduled, scheduled_of, scheduled_with,
+    some_sheet, three_parts, with_part_4, Beyond, Tally,
 };
 use oracle::fraction::Fraction;
 use oracle::mark::{touching_value, write_marks, Mark};
+use oracle::process::schedule_in_rank_order;
 use oracle::rank::Edition::{First, Second};
 use oracle::record::{write_records, Record};
-use oracle::sample::{each_list, marks, raw_sheet, Generator, Shape, CODES_TAKEN, P1};
+use oracle::reel::Reel;
+use oracle::sample::{
+    each_list, marks, popups, raw_sheet, Generator, Popups, Shape, CODES_TAKEN, P1,
+};
 use oracle::sheet::{join, join_parts};
 use oracle::tree::write_tree;
 
@@ -22,7 +26,7 @@ fn check(sheet: &[u8]) -> u32 {
     number
 }
 
-/// Accepted sheets of one to four parts: P1, no marks, and a few samples.
+/// Accepted sheets of one to five parts: P1, no marks, and a few samples.
 fn small_sheets() -> Vec<Vec<u8>> {
     let samples = [
         P1.to_vec(),
@@ -33,13 +37,8 @@ fn small_sheets() -> Vec<Vec<u8>> {
     ];
     let mut sheets = Vec::new();
     for sample in samples {
-        let [part_1, part_2, part_3] = bodies_of(&sample, &our_records(&sample));
-        let bodies = [part_1, part_2, part_3, First.write().to_vec()];
-        for codes in CODES_TAKEN {
-            let body = |code: u16| bodies[usize::from(code) - 1].as_slice();
-            let parts: Vec<_> = codes.iter().map(|&code| (code, body(code))).collect();
-            sheets.push(join_parts(&parts));
-        }
+        let popups = popups(Popups::Touching, &sample, 9);
+        sheets.extend(CODES_TAKEN.map(|codes| scheduled_of(codes, &sample, &popups)));
         sheets.push(scheduled_with(Some(Second), &sample));
     }
     sheets
@@ -104,15 +103,15 @@ fn with_field(sheet: &[u8], (at, width): (usize, usize), choice: u32) -> Vec<u8>
     wide[..width].copy_from_slice(&sheet[at..at + width]);
     let own = u32::from_le_bytes(wide);
     let value = match choice {
-        0..=5 => choice,
-        6 => own.wrapping_add(1),
-        7 => own.wrapping_sub(1),
-        8 => own.wrapping_add(11),
-        9 => own.wrapping_sub(14),
-        10 => own.wrapping_neg(),
-        11 => own ^ 0x8000_8000,
-        12 => own ^ 0x0100_0100,
-        13 => sheet.len() as u32,
+        0..=6 => choice,
+        7 => own.wrapping_add(1),
+        8 => own.wrapping_sub(1),
+        9 => own.wrapping_add(11),
+        10 => own.wrapping_sub(14),
+        11 => own.wrapping_neg(),
+        12 => own ^ 0x8000_8000,
+        13 => own ^ 0x0100_0100,
+        14 => sheet.len() as u32,
         _ => u32::MAX,
     };
     let mut changed = sheet.to_vec();
@@ -120,27 +119,31 @@ fn with_field(sheet: &[u8], (at, width): (usize, usize), choice: u32) -> Vec<u8>
     changed
 }
 
+/// How many changes of a field are tried.
+const CHOICES: u32 = 16;
+
 #[test]
 fn every_field_of_the_contents_and_every_two() {
     let mut numbers = Tally::default();
-    for sheet in NAMED.into_iter().flat_map(|named| {
+    let codes: [&[u16]; 4] = [&[1, 2, 3], &[1, 2, 3, 4], &[1, 2, 3, 5], &[1, 2, 3, 4, 5]];
+    for sheet in codes.into_iter().flat_map(|codes| {
         let marks: [&[Mark]; 2] = [&P1, &[]];
-        marks.map(|marks| scheduled_with(named, marks))
+        marks.map(|marks| scheduled_of(codes, marks, &[0; 4][..marks.len()]))
     }) {
         let fields = fields(sheet[0].into());
         for &first in &fields {
-            for choice in 0..15 {
+            for choice in 0..CHOICES {
                 let once = with_field(&sheet, first, choice);
                 numbers.add(check(&once));
                 for &second in &fields {
-                    for choice in 0..15 {
+                    for choice in 0..CHOICES {
                         check(&with_field(&once, second, choice));
                     }
                 }
             }
         }
     }
-    numbers.assert_reached([0, 1, 2, 3, 19], 3);
+    numbers.assert_reached([0, 1, 2, 3, 19, 21], 3);
 }
 
 #[test]
@@ -189,19 +192,24 @@ fn every_length_of_a_body() {
 #[test]
 fn every_list_of_codes() {
     let mut numbers = Tally::default();
-    for length in 0..=5 {
-        each_list(&[0, 1, 2, 3, 4, 5], length, &mut |codes| {
-            for part_4 in [&[1][..], &[2], &[0], &[]] {
-                let body = |code| if code == 4 { part_4 } else { &[] };
+    for length in 0..=6 {
+        each_list(&[0, 1, 2, 3, 4, 5, 6], length, &mut |codes| {
+            let bodies: [[&[u8]; 2]; 4] = [[&[1], &[]], [&[2], &[0; 4]], [&[0], &[]], [&[], &[0]]];
+            for [part_4, part_5] in bodies {
+                let body = |code| match code {
+                    4 => part_4,
+                    5 => part_5,
+                    _ => &[],
+                };
                 let parts: Vec<_> = codes.iter().map(|&code| (code, body(code))).collect();
                 let number = check(&join_parts(&parts));
                 let taken = CODES_TAKEN.contains(&codes);
-                assert_eq!(taken, [0, 19].contains(&number), "{codes:?}");
+                assert_eq!(taken, [0, 19, 21].contains(&number), "{codes:?}");
                 numbers.add(number);
             }
         });
     }
-    numbers.assert_reached([0, 1, 2, 19], 5);
+    numbers.assert_reached([0, 1, 2, 19, 21], 5);
 }
 
 #[test]
@@ -264,15 +272,17 @@ fn every_kind_with_radii_at_both_sides_of_the_limit() {
     }
 }
 
-/// Records near the one of `mark` that goes for `other`: exact, reduced, scaled, off
-/// by one, and with numbers of any size.
-fn records_near(marks: &[Mark], mark: usize, other: usize) -> Vec<Record> {
+/// Records near the one of `mark` that goes for `other`: exact, by the touching value alone,
+/// reduced, scaled, off by one, and with numbers of any size.
+fn records_near(reel: Reel, mark: usize, other: usize) -> Vec<Record> {
     let Fraction {
         numerator,
         denominator,
-    } = touching_value(&marks[other], &marks[mark]);
+    } = reel.pair_value(other, mark);
+    let touching = touching_value(&reel.marks[other], &reel.marks[mark]);
     let mut near = vec![
         (numerator, denominator),
+        (touching.numerator, touching.denominator),
         (2 * numerator, 2 * denominator),
         (numerator / 2, denominator / 2),
         (numerator + 1, denominator),
@@ -288,7 +298,7 @@ fn records_near(marks: &[Mark], mark: usize, other: usize) -> Vec<Record> {
         (u64::MAX, 1),
         (1, u32::MAX),
     ];
-    for divisor in [3, 4, 5, 9, 25, 100, 400] {
+    for divisor in [3, 4, 5, 9, 25, 100, 400, 4_096] {
         near.push((numerator / u64::from(divisor), denominator / divisor));
     }
     let of =
@@ -298,28 +308,35 @@ fn records_near(marks: &[Mark], mark: usize, other: usize) -> Vec<Record> {
 
 #[test]
 fn records_for_every_mark_that_nearly_fit() {
-    let mut numbers = Tally::default();
+    let mut numbers = [Tally::default(), Tally::default()];
     for (seed, shape) in (0..12).flat_map(|seed| Shape::ALL.map(|shape| (seed, shape))) {
         let sample = marks(shape, 5, seed);
-        let ours = our_records(&sample);
-        for mark in 0..sample.len() {
-            let mut records = ours.clone();
-            for other in 0..sample.len() {
-                for record in records_near(&sample, mark, other) {
-                    records[mark] = record;
-                    numbers.add(check(&three_parts(&sample, &records)));
+        let how = Popups::ALL[seed as usize % Popups::ALL.len()];
+        let popping_up = Beyond::popping_up(popups(how, &sample, seed));
+        for (beyond, numbers) in [Beyond::default(), popping_up].iter().zip(&mut numbers) {
+            let reel = beyond.reel(&sample);
+            let ours = schedule_in_rank_order(reel);
+            for mark in 0..sample.len() {
+                let mut records = ours.clone();
+                for other in 0..sample.len() {
+                    for record in records_near(reel, mark, other) {
+                        records[mark] = record;
+                        numbers.add(check(&beyond.with_records(&sample, &records)));
+                    }
                 }
-            }
-            for eliminator in [0, 4, 5, 6, 256, 4_096, 65_534, 65_535] {
-                records[mark] = Record {
-                    eliminator,
-                    ..ours[mark]
-                };
-                check(&three_parts(&sample, &records));
+                for eliminator in [0, 4, 5, 6, 256, 4_096, 65_534, 65_535] {
+                    records[mark] = Record {
+                        eliminator,
+                        ..ours[mark]
+                    };
+                    check(&beyond.with_records(&sample, &records));
+                }
             }
         }
     }
-    numbers.assert_reached([0, 8], 300);
+    for numbers in numbers {
+        numbers.assert_reached([0, 8], 300);
+    }
 }
 
 #[test]
@@ -402,7 +419,7 @@ fn many_sheets_with_a_few_faults() {
         let sheet = some_sheet(&mut generator);
         numbers.add(check(&sheet));
     }
-    numbers.assert_reached((0..=9).chain([19]), 500);
+    numbers.assert_reached((0..=9).chain([19, 21]), 500);
 }
 
 #[test]

@@ -3,11 +3,10 @@
 
 mod common;
 
-use common::views::view;
+use common::views::{assert_alike, view};
 use common::{
-    bound, foreign_records, lengths_with, longest, number, one_part, rivals, schedule_in,
-    scheduled, scheduled_with, some_records, three_parts, with_named, with_part_4, Lent, Tally,
-    NAMED,
+    bound, foreign_records, longest, number, one_part, rivals, schedule_in, scheduled,
+    scheduled_with, some_records, three_parts, with_named, with_part_4, Beyond, Lent, Tally, NAMED,
 };
 use oracle::mark::Mark;
 use oracle::process::schedule_by_process;
@@ -38,7 +37,7 @@ fn schedule(sheet: &[u8], lengths: [usize; 2], expected: &Result<Vec<u8>, u32>) 
 /// in buffers that are just long enough, and that it is refused in shorter ones.
 fn becomes_scheduled(named: Option<Edition>, marks: &[Mark]) {
     let (sheet, expected) = (bare_with(named, marks), scheduled_with(named, marks));
-    let [work, out] = lengths_with(named.is_some(), marks.len());
+    let [work, out] = Beyond::named(named).lengths(marks.len());
     assert_eq!(expected.len(), out);
     schedule(&sheet, [work, out], &Ok(expected));
     schedule(&sheet, [work, out - 1], &Err(13));
@@ -147,7 +146,7 @@ fn a_schedule_that_is_there_is_replaced_and_part_4_is_kept() {
             let records = foreign_records(&mut generator, reel);
             let foreign = with_named(three_parts(&sample, &records), named);
             let ours = scheduled_with(named, &sample);
-            let lengths = lengths_with(named.is_some(), n);
+            let lengths = Beyond::named(named).lengths(n);
             schedule(&foreign, lengths, &Ok(ours.clone()));
             schedule(&ours, lengths, &Ok(ours.clone()));
         }
@@ -164,15 +163,8 @@ fn without_part_4_all_is_as_in_the_first_edition_but_for_its_own_bytes() {
         let [bare, named] = [bare, named].map(|sheet| rollmap::schedule_to_vec(&sheet).unwrap());
         assert_eq!(named, with_part_4(&bare, &[1]));
         let codes = [Code::Marks, Code::Schedule, Code::Index];
-        assert_eq!(
-            codes.map(|code| rollmap::part(&bare, code)),
-            codes.map(|code| rollmap::part(&named, code))
-        );
-        let view = View::whole(Zoom::Stop(generator.below(17) as u8));
-        assert_eq!(
-            rollmap::view_to_map(&bare, view),
-            rollmap::view_to_map(&named, view)
-        );
+        let zoom = Zoom::Stop(generator.below(17) as u8);
+        assert_alike(&bare, &named, &codes, zoom);
     }
 }
 
@@ -215,7 +207,7 @@ fn every_eliminator_in_both_editions() {
             for (m, other) in (0..6).flat_map(|m| (0..6).map(move |other| (m, other))) {
                 let mut records = vec![Record::NEVER; 6];
                 let reel = named.unwrap_or_default().reel(&sample);
-                records[m] = Record::removed(other, reel.touching_value(m, other));
+                records[m] = Record::removed(other, reel.pair_value(m, other));
                 let number = check(&with_named(three_parts(&sample, &records), named));
                 let expected = if reel.outranks(other, m) { 0 } else { 8 };
                 assert_eq!(number, expected, "{sample:?} {m} {other}");
@@ -240,7 +232,7 @@ fn a_damaged_part_4_is_refused_by_every_job() {
                     schedule(&damaged, lengths, &Err(19));
                     let refused = Err::<Vec<u8>, _>(19);
                     let add = |sheet: &[u8], work: rollmap::Work<'_>, out: &mut [u8]| {
-                        rollmap::add(sheet, bound(&new), work, out)
+                        rollmap::add(sheet, bound(&new), 0, work, out)
                     };
                     schedule_in(&damaged, lengths, add, &refused);
                     let take_out = |sheet: &[u8], work: rollmap::Work<'_>, out: &mut [u8]| {
@@ -296,17 +288,17 @@ fn come_and_go(named: Option<Edition>, all: &[Mark], m: usize) {
     let mut left = all.to_vec();
     left.remove(m);
     let add = |sheet: &[u8], work: rollmap::Work<'_>, out: &mut [u8]| {
-        rollmap::add(sheet, bound(last), work, out)
+        rollmap::add(sheet, bound(last), 0, work, out)
     };
     let take_out = |sheet: &[u8], work: rollmap::Work<'_>, out: &mut [u8]| {
         rollmap::take_out(sheet, m as u32, work, out)
     };
-    let [work, out] = lengths_with(named.is_some(), all.len());
+    let [work, out] = Beyond::named(named).lengths(all.len());
     schedule_in(&fewer, [work, out], add, &Ok(&more));
     let short = &Err::<Vec<u8>, _>(13);
     schedule_in(&fewer, [work, out - 1], add, short);
     schedule_in(&fewer, [work - 1, out], add, short);
-    let [work, out] = lengths_with(named.is_some(), left.len());
+    let [work, out] = Beyond::named(named).lengths(left.len());
     let expected = &Ok(scheduled_with(named, &left));
     schedule_in(&more, [work, out], take_out, expected);
     schedule_in(&more, [work, out - 1], take_out, short);
@@ -337,8 +329,8 @@ fn the_buffers_of_its_own_have_room_for_part_4() {
     for named in NAMED {
         let empty = rollmap::schedule_to_vec(&bare_with(named, &[])).unwrap();
         assert_eq!(empty, scheduled_with(named, &[]));
-        let one = rollmap::add_to_vec(&empty, bound(&LARGER_SECOND[0])).unwrap();
-        let two = rollmap::add_to_vec(&one, bound(&LARGER_SECOND[1])).unwrap();
+        let one = rollmap::add_to_vec(&empty, bound(&LARGER_SECOND[0]), 0).unwrap();
+        let two = rollmap::add_to_vec(&one, bound(&LARGER_SECOND[1]), 0).unwrap();
         assert_eq!(two, scheduled_with(named, &LARGER_SECOND));
         assert_eq!(rollmap::take_out_to_vec(&two, 1), Ok(one));
     }

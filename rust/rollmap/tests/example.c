@@ -22,6 +22,15 @@ static uint64_t number_at(const uint8_t *bytes, int width)
     return number;
 }
 
+static void print_record(const uint8_t *sheet, size_t length, unsigned m)
+{
+    struct rollmap_extent schedule = rollmap_part(sheet, length, ROLLMAP_CODE_SCHEDULE);
+    const uint8_t *record = sheet + schedule.offset + ROLLMAP_RECORD_BYTES * m;
+
+    printf("%u: %u %lu %lu\n", m, (unsigned)number_at(record, 2),
+           (unsigned long)number_at(record + 2, 8), (unsigned long)number_at(record + 10, 4));
+}
+
 static void print_schedule(const uint8_t *sheet, size_t length)
 {
     struct rollmap_extent schedule = rollmap_part(sheet, length, ROLLMAP_CODE_SCHEDULE);
@@ -30,12 +39,8 @@ static void print_schedule(const uint8_t *sheet, size_t length)
     unsigned m;
 
     printf("part 2 at %u, %u bytes\n", schedule.offset, schedule.length);
-    for (m = 0; m < N; m++) {
-        const uint8_t *record = sheet + schedule.offset + ROLLMAP_RECORD_BYTES * m;
-        printf("%u: %u %lu %lu\n", m, (unsigned)number_at(record, 2),
-               (unsigned long)number_at(record + 2, 8),
-               (unsigned long)number_at(record + 10, 4));
-    }
+    for (m = 0; m < N; m++)
+        print_record(sheet, length, m);
     printf("part 3 at %u, %u bytes:", index.offset, index.length);
     for (m = 0; m < N; m++)
         printf(" %u", (unsigned)number_at(sheet + index.offset + ROLLMAP_INDEX_BYTES * m, ROLLMAP_INDEX_BYTES));
@@ -94,11 +99,13 @@ static void print_changes(const uint8_t *sheet, size_t length)
 
     memset(more, 0xee, sizeof more);
     memset(back, 0xee, sizeof back);
-    answer = rollmap_add(sheet, length, -300, 1025, 0, 513, 149, 65534, work, sizeof work - 1, more, sizeof more);
+    answer = rollmap_add(sheet, length, -300, 1025, 0, 513, 149, 65534, ROLLMAP_NO_POPUP, work, sizeof work - 1, more, sizeof more);
     printf("add in short work: %u %u, then %02x\n", answer.number, answer.value, more[0]);
-    answer = rollmap_add(sheet, length, -300, 1025, 0, 513, 200, 65534, work, sizeof work, more, sizeof more);
+    answer = rollmap_add(sheet, length, -300, 1025, 0, 513, 200, 65534, ROLLMAP_NO_POPUP, work, sizeof work, more, sizeof more);
     printf("add an unknown kind: %u %u, then %02x\n", answer.number, answer.value, more[0]);
-    answer = rollmap_add(sheet, length, -300, 1025, 0, 513, 149, 65534, work, sizeof work, more, sizeof more);
+    answer = rollmap_add(sheet, length, -300, 1025, 0, 513, 149, 65534, 1, work, sizeof work, more, sizeof more);
+    printf("add a popup without part 5: %u %u, then %02x\n", answer.number, answer.value, more[0]);
+    answer = rollmap_add(sheet, length, -300, 1025, 0, 513, 149, 65534, ROLLMAP_NO_POPUP, work, sizeof work, more, sizeof more);
     printf("add: %u %u, then %02x, mark", answer.number, answer.value, more[answer.value]);
     for (at = 0; at < ROLLMAP_MARK_BYTES; at++)
         printf(" %02x", mark[at]);
@@ -183,6 +190,66 @@ static void print_edition(uint8_t edition)
            (unsigned)number_at(out + extent.offset + 2 * ROLLMAP_RECORD_BYTES, 2));
 }
 
+/* A fifth mark comes with a popup, and goes. */
+static void print_popup_changes(const uint8_t *sheet, size_t length)
+{
+    uint8_t work[ROLLMAP_WORK_BYTES(N + 1)];
+    uint8_t more[ROLLMAP_SCHEDULED_BYTES(N + 1) + ROLLMAP_POPUPS_BYTES(N + 1) + 1];
+    uint8_t back[ROLLMAP_SCHEDULED_BYTES(N) + ROLLMAP_POPUPS_BYTES(N) + 1];
+    const uint8_t *last = more + sizeof more - 1 - ROLLMAP_POPUP_BYTES;
+    struct rollmap_answer answer;
+
+    memset(more, 0xee, sizeof more);
+    memset(back, 0xee, sizeof back);
+    answer = rollmap_add(sheet, length, 9, 9, 9, 9, 9, 9, ROLLMAP_LARGEST_POPUP + 1, work, sizeof work, more, sizeof more);
+    printf("add a popup of 65537: %u %u, then %02x\n", answer.number, answer.value, more[0]);
+    answer = rollmap_add(sheet, length, 9, 9, 9, 9, 9, 9, ROLLMAP_LARGEST_POPUP, work, sizeof work, more, sizeof more);
+    printf("add a popup of 65536: %u %u, then %02x, part 5 ends in %02x %02x %02x %02x\n", answer.number,
+           answer.value, more[answer.value], last[0], last[1], last[2], last[3]);
+    answer = rollmap_take_out(more, sizeof more - 1, N, work, sizeof work, back, sizeof back);
+    printf("take it out: %u %u, the same %d, then %02x\n", answer.number, answer.value,
+           memcmp(back, sheet, length) == 0, back[length]);
+}
+
+/* Mark 0 pops up at zoom 10, and until then mark 1 ranks highest. */
+static void print_popups(void)
+{
+    static const uint16_t codes[2] = {ROLLMAP_CODE_MARKS, ROLLMAP_CODE_POPUPS};
+    const int32_t far = ROLLMAP_FARTHEST_EDGE;
+    uint8_t popups[ROLLMAP_POPUP_BYTES * N] = {640 % 256, 640 / 256};
+    uint8_t sheet[ROLLMAP_CONTENTS_BYTES(2) + sizeof marks + sizeof popups];
+    uint8_t work[ROLLMAP_WORK_BYTES(N)];
+    uint8_t out[ROLLMAP_SCHEDULED_BYTES(N) + ROLLMAP_POPUPS_BYTES(N) + 1];
+    const size_t length = sizeof out - 1;
+    uint8_t map[2] = {0xee, 0xee};
+    struct rollmap_body rows[2];
+    struct rollmap_answer answer;
+    struct rollmap_extent extent;
+
+    rows[0].bytes = marks;
+    rows[0].length = sizeof marks;
+    rows[1].bytes = popups;
+    rows[1].length = sizeof popups;
+    answer = rollmap_assemble(codes, 2, rows, 2, sheet, sizeof sheet);
+    printf("popups: %u %u", answer.number, answer.value);
+    memset(out, 0xee, sizeof out);
+    answer = rollmap_schedule(sheet, sizeof sheet, work, sizeof work, out, length - 1);
+    printf(", in a short buffer %u %u", answer.number, answer.value);
+    answer = rollmap_schedule(sheet, sizeof sheet, work, sizeof work, out, sizeof out);
+    extent = rollmap_part(out, length, ROLLMAP_CODE_POPUPS);
+    printf(", scheduled %u %u, then %02x, part 5 at %u, %u bytes\n", answer.number, answer.value,
+           out[answer.value], extent.offset, extent.length);
+    print_record(out, length, 1);
+    print_record(out, length, 2);
+    print_view("stop 0", rollmap_view_stop(out, length, -far, far, -far, far, ROLLMAP_NO_TURN, 0, map, 2), map);
+    print_view("wheel 10", rollmap_view_wheel(out, length, -far, far, -far, far, ROLLMAP_NO_TURN, 10.0f, map, 2), map);
+    print_popup_changes(out, length);
+    /* 640 plus 65,536. */
+    popups[2] = 1;
+    answer = rollmap_assemble(codes, 2, rows, 2, sheet, sizeof sheet);
+    printf("a popup of 66176: %u %u\n", answer.number, answer.value);
+}
+
 static void print_refusals(const uint8_t *sheet, size_t length)
 {
     struct rollmap_answer answer;
@@ -261,6 +328,7 @@ int main(void)
     print_edition(ROLLMAP_EDITION_FIRST);
     print_edition(ROLLMAP_EDITION_SECOND);
     print_edition(3);
+    print_popups();
     print_marks();
     print_logs();
     return 0;

@@ -1,11 +1,15 @@
-//! Marks and records by their fields, compared with the oracle's.
+//! Marks, records, editions and popups by their fields, compared with the oracle's.
 
 mod common;
 
-use common::{bound, one_part, our_records, scheduled, three_parts, with_part_4};
+use common::{
+    bound, one_part, our_records, scheduled, three_parts, with_part, with_part_4, with_popups,
+    Beyond,
+};
 use oracle::fraction::Removal;
-use oracle::sample::{marks, Shape, P1};
-use rollmap::{marks_to_vec, Code, Edition, Mark, Record};
+use oracle::popup::write_popups;
+use oracle::sample::{marks, popups, Popups, Shape, P1};
+use rollmap::{marks_to_vec, popups_to_vec, Code, Edition, Mark, Record, NO_POPUP};
 
 /// A record of the oracle as the bindings have it.
 fn bound_record(record: &oracle::record::Record) -> Record {
@@ -73,4 +77,41 @@ fn a_sheet_goes_by_the_edition_that_part_4_names() {
         }
         assert_eq!(rollmap::edition(&sheet[1..]), None);
     }
+}
+
+#[test]
+fn popups_are_the_oracles() {
+    for shape in Shape::ALL {
+        for n in [0, 1, 2, 100] {
+            let sample = marks(shape, n, 8);
+            let drawn = popups(Popups::Any, &sample, 8);
+            let beyond = Beyond::popping_up(drawn.clone());
+            for sheet in [beyond.bare(&sample), beyond.scheduled(&sample)] {
+                let own = rollmap::popups(&sheet).unwrap();
+                assert_eq!(own.len(), n);
+                assert!(own.eq(drawn.iter().copied()));
+                let backwards = rollmap::popups(&sheet).unwrap().rev();
+                assert!(backwards.eq(drawn.iter().copied().rev()));
+                let part_5 = rollmap::part(&sheet, Code::Popups).unwrap();
+                assert_eq!(part_5, popups_to_vec(&drawn));
+            }
+            assert_eq!(popups_to_vec(&drawn), write_popups(&drawn));
+        }
+    }
+}
+
+#[test]
+fn without_part_5_every_mark_is_there_from_the_start() {
+    for sheet in [one_part(&P1), scheduled(&P1)] {
+        assert!(rollmap::popups(&sheet).unwrap().eq([NO_POPUP; 4]));
+        assert_eq!(rollmap::part(&sheet, Code::Popups), None);
+        let zeros = with_popups(&sheet, &[0; 4]);
+        assert!(rollmap::popups(&zeros).unwrap().eq([NO_POPUP; 4]));
+        assert!(rollmap::part(&zeros, Code::Popups).is_some());
+    }
+    for damaged in [&[][..], &[0; 15], &[0; 17], &[1; 16]] {
+        assert!(rollmap::popups(&with_part(&one_part(&P1), 5, damaged)).is_none());
+    }
+    assert!(rollmap::popups(&one_part(&P1)[1..]).is_none());
+    assert_eq!(rollmap::popups(&one_part(&[])).unwrap().len(), 0);
 }

@@ -4,7 +4,7 @@ mod common;
 
 use common::{
     bodies_of, damage_rows, number, one_part, our_records, some_marks, some_room, some_sheet, turn,
-    with_part_4, Tally, FAULTS_OF_A_MARK,
+    with_part, Tally, FAULTS_OF_A_MARK,
 };
 use oracle::fill::old_radius;
 use oracle::mark::{read_marks, write_marks, Mark};
@@ -216,6 +216,8 @@ fn what_the_other_parts_hold_plays_no_part_in_a_rescue() {
         assert_eq!(rollmap::rescue(&join(&[&part_1, &junk])), expected);
         let three = join(&[&part_1, &junk, &junk]);
         assert_eq!(rollmap::rescue(&three), expected);
-        assert_eq!(rollmap::rescue(&with_part_4(&three, &junk)), expected);
+        for code in [4, 5] {
+            assert_eq!(rollmap::rescue(&with_part(&three, code, &junk)), expected);
+        }
     }
 }

@@ -2,7 +2,7 @@
 
 mod common;
 
-use common::{one_part, with_part_4};
+use common::{one_part, with_part_4, with_popups};
 use oracle::mark::{house_radius, Mark};
 use oracle::sample::{CODES_TAKEN, P1};
 use rollmap::{schedule_to_vec, Code};
@@ -79,12 +79,17 @@ fn the_codes_are_those_of_the_text() {
 
 #[test]
 fn a_scheduled_sheet_is_as_long_as_the_text_says() {
-    assert!(FORMAT.contains("32 + 27n bytes") && FORMAT.contains("43 + 27n"));
+    let lengths = ["32 + 27n bytes", "43 + 27n", "42 + 31n", "53 + 31n"];
+    assert!(lengths.iter().all(|length| FORMAT.contains(length)));
     for n in 0..=4 {
+        let length = |sheet: &[u8]| schedule_to_vec(sheet).unwrap().len();
         let given = one_part(&P1[..n]);
-        assert_eq!(schedule_to_vec(&given).unwrap().len(), 32 + 27 * n);
+        assert_eq!(length(&given), 32 + 27 * n);
         let named = with_part_4(&given, &[1]);
-        assert_eq!(schedule_to_vec(&named).unwrap().len(), 43 + 27 * n);
+        assert_eq!(length(&named), 43 + 27 * n);
+        let popups = &[0, 64, 65_536, 7][..n];
+        assert_eq!(length(&with_popups(&given, popups)), 42 + 31 * n);
+        assert_eq!(length(&with_popups(&named, popups)), 53 + 31 * n);
     }
 }
 

@@ -5,15 +5,17 @@ mod common;
 use std::io::Write;
 use std::process::{Command, Stdio};
 
-use common::{bound, one_part, rivals, three_parts, with_part_4, PROGRAM};
+use common::{bound, one_part, rivals, three_parts, with_part_4, with_popups, Beyond, PROGRAM};
 use oracle::mark::{read_marks, touching_value, Mark};
 use oracle::record::{read_records, removals, Record};
-use oracle::sample::{marks, Generator, Shape, P1};
+use oracle::sample::{marks, popups, Generator, Popups, Shape, P1};
 use oracle::turn::turned_marks;
 use oracle::view::{map_and_count, Edges};
+use oracle::zoom::remains;
 use rollmap::{
-    add_to_vec, map_bytes, schedule_to_vec, scheduled_bytes, take_out_to_vec, view_to_map,
-    work_bytes, Code, Edition, Refusal, Turn, View, Work, Zoom, EDITION_BYTES,
+    add_to_vec, map_bytes, popups_bytes, schedule_to_vec, scheduled_bytes, take_out_to_vec,
+    view_to_map, work_bytes, Code, Edition, Refusal, Turn, View, Work, Zoom, EDITION_BYTES,
+    NO_POPUP,
 };
 
 const GUARDS: &str = include_str!("../../../docs/GUARDS.md");
@@ -26,6 +28,23 @@ fn scheduled(marks: &[Mark]) -> Vec<u8> {
 /// The sheet of these marks with an edition named, as scheduling writes it.
 fn scheduled_by(edition: Edition, marks: &[Mark]) -> Vec<u8> {
     schedule_to_vec(&with_part_4(&one_part(marks), &edition.to_bytes())).unwrap()
+}
+
+/// The sheet of these marks with these popups, as scheduling writes it.
+fn scheduled_popping_up(marks: &[Mark], popups: &[u32]) -> Vec<u8> {
+    schedule_to_vec(&with_popups(&one_part(marks), popups)).unwrap()
+}
+
+/// The sheets of a sample of every shape, without popups and with popups of every kind.
+fn sheets_of_every_kind(n: usize, seed: u64) -> Vec<(Vec<u8>, Vec<Mark>)> {
+    let mut sheets = Vec::new();
+    for sample in Shape::ALL.map(|shape| marks(shape, n, seed)) {
+        let drawn = Popups::ALL.map(|how| popups(how, &sample, seed));
+        let popping_up = drawn.map(|popups| scheduled_popping_up(&sample, &popups));
+        let all = [scheduled(&sample)].into_iter().chain(popping_up);
+        sheets.extend(all.map(|sheet| (sheet, sample.clone())));
+    }
+    sheets
 }
 
 /// The numbers of the marks that a view of all places shows.
@@ -78,7 +97,7 @@ fn every_test_that_the_page_names_is_here() {
     let sentences = GUARDS.lines().filter_map(|line| line.split_once("Test: "));
     let named = cells.chain(sentences.map(|(_, name)| name.trim_end_matches('.')));
     let names: Vec<&str> = named.flat_map(|names| names.split(", ")).collect();
-    assert_eq!(names.len(), 30);
+    assert_eq!(names.len(), 33);
     for name in names {
         let test = format!("#[test]\nfn {}()", name.trim_matches('`'));
         assert!(own.contains(&test), "{name}");
@@ -139,9 +158,7 @@ fn the_cut_list_reads_part_1() {
 
 #[test]
 fn shown_marks_do_not_touch() {
-    for shape in Shape::ALL {
-        let marks = marks(shape, 150, 5);
-        let sheet = scheduled(&marks);
+    for (sheet, marks) in sheets_of_every_kind(150, 5) {
         for stop in 0..=16 {
             let shown = shown(&sheet, Zoom::Stop(stop));
             for (at, &a) in shown.iter().enumerate() {
@@ -216,18 +233,19 @@ fn an_eliminator_may_be_gone_and_nobody_need_touch() {
 
 #[test]
 fn following_eliminators_ends_at_a_mark_that_lives() {
-    for shape in Shape::ALL {
-        let sheet = scheduled(&marks(shape, 120, 4));
-        let records: Vec<rollmap::Record> = rollmap::records(&sheet).unwrap().collect();
+    for (sheet, _) in sheets_of_every_kind(120, 4) {
+        let eliminators = eliminators(&sheet);
+        let part_2 = read_records(rollmap::part(&sheet, Code::Schedule).unwrap());
         for stop in 0..=16 {
             let shown = shown(&sheet, Zoom::Stop(stop));
-            for first in 0..records.len() as u32 {
+            // From a mark that is removed: one that has not popped up is not gone.
+            let gone = |m: &usize| !remains(part_2[*m].removal(), 1 << stop);
+            for first in (0..part_2.len()).filter(gone) {
                 let mut at = first;
-                while !shown.contains(&at) {
-                    let rollmap::Record::Removed { eliminator, .. } = records[at as usize] else {
-                        panic!("a mark that is never removed is shown");
-                    };
-                    at = eliminator.into();
+                while !shown.contains(&(at as u32)) {
+                    at = eliminators[at]
+                        .expect("a mark that is never removed lives")
+                        .into();
                 }
             }
         }
@@ -375,12 +393,12 @@ fn the_printed_zoom_is_the_nearest_64th() {
 
 #[test]
 fn a_view_is_the_full_scan() {
-    for shape in Shape::ALL {
-        let marks = marks(shape, 300, 7);
-        let sheet = scheduled(&marks);
+    for (sheet, marks) in sheets_of_every_kind(300, 7) {
         let removals = removals(&read_records(
             rollmap::part(&sheet, Code::Schedule).unwrap(),
         ));
+        let beyond = Beyond::popping_up(rollmap::popups(&sheet).unwrap().collect());
+        let reel = beyond.reel(&marks);
         for k in [1, 17, 64, 1_000, 65_536] {
             for half in [32_768, 5_000, 0] {
                 let (x0, x1, y0, y1) = (-half, half, -half, half);
@@ -396,13 +414,14 @@ fn a_view_is_the_full_scan() {
                     };
                     let map = view_to_map(&sheet, view).unwrap();
                     let window = Edges { x0, x1, y0, y1 }.of_turned(turn.quarters());
-                    let (scanned, _) = map_and_count(&marks, &removals, window, k);
+                    let (scanned, _) = map_and_count(reel, &removals, window, k);
                     assert_eq!(map.as_bytes(), scanned);
                 }
             }
         }
+        let index = rollmap::part(&sheet, Code::Index).unwrap();
+        let at = index.as_ptr() as usize - sheet.as_ptr() as usize;
         let mut wrong = sheet.clone();
-        let at = wrong.len() - 2 * marks.len();
         wrong.copy_within(at + 2..at + 4, at);
         let view = View::whole(Zoom::Stop(0));
         assert_eq!(view_to_map(&wrong, view), Err(Refusal::Index));
@@ -499,7 +518,7 @@ fn a_change_is_scheduling_by_hand() {
         let marks = marks(shape, 60, 10);
         let (&last, others) = marks.split_last().unwrap();
         assert_eq!(
-            add_to_vec(&scheduled(others), bound(&last)),
+            add_to_vec(&scheduled(others), bound(&last), NO_POPUP),
             Ok(scheduled(&marks))
         );
         assert_eq!(
@@ -509,10 +528,12 @@ fn a_change_is_scheduling_by_hand() {
     }
     let bare = one_part(&P1);
     assert_eq!(take_out_to_vec(&bare, 0), Err(Refusal::Unscheduled));
-    assert_eq!(add_to_vec(&bare, bound(&P1[0])), Err(Refusal::Unscheduled));
+    let added = add_to_vec(&bare, bound(&P1[0]), NO_POPUP);
+    assert_eq!(added, Err(Refusal::Unscheduled));
     // The buffers of the old number of marks are too short for one more.
     let (mut work, mut out) = (vec![0; work_bytes(4)], vec![0; scheduled_bytes(4)]);
-    let added = rollmap::add(&scheduled(&P1), bound(&P1[0]), Work(&mut work), &mut out);
+    let (sheet, new) = (scheduled(&P1), bound(&P1[0]));
+    let added = rollmap::add(&sheet, new, NO_POPUP, Work(&mut work), &mut out);
     assert_eq!(added, Err(Refusal::Buffer));
 }
 
@@ -521,7 +542,7 @@ fn changes_as_they_come_are_the_merged_list() {
     let marks = marks(Shape::Grid, 20, 11);
     let mut sheet = scheduled(&marks[..10]);
     for mark in &marks[10..] {
-        sheet = add_to_vec(&sheet, bound(mark)).unwrap();
+        sheet = add_to_vec(&sheet, bound(mark), NO_POPUP).unwrap();
         sheet = take_out_to_vec(&sheet, 3).unwrap();
     }
     let merged = [&marks[..3], &marks[13..]].concat();
@@ -529,8 +550,8 @@ fn changes_as_they_come_are_the_merged_list() {
     // The same two marks in the other order are another sheet.
     let twins = [Mark::plain(0, 0, 1, 5), Mark::plain(9, 0, 1, 5)];
     let one_by_one = |order: [usize; 2]| {
-        let first = add_to_vec(&scheduled(&[]), bound(&twins[order[0]])).unwrap();
-        add_to_vec(&first, bound(&twins[order[1]])).unwrap()
+        let first = add_to_vec(&scheduled(&[]), bound(&twins[order[0]]), NO_POPUP).unwrap();
+        add_to_vec(&first, bound(&twins[order[1]]), NO_POPUP).unwrap()
     };
     let staying = |sheet: &[u8]| {
         let [m] = shown(sheet, Zoom::Stop(16))[..] else {
@@ -569,7 +590,7 @@ fn numbers_drop_by_one_above_the_mark_taken_out() {
 fn an_addition_is_taken_back_by_taking_out_the_last_mark() {
     let new = bound(&Mark::plain(50, 50, 0, 7));
     let there_and_back = |sheet: &[u8]| {
-        let more = add_to_vec(sheet, new).unwrap();
+        let more = add_to_vec(sheet, new, NO_POPUP).unwrap();
         let last = rollmap::mark_count(sheet).unwrap();
         take_out_to_vec(&more, last as u32).unwrap()
     };
@@ -581,7 +602,7 @@ fn an_addition_is_taken_back_by_taking_out_the_last_mark() {
     assert_eq!(there_and_back(&foreign), scheduled(&P1));
     // A mark that was struck out comes back at the end.
     let fewer = take_out_to_vec(&scheduled(&P1), 0).unwrap();
-    let back = add_to_vec(&fewer, bound(&P1[0])).unwrap();
+    let back = add_to_vec(&fewer, bound(&P1[0]), NO_POPUP).unwrap();
     assert_eq!(back, scheduled(&[P1[1], P1[2], P1[3], P1[0]]));
 }
 
@@ -610,11 +631,14 @@ fn a_refused_change_leaves_the_old_sheet() {
         (Refusal::Kind, Mark { kind: 200, ..P1[0] }),
         (Refusal::Radius, Mark::plain(0, 0, 16_384, 0)),
     ] {
-        let added = rollmap::add(&sheet, bound(&mark), Work(&mut work), &mut out);
+        let added = rollmap::add(&sheet, bound(&mark), 7, Work(&mut work), &mut out);
         assert_eq!(added, Err(refused));
     }
+    // The sheet has no part 5.
+    let added = rollmap::add(&sheet, bound(&P1[0]), 7, Work(&mut work), &mut out);
+    assert_eq!(added, Err(Refusal::Popups));
     let full = three_parts(&marks(Shape::Line, 4_096, 13), &[Record::NEVER; 4_096]);
-    let added = rollmap::add(&full, bound(&P1[0]), Work(&mut work), &mut out);
+    let added = rollmap::add(&full, bound(&P1[0]), 7, Work(&mut work), &mut out);
     assert_eq!(added, Err(Refusal::Full));
     assert_eq!(out, before);
     assert_eq!(shown(&out[..old.len()], Zoom::Stop(0)), [0, 1]);
@@ -633,7 +657,7 @@ fn a_sheet_names_its_own_edition_and_keeps_it() {
             rollmap::part(&sheet, Code::Edition),
             Some(&edition.to_bytes()[..])
         );
-        let more = add_to_vec(&sheet, bound(&P1[0])).unwrap();
+        let more = add_to_vec(&sheet, bound(&P1[0]), NO_POPUP).unwrap();
         assert_eq!(rollmap::edition(&more), Some(edition));
         let fewer = take_out_to_vec(&more, 0).unwrap();
         assert_eq!(rollmap::edition(&fewer), Some(edition));
@@ -683,6 +707,82 @@ fn an_unknown_edition_is_refused() {
             assert_eq!(view_to_map(&damaged, view), Err(Refusal::Edition));
         }
     }
+}
+
+// ---- marks for the overview alone
+
+#[test]
+fn a_mark_for_the_overview_pops_up_by_itself() {
+    // A grade change of high priority over two notes, from zoom 8 on.
+    let marks = [
+        Mark::plain(0, 0, 10, 9),
+        Mark::plain(-20, 0, 0, 1),
+        Mark::plain(300, 0, 0, 1),
+    ];
+    let sheet = scheduled_popping_up(&marks, &[512, NO_POPUP, NO_POPUP]);
+    assert_eq!(shown(&sheet, wheel(1)), [1, 2]);
+    assert_eq!(shown(&sheet, wheel(511)), [1]);
+    assert_eq!(shown(&sheet, wheel(512)), [0]);
+    // From the start, it would have hidden both close up.
+    assert_eq!(shown(&scheduled(&marks), wheel(384)), [0]);
+    // Hidden by the viewer instead, nobody is left there.
+    let hidden = |k| {
+        shown(&scheduled(&marks), wheel(k))
+            .into_iter()
+            .filter(|&m| m > 0)
+    };
+    assert_eq!(hidden(511).count(), 0);
+    // The panel's zoom is asked for in 64ths, as the popup is.
+    assert_eq!(rollmap::popups(&sheet).unwrap().next(), Some(512));
+}
+
+#[test]
+fn a_mark_that_is_not_there_yet_is_told_from_one_that_is_gone() {
+    // 0 pops up at 640; 2 and 3 are gone by 1 before that, and 1 goes there.
+    let sheet = scheduled_popping_up(&P1, &[640, 0, 0, 0]);
+    let removals = removals(&read_records(
+        rollmap::part(&sheet, Code::Schedule).unwrap(),
+    ));
+    let popups: Vec<u32> = rollmap::popups(&sheet).unwrap().collect();
+    for k in [1, 320, 500, 639, 640, 65_536] {
+        let shown = shown(&sheet, wheel(k));
+        for m in 0..4 {
+            let (not_yet, gone) = (k < popups[m], !remains(removals[m], k));
+            assert_eq!(shown.contains(&(m as u32)), !not_yet && !gone);
+            // Nobody is gone before it was there.
+            assert!(!(not_yet && gone));
+        }
+    }
+    // One that goes where it would pop up is in part 1, and in no view.
+    let sheet = scheduled_popping_up(&P1, &[0, 320, 0, 0]);
+    assert!((1..=65_536).all(|k| !shown(&sheet, wheel(k)).contains(&1)));
+    assert_eq!(rollmap::mark_count(&sheet), Some(4));
+}
+
+#[test]
+fn a_sheet_keeps_its_popups() {
+    let drawn = popups(Popups::Any, &marks(Shape::Grid, 30, 3), 3);
+    let sheet = scheduled_popping_up(&marks(Shape::Grid, 30, 3), &drawn);
+    let own = |sheet: &[u8]| -> Vec<u32> { rollmap::popups(sheet).unwrap().collect() };
+    assert_eq!(own(&sheet), drawn);
+    let more = add_to_vec(&sheet, bound(&P1[0]), 640).unwrap();
+    assert_eq!(own(&more), [drawn.as_slice(), &[640]].concat());
+    let fewer = take_out_to_vec(&more, 1).unwrap();
+    assert_eq!(own(&fewer), [&drawn[..1], &drawn[2..], &[640]].concat());
+    // Its bytes are asked for: the length without part 5 is too short.
+    let (mut work, mut out) = (vec![0; work_bytes(30)], vec![0; scheduled_bytes(30)]);
+    let short = rollmap::schedule(&sheet, Work(&mut work), &mut out);
+    assert_eq!(short, Err(Refusal::Buffer));
+    out.resize(scheduled_bytes(30) + popups_bytes(30), 0);
+    let written = rollmap::schedule(&sheet, Work(&mut work), &mut out);
+    assert_eq!(written, Ok(out.len()));
+    // A sheet without part 5 takes no mark with a popup, until it is given one.
+    let old = scheduled(&P1);
+    let refused = add_to_vec(&old, bound(&P1[0]), 640);
+    assert_eq!(refused, Err(Refusal::Popups));
+    let given = with_popups(&old, &[NO_POPUP; 4]);
+    let more = add_to_vec(&given, bound(&P1[0]), 640).unwrap();
+    assert_eq!(own(&more), [0, 0, 0, 0, 640]);
 }
 
 // ---- what every consumer checks once

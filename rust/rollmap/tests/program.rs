@@ -12,12 +12,12 @@ use std::thread;
 
 use common::{
     foreign_records, one_part, rivals, scheduled, scheduled_with, some_sheet, three_parts,
-    with_named, with_part_4, NAMED, PROGRAM,
+    with_named, with_part, with_part_4, with_popups, Beyond, NAMED, PROGRAM,
 };
 use oracle::mark::Mark;
 use oracle::rank::Edition::{First, Second};
 use oracle::report::{LONGEST_INPUT, MOST_PRINTED};
-use oracle::sample::{marks, Generator, Shape, P1};
+use oracle::sample::{marks, popups, Generator, Popups, Shape, P1};
 
 /// The sheet that `rt` runs the program on, and the text that it must write.
 const KEPT_RUN: &str = concat!(env!("CARGO_MANIFEST_DIR"), "/../../crates/schedule");
@@ -199,6 +199,46 @@ fn a_sheet_of_another_edition_is_refused() {
     let many = one_part(&marks(Shape::Grid, MOST_PRINTED + 1, 1));
     assert_eq!(run(&with_part_4(&many, &[0])), "refused 19\n");
     assert_eq!(run(&with_part_4(&many, &[2])), "refused 14\n");
+}
+
+#[test]
+fn a_sheet_is_printed_by_its_own_popups() {
+    let sheet = with_popups(&one_part(&P1), &[640, 0, 0, 0]);
+    let text = "marks 4\n0 -\n1 0 409600 4096 640\n2 1 10000 400 320\n3 1 10009 225 427\n";
+    assert_eq!(run(&sheet), text);
+    let last = with_popups(&one_part(&P1[..2]), &[65_536, 0]);
+    assert_eq!(run(&last), "marks 2\n0 -\n1 0 4294967296 4096 65536\n");
+    let zeros = with_popups(&one_part(&P1), &[0; 4]);
+    assert_eq!(run(&zeros), run(&one_part(&P1)));
+    let mut generator = Generator::new(17);
+    for how in Popups::ALL {
+        for n in [0, 1, 2, 9, 200, MOST_PRINTED] {
+            let marks = rivals(&mut generator, n);
+            let beyond = Beyond {
+                named: generator.choose(&NAMED),
+                popups: Some(popups(how, &marks, 1)),
+            };
+            let text = run(&beyond.bare(&marks));
+            assert_eq!(text, run(&beyond.scheduled(&marks)));
+        }
+    }
+}
+
+#[test]
+fn a_sheet_with_a_damaged_part_5_is_refused() {
+    for sheet in [one_part(&P1), scheduled(&P1)] {
+        for part_5 in [&[][..], &[0; 15], &[0; 17], &[1; 16]] {
+            assert_eq!(run(&with_part(&sheet, 5, part_5)), "refused 21\n");
+        }
+    }
+    let many = one_part(&marks(Shape::Grid, MOST_PRINTED + 1, 1));
+    assert_eq!(run(&with_part(&many, 5, &[])), "refused 21\n");
+    let popups = [9; MOST_PRINTED + 1];
+    assert_eq!(run(&with_popups(&many, &popups)), "refused 14\n");
+    assert_eq!(
+        run(&with_part_4(&with_part(&many, 5, &[]), &[0])),
+        "refused 19\n"
+    );
 }
 
 #[test]

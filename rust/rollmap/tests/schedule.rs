@@ -3,14 +3,14 @@
 mod common;
 
 use common::{
-    bodies_of, foreign_records, joined, named_in, number, one_part, schedule_in, scheduled,
-    scheduled_with, some_sheet, tied_marks, Tally,
+    bodies_of, foreign_records, joined, number, one_part, schedule_in, scheduled, some_sheet,
+    tied_marks, Beyond, Tally,
 };
 use oracle::mark::Mark;
 use oracle::process::{schedule_by_process, schedule_by_sorted_pairs};
 use oracle::rank::Edition::First;
 use oracle::record::{read_records, Record};
-use oracle::sample::{marks, small_choice, Generator, Shape, P1};
+use oracle::sample::{marks, small_choice, Generator, Shape, P1, P5, P6};
 use oracle::tree::read_tree;
 use rollmap::{schedule_to_vec, scheduled_bytes, work_bytes, Code, Work};
 
@@ -47,14 +47,9 @@ fn proved_examples() {
         read_tree(rollmap::part(&sheet, Code::Index).unwrap()),
         [0, 1, 3, 2]
     );
-    let p5 = [Mark::plain(7, 7, 1, 5), Mark::plain(7, 7, 1, 5)];
-    assert_eq!(records(&p5), [Record::NEVER, Record::new(0, 0, 4)]);
-    let p6 = [
-        Mark::plain(-32_768, -32_768, 1, 0),
-        Mark::plain(32_767, 32_767, 1, 0),
-    ];
+    assert_eq!(records(&P5), [Record::NEVER, Record::new(0, 0, 4)]);
     assert_eq!(
-        records(&p6),
+        records(&P6),
         [Record::NEVER, Record::new(0, 8_589_672_450, 4)]
     );
     let p11 = [
@@ -225,14 +220,14 @@ fn refused_sheets_write_nothing() {
         schedule(&sheet, work, out, Err(refused));
         let number = match oracle::sheet::open(&sheet) {
             Ok(opened) => {
-                let expected = scheduled_with(named_in(&opened), &opened.marks);
-                schedule(&sheet, 2_400, 1_200, Ok(&expected))
+                let expected = Beyond::of(&opened).scheduled(&opened.marks);
+                schedule(&sheet, 2_400, 1_400, Ok(&expected))
             }
-            Err(number) => schedule(&sheet, 2_400, 1_200, Err(number)),
+            Err(number) => schedule(&sheet, 2_400, 1_400, Err(number)),
         };
         numbers.add(number);
     }
-    numbers.assert_reached((0..=9).chain([19]), 100);
+    numbers.assert_reached((0..=9).chain([19, 21]), 100);
 }
 
 #[test]

@@ -1,5 +1,5 @@
-/* Prints how many bytes of stack each call takes on 4,096 marks of the second edition: it runs on
-   a stack of which every byte has a known value beforehand. */
+/* Prints how many bytes of stack each call takes on 4,096 marks of the second edition, which pop
+   up all over: it runs on a stack of which every byte has a known value beforehand. */
 #define _POSIX_C_SOURCE 200809L
 #include <pthread.h>
 #include <stdio.h>
@@ -12,22 +12,27 @@
 #define STACK_BYTES ((size_t)256 * 1024)
 #define OWN_BYTES 256 /* what the painting function itself has below its last local */
 
+/* Bytes of the scheduled sheet of n marks with parts 4 and 5. */
+#define WHOLE_BYTES(n) (ROLLMAP_SCHEDULED_BYTES(n) + ROLLMAP_EDITION_BYTES + ROLLMAP_POPUPS_BYTES(n))
+
 static uint8_t marks[N * ROLLMAP_MARK_BYTES];
-static uint8_t sheet[ROLLMAP_CONTENTS_BYTES(1) + sizeof marks + ROLLMAP_EDITION_BYTES];
+static uint8_t popups[N * ROLLMAP_POPUP_BYTES];
+static uint8_t sheet[ROLLMAP_CONTENTS_BYTES(1) + sizeof marks + ROLLMAP_EDITION_BYTES + ROLLMAP_POPUPS_BYTES(N)];
 static uint8_t work[ROLLMAP_WORK_BYTES(N)];
-static uint8_t out[ROLLMAP_SCHEDULED_BYTES(N) + ROLLMAP_EDITION_BYTES];
-static uint8_t fewer[ROLLMAP_SCHEDULED_BYTES(N - 1) + ROLLMAP_EDITION_BYTES];
+static uint8_t out[WHOLE_BYTES(N)];
+static uint8_t fewer[WHOLE_BYTES(N - 1)];
 static uint8_t map[ROLLMAP_MAP_BYTES(N)];
 static uint8_t filled[sizeof marks];
 static uint8_t winder_log[N * ROLLMAP_LOG_RECORD_BYTES];
 
 static uint32_t assemble(void)
 {
-    static const uint16_t codes[2] = {ROLLMAP_CODE_MARKS, ROLLMAP_CODE_EDITION};
+    static const uint16_t codes[3] = {ROLLMAP_CODE_MARKS, ROLLMAP_CODE_EDITION, ROLLMAP_CODE_POPUPS};
     static const uint8_t edition[1] = {ROLLMAP_EDITION_SECOND};
-    const struct rollmap_body bodies[2] = {{marks, sizeof marks}, {edition, sizeof edition}};
+    const struct rollmap_body bodies[3] = {
+        {marks, sizeof marks}, {edition, sizeof edition}, {popups, sizeof popups}};
 
-    return rollmap_assemble(codes, 2, bodies, 2, sheet, sizeof sheet).number;
+    return rollmap_assemble(codes, 3, bodies, 3, sheet, sizeof sheet).number;
 }
 
 static uint32_t schedule(void)
@@ -42,7 +47,7 @@ static uint32_t take_out(void)
 
 static uint32_t add(void)
 {
-    return rollmap_add(fewer, sizeof fewer, 1, 2, 3, 4, 5, 6, work, sizeof work, out, sizeof out).number;
+    return rollmap_add(fewer, sizeof fewer, 1, 2, 3, 4, 5, 6, 7, work, sizeof work, out, sizeof out).number;
 }
 
 static uint32_t check(void)
@@ -122,20 +127,25 @@ static void *measure(void *argument)
     return argument;
 }
 
-/* Marks all over the place, with radii below 256. */
+static uint8_t some_byte(void)
+{
+    static uint64_t state = 1;
+
+    state ^= state << 13;
+    state ^= state >> 7;
+    state ^= state << 17;
+    return (uint8_t)(state >> 40) % 200;
+}
+
+/* Marks all over the place, with radii below 256 and popups below 65,536. */
 static void fill_marks(void)
 {
-    uint64_t state = 1;
     size_t at;
 
-    for (at = 0; at < sizeof marks; at++) {
-        state ^= state << 13;
-        state ^= state >> 7;
-        state ^= state << 17;
-        marks[at] = (uint8_t)(state >> 40) % 200;
-        if (at % ROLLMAP_MARK_BYTES == 5)
-            marks[at] = 0;
-    }
+    for (at = 0; at < sizeof marks; at++)
+        marks[at] = at % ROLLMAP_MARK_BYTES == 5 ? 0 : some_byte();
+    for (at = 0; at < sizeof popups; at++)
+        popups[at] = at % ROLLMAP_POPUP_BYTES < 2 ? some_byte() : 0;
 }
 
 int main(void)

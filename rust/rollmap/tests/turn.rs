@@ -8,14 +8,15 @@ use common::views::{
     window, zoom, Scheduled, WHOLE,
 };
 use common::{
-    foreign_records, number, one_part, our_records, rivals, scheduled, some_marks, some_records,
-    some_sheet, with_named, Lent, Tally, NAMED,
+    foreign_records, number, our_records, rivals, scheduled, some_marks, some_records, some_sheet,
+    Beyond, Lent, Tally, NAMED,
 };
 use oracle::map::{is_set, map_bytes};
 use oracle::mark::{read_marks, write_marks, Mark};
-use oracle::rank::Edition::{self, First};
+use oracle::process::schedule_in_rank_order;
+use oracle::rank::Edition::First;
 use oracle::record::Record;
-use oracle::sample::{marks, refused_sheets, Generator, Shape, P1};
+use oracle::sample::{marks, popups, refused_sheets, Generator, Popups, Shape, P1};
 use oracle::turn::{turned, turned_marks};
 use rollmap::{Code, Refusal, Turn, View, Zoom, FARTHEST_EDGE};
 
@@ -101,8 +102,9 @@ fn many_small_sheets() {
     let mut partly = [0; 4];
     for _ in 0..5_000 {
         let sample = some_marks(&mut generator);
-        let records = some_records(&mut generator, First.reel(&sample));
-        let scheduled = Scheduled::new(sample, &records);
+        let beyond = Beyond::draw(&mut generator, &sample);
+        let records = some_records(&mut generator, beyond.reel(&sample));
+        let scheduled = Scheduled::with(beyond, sample, &records);
         for turn in Turn::ALL {
             let asked = scheduled.some_view(&mut generator, turn);
             let count = scheduled.view(asked) as usize;
@@ -146,8 +148,9 @@ fn the_largest_sheets() {
     let mut generator = Generator::new(93);
     for shape in Shape::ALL {
         let sample = marks(shape, 4_096, 22);
-        let records = foreign_records(&mut generator, First.reel(&sample));
-        let scheduled = Scheduled::new(sample, &records);
+        let beyond = Beyond::popping_up(popups(Popups::Few, &sample, 22));
+        let records = foreign_records(&mut generator, beyond.reel(&sample));
+        let scheduled = Scheduled::with(beyond, sample, &records);
         for turn in Turn::ALL {
             for _ in 0..8 {
                 let asked = scheduled.some_view(&mut generator, turn);
@@ -171,7 +174,7 @@ fn disks_that_just_reach_the_rectangle_and_that_just_miss_it() {
                 // At a whole zoom a disk reaches a whole number of map units.
                 let zoom = match generator.below(2) {
                     0 => wheel(64 * (1 + generator.below(9))),
-                    _ => some_zoom(&mut generator, &[]),
+                    _ => some_zoom(&mut generator),
                 };
                 let k = in_64ths(zoom);
                 let (beside, mark) = beside_a_disk(&mut generator, &scheduled.marks, turn, k);
@@ -216,7 +219,7 @@ fn a_stop_and_its_wheel_value_give_the_same_with_every_turn() {
             numbers.add(number(&by_stop.0));
         }
     }
-    numbers.assert_reached((0..=10).chain([19, 20]), 100);
+    numbers.assert_reached((0..=10).chain([19, 20, 21]), 100);
 }
 
 // ---- what is refused
@@ -315,43 +318,6 @@ fn a_place_that_is_turned_to_32_768_is_shown_there() {
 }
 
 #[test]
-fn questions_9_to_13_and_20_are_put_in_turn_with_every_turn() {
-    let sample = marks(Shape::Grid, 12, 25);
-    let ours = scheduled(&sample);
-    let mut wrong_tree = ours.clone();
-    wrong_tree[32 + 25 * 12] ^= 1;
-    let bare = one_part(&sample);
-    for (sheet, first) in [(&ours, 0), (&bare, 10), (&wrong_tree, 9)] {
-        for (faults, turn) in (0..32).flat_map(|faults| Turn::ALL.map(|turn| (faults, turn))) {
-            let fault = |bit: u32| faults >> bit & 1 == 1;
-            let [taken, refused] = match fault(4) {
-                false => [Zoom::Stop(16), Zoom::Stop(17)],
-                true => [Zoom::Wheel(0.25), Zoom::Wheel(0.3)],
-            };
-            let asked = View {
-                x0: if fault(0) { 6 } else { 5 },
-                x1: 5,
-                y0: if fault(1) { 32_769 } else { -32_768 },
-                y1: 32_768,
-                turn,
-                zoom: if fault(2) { refused } else { taken },
-            };
-            let questions = [
-                (first, first > 0),
-                (20, fault(1)),
-                (11, fault(0)),
-                (12, fault(2)),
-                (13, fault(3)),
-            ];
-            let refused = questions.into_iter().find(|(_, no)| *no);
-            let expected = refused.map_or(0, |(number, _)| number);
-            let length = if fault(3) { 1 } else { 2 };
-            assert_eq!(view(sheet, asked, length), expected);
-        }
-    }
-}
-
-#[test]
 fn a_refused_sheet_gets_its_number_before_20() {
     let beyond = |turn| View {
         x0: FARTHEST_EDGE + 1,
@@ -372,14 +338,14 @@ fn a_refused_sheet_gets_its_number_before_20() {
         let asked = generator.choose(&[beyond(turn), whole(turn)]);
         numbers.add(view(&sheet, asked, generator.choose(&[0, 1, 6, 6])));
     }
-    numbers.assert_reached((0..=10).chain([13, 19, 20]), 20);
+    numbers.assert_reached((0..=10).chain([13, 19, 20, 21]), 20);
 }
 
 // ---- the guarantee on turned marks
 
-/// The sheet with these marks and such a part 4, scheduled by the library.
-fn scheduled_here(marks: &[Mark], named: Option<Edition>) -> Vec<u8> {
-    rollmap::schedule_to_vec(&with_named(one_part(marks), named)).unwrap()
+/// The sheet with these marks and these parts beyond 3, scheduled by the library.
+fn scheduled_here(marks: &[Mark], beyond: &Beyond) -> Vec<u8> {
+    rollmap::schedule_to_vec(&beyond.bare(marks)).unwrap()
 }
 
 /// The sheet with its marks turned and its parts beyond 3 carried along, put together and
@@ -428,10 +394,10 @@ fn a_turned_view_is_the_view_of_the_turned_marks() {
             1 => rivals(&mut generator, 12),
             _ => marks(generator.choose(&Shape::ALL), 30, round),
         };
-        let named = generator.choose(&NAMED);
-        let sheet = scheduled_here(&sample, named);
+        let beyond = Beyond::draw(&mut generator, &sample);
+        let sheet = scheduled_here(&sample, &beyond);
         let records = oracle::sheet::open(&sheet).unwrap().records.unwrap();
-        let scheduled = Scheduled::new(sample, &records);
+        let scheduled = Scheduled::with(beyond, sample, &records);
         let n = scheduled.marks.len();
         for turn in Turn::ALL {
             let Some(other) = turned_sheet(&sheet, turn) else {
@@ -459,15 +425,16 @@ fn a_turned_view_is_the_view_of_the_turned_marks() {
 }
 
 #[test]
-fn larger_reels_of_both_editions_turned() {
+fn larger_reels_of_both_editions_and_with_popups_turned() {
     let mut generator = Generator::new(98);
     for shape in Shape::ALL {
         let mut sample = marks(shape, 700, 26);
         sample.iter_mut().for_each(|mark| mark.priority &= 3);
-        for named in NAMED {
-            let sheet = scheduled_here(&sample, named);
+        let popping_up = Beyond::popping_up(popups(Popups::Any, &sample, 26));
+        for beyond in NAMED.map(Beyond::named).into_iter().chain([popping_up]) {
+            let sheet = scheduled_here(&sample, &beyond);
             let records = oracle::sheet::open(&sheet).unwrap().records.unwrap();
-            let scheduled = Scheduled::new(sample.clone(), &records);
+            let scheduled = Scheduled::with(beyond, sample.clone(), &records);
             for turn in Turn::ALL {
                 let Some(other) = turned_sheet(&sheet, turn) else {
                     continue;
@@ -495,7 +462,7 @@ fn marks_that_do_not_fit_are_viewed_with_the_turn_all_the_same() {
         Mark::plain(i16::MIN, i16::MIN, 1, 1),
         Mark::plain(0, 0, 1, 0),
     ];
-    let sheet = scheduled_here(&sample, None);
+    let sheet = scheduled_here(&sample, &Beyond::default());
     for turn in [Turn::Quarter, Turn::Half, Turn::ThreeQuarters] {
         assert_eq!(turned_sheet(&sheet, turn), None);
         assert_eq!(answered(&sheet, whole(turn), 1), (Ok(2), vec![0x03]));
@@ -507,9 +474,9 @@ fn edges_of_2_bytes_still_hold_all_places() {
     let mut generator = Generator::new(99);
     for _ in 0..1_000 {
         let sample = some_marks(&mut generator);
-        let sheet = scheduled_here(&sample, None);
+        let sheet = scheduled_here(&sample, &Beyond::draw(&mut generator, &sample));
         let asked = View {
-            zoom: some_zoom(&mut generator, &[]),
+            zoom: some_zoom(&mut generator),
             ..WHOLE
         };
         // The edges of all places as 2 bytes have them.
@@ -544,8 +511,10 @@ fn turned_marks_viewed_with_a_turn_are_turned_in_succession() {
     let mut generator = Generator::new(100);
     for _ in 0..600 {
         let sample = turnable(&mut generator);
-        let sheet = scheduled_here(&sample, generator.choose(&NAMED));
-        let scheduled = Scheduled::new(sample.clone(), &our_records(&sample));
+        let beyond = Beyond::draw(&mut generator, &sample);
+        let sheet = scheduled_here(&sample, &beyond);
+        let records = schedule_in_rank_order(beyond.reel(&sample));
+        let scheduled = Scheduled::with(beyond, sample.clone(), &records);
         for (first, next) in Turn::ALL
             .into_iter()
             .flat_map(|first| Turn::ALL.map(|next| (first, next)))
@@ -564,7 +533,7 @@ fn four_quarter_turns_give_the_sheet_back() {
     let mut generator = Generator::new(101);
     for _ in 0..300 {
         let sample = turnable(&mut generator);
-        let sheet = scheduled_here(&sample, generator.choose(&NAMED));
+        let sheet = scheduled_here(&sample, &Beyond::draw(&mut generator, &sample));
         let quarter =
             |sheet: Vec<u8>, _| turned_sheet(&sheet, Turn::Quarter).expect("the places fit");
         assert_eq!((0..4).fold(sheet.clone(), quarter), sheet);

@@ -8,14 +8,14 @@ use common::views::{
 };
 use common::{
     foreign_records, number, one_part, our_records, scheduled, some_marks, some_records,
-    some_sheet, Tally,
+    some_sheet, Beyond, Tally,
 };
 use oracle::fraction::Removal;
 use oracle::map::{is_set, map_bytes};
 use oracle::mark::Mark;
-use oracle::rank::Edition::First;
+use oracle::process::schedule_in_rank_order;
 use oracle::record::Record;
-use oracle::sample::{marks, Generator, Shape, P1};
+use oracle::sample::{marks, popups, Generator, Popups, Shape, P1};
 use oracle::zoom::removal_zoom_in_64ths;
 use rollmap::{Turn, View, Zoom, FARTHEST_EDGE};
 
@@ -106,7 +106,7 @@ fn a_stop_and_its_wheel_value_give_the_same_of_any_sheet() {
         let number = stops_and_wheel_values(&sheet, rectangle, length);
         numbers.add(number);
     }
-    numbers.assert_reached((0..=10).chain([13, 19]), 20);
+    numbers.assert_reached((0..=10).chain([13, 19, 21]), 20);
 }
 
 #[test]
@@ -230,34 +230,43 @@ fn every_length_of_the_map() {
 }
 
 #[test]
-fn questions_9_to_13_and_20_are_put_in_turn() {
+fn questions_9_to_13_and_20_are_put_in_turn_with_every_turn() {
     let sample = marks(Shape::Grid, 12, 7);
     let whole = scheduled(&sample);
     let mut wrong_tree = whole.clone();
     wrong_tree[32 + 25 * 12] ^= 1;
     let bare = one_part(&sample);
+    let zooms = [
+        [Zoom::Stop(3), Zoom::Stop(17)],
+        [Zoom::Wheel(0.25), Zoom::Wheel(0.3)],
+    ];
     for (sheet, first) in [(&whole, 0), (&bare, 10), (&wrong_tree, 9)] {
-        for faults in 0..64 {
-            let fault = |bit: u32| faults >> bit & 1 == 1;
-            let asked = View {
-                x1: if fault(0) { -32_768 } else { 32_768 },
-                x0: if fault(4) { 32_769 } else { -5 },
-                y1: if fault(1) { -6 } else { 32_767 },
-                y0: if fault(5) { -32_769 } else { -5 },
-                turn: Turn::None,
-                zoom: Zoom::Stop(if fault(2) { 17 } else { 3 }),
-            };
-            let questions = [
-                (first, first > 0),
-                (20, fault(4) || fault(5)),
-                (11, fault(0) || fault(1)),
-                (12, fault(2)),
-                (13, fault(3)),
-            ];
-            let refused = questions.into_iter().find(|(_, no)| *no);
-            let expected = refused.map_or(0, |(number, _)| number);
-            let length = if fault(3) { 1 } else { 2 };
-            assert_eq!(view(sheet, asked, length), expected);
+        for (turn, [taken, refused]) in Turn::ALL
+            .into_iter()
+            .flat_map(|turn| zooms.map(|zooms| (turn, zooms)))
+        {
+            for faults in 0..64 {
+                let fault = |bit: u32| faults >> bit & 1 == 1;
+                let asked = View {
+                    x1: if fault(0) { -32_768 } else { 32_768 },
+                    x0: if fault(4) { 32_769 } else { -5 },
+                    y1: if fault(1) { -6 } else { 32_767 },
+                    y0: if fault(5) { -32_769 } else { -5 },
+                    turn,
+                    zoom: if fault(2) { refused } else { taken },
+                };
+                let questions = [
+                    (first, first > 0),
+                    (20, fault(4) || fault(5)),
+                    (11, fault(0) || fault(1)),
+                    (12, fault(2)),
+                    (13, fault(3)),
+                ];
+                let refused = questions.into_iter().find(|(_, no)| *no);
+                let expected = refused.map_or(0, |(number, _)| number);
+                let length = if fault(3) { 1 } else { 2 };
+                assert_eq!(view(sheet, asked, length), expected);
+            }
         }
     }
 }
@@ -278,8 +287,9 @@ fn many_small_sheets() {
     let mut partly = 0;
     for _ in 0..30_000 {
         let sample = some_marks(&mut generator);
-        let records = some_records(&mut generator, First.reel(&sample));
-        let scheduled = Scheduled::new(sample, &records);
+        let beyond = Beyond::draw(&mut generator, &sample);
+        let records = some_records(&mut generator, beyond.reel(&sample));
+        let scheduled = Scheduled::with(beyond, sample, &records);
         for _ in 0..4 {
             let view = scheduled.some_view(&mut generator, Turn::None);
             let count = scheduled.view(view);
@@ -295,17 +305,23 @@ fn many_small_sheets() {
 #[test]
 fn larger_sheets_ours_and_foreign() {
     let mut generator = Generator::new(44);
-    for shape in Shape::ALL {
-        for n in [63, 64, 65, 200, 777] {
-            let sample = marks(shape, n, n as u64);
+    for (shape, n) in Shape::ALL
+        .into_iter()
+        .flat_map(|shape| [63, 64, 65, 200, 777].map(|n| (shape, n)))
+    {
+        let sample = marks(shape, n, n as u64);
+        let ways = [Popups::Any, Popups::Few, Popups::Touching];
+        let popping_up = ways.map(|how| Beyond::popping_up(popups(how, &sample, 1)));
+        for beyond in [Beyond::default()].into_iter().chain(popping_up) {
+            let reel = beyond.reel(&sample);
             let lists = [
-                our_records(&sample),
-                foreign_records(&mut generator, First.reel(&sample)),
+                schedule_in_rank_order(reel),
+                foreign_records(&mut generator, reel),
                 vec![Record::NEVER; n],
             ];
             for records in lists {
-                let scheduled = Scheduled::new(sample.clone(), &records);
-                for _ in 0..60 {
+                let scheduled = Scheduled::with(beyond.clone(), sample.clone(), &records);
+                for _ in 0..30 {
                     let view = scheduled.some_view(&mut generator, Turn::None);
                     scheduled.view(view);
                 }
@@ -327,7 +343,7 @@ fn disks_that_just_reach_the_rectangle_and_that_just_miss_it() {
                 // At a whole zoom a disk reaches a whole number of map units.
                 let zoom = match generator.below(2) {
                     0 => wheel(64 * (1 + generator.below(9))),
-                    _ => some_zoom(&mut generator, &[]),
+                    _ => some_zoom(&mut generator),
                 };
                 let k = in_64ths(zoom);
                 let (beside, number) =
@@ -352,13 +368,16 @@ fn the_largest_sheets() {
     let mut generator = Generator::new(45);
     for shape in Shape::ALL {
         let sample = marks(shape, 4_096, 8);
-        let records = foreign_records(&mut generator, First.reel(&sample));
-        let scheduled = Scheduled::new(sample, &records);
-        for _ in 0..60 {
-            let view = scheduled.some_view(&mut generator, Turn::None);
-            scheduled.view(view);
+        let popping_up = Beyond::popping_up(popups(Popups::Any, &sample, 8));
+        for beyond in [Beyond::default(), popping_up] {
+            let records = foreign_records(&mut generator, beyond.reel(&sample));
+            let scheduled = Scheduled::with(beyond, sample.clone(), &records);
+            for _ in 0..40 {
+                let view = scheduled.some_view(&mut generator, Turn::None);
+                scheduled.view(view);
+            }
+            assert_view(&scheduled.sheet, WHOLE, 511, &Err(13));
         }
-        assert_view(&scheduled.sheet, WHOLE, 511, &Err(13));
     }
 }
 
@@ -370,13 +389,13 @@ fn refused_sheets_write_nothing() {
         let sheet = some_sheet(&mut generator);
         let small = anywhere(&mut generator, Turn::None);
         let asked = View {
-            zoom: some_zoom(&mut generator, &[]),
+            zoom: some_zoom(&mut generator),
             ..generator.choose(&[WHOLE, small])
         };
         let number = view(&sheet, asked, generator.choose(&[0, 1, 6, 6, 6]));
         numbers.add(number);
     }
-    numbers.assert_reached((0..=10).chain([13, 19]), 100);
+    numbers.assert_reached((0..=10).chain([13, 19, 21]), 100);
 }
 
 #[test]

@@ -8,8 +8,8 @@ use Rattle.contents.specs.Contents.{together}
 use Rattle.contents.specs.Laws.{together-codes}
 use Rattle.lists.specs.TestLaws.{said-no, said-yes}
 use Rattle.contents.specs.Contents.{names, has}
-use Rattle.bodies.specs.Questions.{editionIn, editionOf, question8}
-use Rattle.bodies.specs.Lemmas.Fitting.{sizes-iff}
+use Rattle.bodies.specs.Questions.{countOf, editionIn, editionOf, question8}
+use Rattle.bodies.specs.Lemmas.Fitting.{sizes-iff, popups-asked, popups-good}
 use native.Mathlib.Omega.{arith}
 use borrow.Author.Needs.{needs}
 use Rattle.bodies.proofs.has_schedule.Statement.{statement}
@@ -40,27 +40,41 @@ edition-of-requires c κs = search needs
 find-requires-3 : tie.Need-find-requires-3
 find-requires-3 c κs = search needs
 
+find-requires-4 : tie.Need-find-requires-4
+find-requires-4 c κs = search needs
+
 is-schedule-requires : tie.Need-is-schedule-requires
 is-schedule-requires c κs =
-    let b = c .before .before .before .before .before .before .before in
+    let t = c .before in
+    let first = t .before .before .before in
+    let b = first .before .before .before .before in
     let codes = now (b .args .codes) in
     let bodies = map now (now (b .args .bodies)) in
+    let parts = together codes bodies in
     let same : length codes ≡ length bodies = rw length-map (b .pre .0 .0) in
-    let there : has (together codes bodies) 2 ≡ true = rw (together-codes codes bodies same) (said-yes (c .before .before .before .before .before .names .ensures) (c .before .before .before .before .if1 .left)) in
-    let long = sizes-iff (together codes bodies) .0 (b .pre .1) .0 there in
-    (rw (c .before .before .before .find .ensures) (b .pre .0 .2 .marks), omega (arith, ap length (c .find3 .ensures), long, b .pre .0 .2 .counted))
+    let there : has parts 2 ≡ true = rw (together-codes codes bodies same) (said-yes (first .before .before .names .ensures) (first .before .if1 .left)) in
+    let long = sizes-iff parts .0 (b .pre .1 .0) .0 there in
+    let popped = popups-good parts (countOf parts) (popups-asked parts .0 (b .pre .1 .1)) in (
+      rw (first .find .ensures) (b .pre .0 .2 .marks),
+      rw (t .find3 .ensures, b .pre .0 .2 .counted) popped,
+      omega (arith, ap length (c .find4 .ensures), long, b .pre .0 .2 .counted),
+    )
 
 returns-2 : tie.Need-returns-2
 unfolding question8
 returns-2 c =
-    let b = c .before .before .before .before .before .before .before .before in
+    let d = c .before in
+    let t = d .before in
+    let e = t .before in
+    let first = e .before .before in
+    let b = first .before .before .before .before in
     let codes = now (b .args .codes) in
     let bodies = map now (now (b .args .bodies)) in
     let same : length codes ≡ length bodies = rw length-map (b .pre .0 .0) in
-    let there : names codes 2 ≡ true = said-yes (c .before .before .before .before .before .before .names .ensures) (c .before .before .before .before .before .if1 .left) in
-    let edition : c .before .before .edition-of .result ≡ editionOf (together codes bodies) = c .before .before .edition-of .ensures ∙ ap editionIn (c .before .before .before .find2 .ensures) in
+    let there : names codes 2 ≡ true = said-yes (first .before .before .names .ensures) (first .before .if1 .left) in
+    let edition : e .edition-of .result ≡ editionOf (together codes bodies) = e .edition-of .ensures ∙ ap editionIn (e .before .find2 .ensures) in
     rw (together-codes codes bodies same, there)
-    (c .is-schedule .ensures ∙ rw (c .before .before .before .before .find .ensures, edition, c .before .find3 .ensures, b .pre .0 .2 .counted))
+    (c .is-schedule .ensures ∙ rw (first .find .ensures, edition, t .find3 .ensures, d .find4 .ensures, b .pre .0 .2 .counted))
 
 pub has-schedule-spec : {M : Type 1} → statement M
 has-schedule-spec =
@@ -72,5 +86,6 @@ has-schedule-spec =
     find-requires-2
     edition-of-requires
     find-requires-3
+    find-requires-4
     is-schedule-requires
     returns-2)

@@ -10,10 +10,10 @@ use Rattle.bodies.proofs.is_schedule.Statement.{statement}
 use Rattle.bodies.proofs.is_schedule.Tie as tie
 
 abbrev Inv-loop : tie.InvT-loop
-Inv-loop marks edition schedule n m₀ m = (m ≤ n) × (every (recordRight (record { marks = marks; count = n; edition = edition }) schedule) m ≡ true)
+Inv-loop marks edition popups schedule n m₀ m = (m ≤ n) × (every (recordRight (record { marks = marks; count = n; edition = edition; popups = popups }) schedule) m ≡ true)
 
 abbrev μ-loop : tie.MeasureT-loop
-μ-loop marks edition schedule n m₀ m = n - m
+μ-loop marks edition popups schedule n m₀ m = n - m
 
 loop-holds : tie.Need-loop-holds Inv-loop μ-loop
 unfolding every
@@ -21,8 +21,8 @@ loop-holds c = (omega arith, refl)
 
 record-right-requires : tie.Need-record-right-requires Inv-loop μ-loop
 record-right-requires c κs =
-    let p = c .before .before .before .before .pre in
-    (p .0, p .1, omega arith)
+    let p = c .before .before .before .before .before .pre in
+    (p .0, p .1, p .2, omega arith)
 
 returns : tie.Need-returns Inv-loop μ-loop
 unfolding isSchedule
@@ -42,7 +42,7 @@ loop-again c =
 returns-2 : tie.Need-returns-2 Inv-loop μ-loop
 unfolding isSchedule
 returns-2 c =
-    let q : c .before .loop .m ≡ c .before .before .before .before .args .n = omega arith in
+    let q : c .before .loop .m ≡ c .before .before .before .before .before .args .n = omega arith in
     sym (rw q at (c .before .loop .inv .1))
 
 pub is-schedule-spec : {M : Type 1} → statement M

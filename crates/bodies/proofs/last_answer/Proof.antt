@@ -1,4 +1,4 @@
--- `bodies::last_answer` meets its contract: the first of four tests that fails gives the number. Assumes nothing.
+-- `bodies::last_answer` meets its contract: the first of five tests that fails gives the number. Assumes nothing.
 use mathlib.Core.Path.{sym, _∙_}
 use Rattle.lists.specs.TestLaws.{said-no, said-yes}
 use Rattle.contents.specs.Laws.{none-asked, asked-yes, asked-no}
@@ -20,37 +20,69 @@ has-edition-requires c κs = search needs
 returns-2 : tie.Need-returns-2
 unfolding lastQuestions
 returns-2 c =
-    sym (asked-yes 7 _ (said-yes (c .before .before .before .has-sizes .ensures) (c .before .before .if1 .left)) ∙ asked-no 19 _ (said-no (c .before .has-edition .ensures) (c .if2 .taken)))
+    let a = c .before .before in
+    sym (asked-yes 7 _ (said-yes (a .before .has-sizes .ensures) (a .if1 .left)) ∙ asked-no 19 _ (said-no (c .before .has-edition .ensures) (c .if2 .taken)))
 
-has-schedule-requires : tie.Need-has-schedule-requires
-has-schedule-requires c κs = (c .before .before .before .before .before .pre .0, said-yes (c .before .before .before .has-sizes .ensures) (c .before .before .if1 .left))
+has-popups-requires : tie.Need-has-popups-requires
+has-popups-requires c κs = search needs
 
 returns-3 : tie.Need-returns-3
 unfolding lastQuestions
 returns-3 c =
-    sym (asked-yes 7 _ (said-yes (c .before .before .before .before .before .has-sizes .ensures) (c .before .before .before .before .if1 .left))
-    ∙ asked-yes 19 _ (said-yes (c .before .before .before .has-edition .ensures) (c .before .before .if2 .left))
-    ∙ asked-no 8 _ (said-no (c .before .has-schedule .ensures) (c .if3 .taken)))
+    let b = c .before .before in
+    let a = b .before .before in
+    sym (asked-yes 7 _ (said-yes (a .before .has-sizes .ensures) (a .if1 .left))
+    ∙ asked-yes 19 _ (said-yes (b .before .has-edition .ensures) (b .if2 .left))
+    ∙ asked-no 21 _ (said-no (c .before .has-popups .ensures) (c .if3 .taken)))
 
-has-index-requires : tie.Need-has-index-requires
-has-index-requires c κs = (c .before .before .before .before .before .before .before .pre .0, (said-yes (c .before .before .before .before .before .has-sizes .ensures) (c .before .before .before .before .if1 .left), c .before .before .before .before .before .before .before .pre .1))
+has-schedule-requires : tie.Need-has-schedule-requires
+has-schedule-requires c κs =
+    let a = c .before .before .before .before in
+    (a .before .before .before .pre .0, (said-yes (a .before .has-sizes .ensures) (a .if1 .left), said-yes (c .before .has-popups .ensures) (c .if3 .left)))
 
 returns-4 : tie.Need-returns-4
 unfolding lastQuestions
 returns-4 c =
-    sym (asked-yes 7 _ (said-yes (c .before .before .before .before .before .before .before .has-sizes .ensures) (c .before .before .before .before .before .before .if1 .left))
-    ∙ asked-yes 19 _ (said-yes (c .before .before .before .before .before .has-edition .ensures) (c .before .before .before .before .if2 .left))
-    ∙ asked-yes 8 _ (said-yes (c .before .before .before .has-schedule .ensures) (c .before .before .if3 .left))
-    ∙ asked-yes 9 _ (sym (c .before .has-index .ensures) ∙ c .if4 .taken)
-    ∙ none-asked)
+    let d = c .before .before in
+    let b = d .before .before in
+    let a = b .before .before in
+    sym (asked-yes 7 _ (said-yes (a .before .has-sizes .ensures) (a .if1 .left))
+    ∙ asked-yes 19 _ (said-yes (b .before .has-edition .ensures) (b .if2 .left))
+    ∙ asked-yes 21 _ (said-yes (d .before .has-popups .ensures) (d .if3 .left))
+    ∙ asked-no 8 _ (said-no (c .before .has-schedule .ensures) (c .if4 .taken)))
+
+has-index-requires : tie.Need-has-index-requires
+has-index-requires c κs =
+    let a = c .before .before .before .before .before .before in
+    let p = a .before .before .before .pre in
+    (p .0, (said-yes (a .before .has-sizes .ensures) (a .if1 .left), p .1))
 
 returns-5 : tie.Need-returns-5
 unfolding lastQuestions
 returns-5 c =
-    sym (asked-yes 7 _ (said-yes (c .before .before .before .before .before .before .before .has-sizes .ensures) (c .before .before .before .before .before .before .if1 .left))
-    ∙ asked-yes 19 _ (said-yes (c .before .before .before .before .before .has-edition .ensures) (c .before .before .before .before .if2 .left))
-    ∙ asked-yes 8 _ (said-yes (c .before .before .before .has-schedule .ensures) (c .before .before .if3 .left))
-    ∙ asked-no 9 _ (sym (c .before .has-index .ensures) ∙ c .if4 .left))
+    let e = c .before .before in
+    let d = e .before .before in
+    let b = d .before .before in
+    let a = b .before .before in
+    sym (asked-yes 7 _ (said-yes (a .before .has-sizes .ensures) (a .if1 .left))
+    ∙ asked-yes 19 _ (said-yes (b .before .has-edition .ensures) (b .if2 .left))
+    ∙ asked-yes 21 _ (said-yes (d .before .has-popups .ensures) (d .if3 .left))
+    ∙ asked-yes 8 _ (said-yes (e .before .has-schedule .ensures) (e .if4 .left))
+    ∙ asked-yes 9 _ (sym (c .before .has-index .ensures) ∙ c .if5 .taken)
+    ∙ none-asked)
+
+returns-6 : tie.Need-returns-6
+unfolding lastQuestions
+returns-6 c =
+    let e = c .before .before in
+    let d = e .before .before in
+    let b = d .before .before in
+    let a = b .before .before in
+    sym (asked-yes 7 _ (said-yes (a .before .has-sizes .ensures) (a .if1 .left))
+    ∙ asked-yes 19 _ (said-yes (b .before .has-edition .ensures) (b .if2 .left))
+    ∙ asked-yes 21 _ (said-yes (d .before .has-popups .ensures) (d .if3 .left))
+    ∙ asked-yes 8 _ (said-yes (e .before .has-schedule .ensures) (e .if4 .left))
+    ∙ asked-no 9 _ (sym (c .before .has-index .ensures) ∙ c .if5 .left))
 
 pub last-answer-spec : {M : Type 1} → statement M
 last-answer-spec =
@@ -60,8 +92,10 @@ last-answer-spec =
     returns
     has-edition-requires
     returns-2
-    has-schedule-requires
+    has-popups-requires
     returns-3
-    has-index-requires
+    has-schedule-requires
     returns-4
-    returns-5)
+    has-index-requires
+    returns-5
+    returns-6)

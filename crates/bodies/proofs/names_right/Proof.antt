@@ -2,6 +2,7 @@
 use native.Mathlib.Omega.{arith}
 use borrow.Author.Tests.{lt-ltb, le-ltb}
 use Rattle.lists.specs.TestLaws.{said-no, said-yes}
+use Rattle.marks.specs.PairLaws.{good-popup}
 use Rattle.bodies.specs.Questions.{namesRight}
 use borrow.Author.Needs.{needs}
 use Rattle.bodies.proofs.names_right.Statement.{statement}
@@ -12,7 +13,7 @@ cast-by c = search needs
 
 returns : tie.Need-returns
 unfolding namesRight
-returns c = let a = c .before .before .before .args in rw (le-ltb (a .d .eliminator) (a .n) (omega arith))
+returns c = let a = c .before .before .before .before .args in rw (le-ltb (a .d .eliminator) (a .n) (omega arith))
 
 outranks-requires : tie.Need-outranks-requires
 outranks-requires c κs = search needs
@@ -24,11 +25,11 @@ returns-2 c = rw (lt-ltb _ _ (c .before .before .if1 .left), said-no (c .before 
 fraction-of-requires : tie.Need-fraction-of-requires
 fraction-of-requires c κs = search needs
 
-touching-requires : tie.Need-touching-requires
-touching-requires c κs =
-    let p = c .before .before .before .before .before .before .pre in
+pair-requires : tie.Need-pair-requires
+pair-requires c κs =
+    let p = c .before .before .before .before .before .before .before .pre in
     let inside = c .before .before .before .if1 .left in
-    ((omega arith, omega arith), (p .0 .each _ inside .used, p .0 .each _ (p .1) .used))
+    ((omega arith, omega arith), (p .0 .each _ inside .used, p .0 .each _ (p .2) .used, good-popup (p .1) inside, good-popup (p .1) (p .2)))
 
 exactly-requires : tie.Need-exactly-requires
 exactly-requires c κs = search needs
@@ -42,7 +43,7 @@ returns-3 c =
       said-yes (b .before .outranks .ensures) (b .if2 .left),
       c .exactly .ensures,
       c .before .before .fraction-of .ensures,
-      c .before .touching .ensures .0,
+      c .before .pair .ensures,
     )
 
 pub names-right-spec : {M : Type 1} → statement M
@@ -54,6 +55,6 @@ names-right-spec =
     outranks-requires
     returns-2
     fraction-of-requires
-    touching-requires
+    pair-requires
     exactly-requires
     returns-3)

@@ -3,20 +3,22 @@ use Prim.Native.Nat.{ℕ, _*_, _%_, _<_, _≤_}
 use mathlib.Core.Path.{_≡_, refl}
 use mathlib.Core.Bool.{Bool, true, false, false≢true}
 use mathlib.Core.List.{List}
-use mathlib.Core.Logic.{_↔_}
+use mathlib.Core.Logic.{_↔_, inr}
 use native.Mathlib.Omega.{arith}
 use lib.Dec.{eqb}
 use lib.ListN.{length}
 use borrow.Author.Tests.{leb-true, eqb-true, le-leb, eq-eqb}
-use Rattle.lists.specs.TestLaws.{both-iff}
+use Rattle.lists.specs.TestLaws.{both-iff, by-cases, every-at, every-of}
 use Rattle.marks.specs.Marks.{kindAt, radiusAt, isKind, isRadius}
+use Rattle.marks.specs.Pairs.{popupSize, popupAt, GoodPopups}
+use Rattle.marks.specs.PairLaws.{none-good}
 use Rattle.marks.specs.Good.{GoodMark, GoodMarks}
 use Rattle.marks.specs.Laws.{kind-iff, used-bound}
 use Rattle.index.specs.Index.{isIndex}
-use Rattle.contents.specs.Contents.{Part, has, marksPart, schedulePart, indexPart, editionPart}
+use Rattle.contents.specs.Contents.{Part, has, marksPart, schedulePart, indexPart, editionPart, popupsPart}
 use Rattle.contents.specs.Asking.{answer, ifThere}
-use Rattle.contents.specs.Laws.{none-asked, asked-iff, append-iff, turn-at, turn-of}
-use Rattle.bodies.specs.Questions.{question4, markCount, fieldQuestions, oneMark, markQuestions, part1Questions, isSchedule, countOf, reelOf, isSized, question7, isEdition, question19, question8, question9, lastQuestions, bodyQuestions}
+use Rattle.contents.specs.Laws.{none-asked, asked-iff, append-iff, turn-at, turn-of, find-none}
+use Rattle.bodies.specs.Questions.{question4, markCount, fieldQuestions, oneMark, markQuestions, part1Questions, isSchedule, countOf, reelOf, isSized, question7, isEdition, question19, isPopup, isPopups, question21, question8, question9, lastQuestions, bodyQuestions}
 use Rattle.bodies.specs.Fitting.{Fitting}
 use Rattle.bodies.specs.Lemmas.Numbered.{one-numbered, part1-numbered}
 
@@ -68,12 +70,27 @@ part1-iff s = (
   )),
 )
 
--- ---- 7 to 9, and 19
+-- ---- 7 to 9, 19 and 21
 
 -- part 4 is one byte
 pub edition-long : (body : List ℕ) → isEdition body ≡ true → length body ≡ 1
 unfolding isEdition
 edition-long body e = eqb-true (length body) 1 (both-iff (eqb (length body) 1) _ .0 e .0)
+
+-- part 5 has a popup for each mark
+pub popups-iff : (body : List ℕ) (n : ℕ) → (isPopups body n ≡ true) ↔ ((length body ≡ popupSize * n) × ((m : ℕ) → m < n → popupAt body m ≤ 65536))
+unfolding isPopups isPopup
+popups-iff body n = (
+  (λ e. let p = both-iff (eqb (length body) (popupSize * n)) _ .0 e in
+      (eqb-true (length body) (popupSize * n) (p .0), λ m l. leb-true (popupAt body m) 65536 (every-at _ n (p .1) m l))),
+  (λ h. both-iff (eqb (length body) (popupSize * n)) _ .1 (eq-eqb (length body) (popupSize * n) (h .0), every-of _ n (λ m l. le-leb (popupAt body m) 65536 (h .1 m l)))),
+)
+
+-- where it is not there, it is empty, and each popup is 0
+pub popups-good : (parts : List Part) (n : ℕ) → (has parts 5 ≡ true → isPopups (popupsPart parts) n ≡ true) → GoodPopups (popupsPart parts) n
+popups-good parts n right =
+    by-cases (has parts 5) (λ e. let h = popups-iff (popupsPart parts) n .0 (right e) in record { sized = inr (h .0); each = h .1 })
+    (λ e. rw (find-none parts 5 e) (none-good n))
 
 -- a question about a part that may not be there
 there-iff : (there test : Bool) → (ifThere there test ≡ true) ↔ (there ≡ true → test ≡ true)
@@ -97,6 +114,10 @@ sizes-iff parts =
       (λ h. both-iff (isSized (has parts 2) (length (schedulePart parts)) (14 * countOf parts)) _ .1 (schedule .1 (h .0), index .1 (h .1))),
     )
 
+pub popups-asked : (parts : List Part) → (question21 parts ≡ true) ↔ (has parts 5 ≡ true → isPopups (popupsPart parts) (countOf parts) ≡ true)
+unfolding question21
+popups-asked parts = there-iff (has parts 5) (isPopups (popupsPart parts) (countOf parts))
+
 pub fitting-iff : (parts : List Part) → (answer (bodyQuestions parts) ≡ 0) ↔ Fitting parts
 unfolding bodyQuestions lastQuestions question19 question8 question9
 fitting-iff parts = (there, back)
@@ -113,7 +134,8 @@ fitting-iff parts = (there, back)
         let c = asked-iff 7 (question7 parts) _ (omega arith) .0 (b .1) in
         let sizes = sizes-iff parts .0 (c .0) in
         let g = asked-iff 19 (question19 parts) _ (omega arith) .0 (c .1) in
-        let d = asked-iff 8 (question8 parts) _ (omega arith) .0 (g .1) in
+        let p = asked-iff 21 (question21 parts) _ (omega arith) .0 (g .1) in
+        let d = asked-iff 8 (question8 parts) _ (omega arith) .0 (p .1) in
         let f = asked-iff 9 (question9 parts) _ (omega arith) .0 (d .1) in
         record {
           marks = part1-iff (marksPart parts) .0 (b .0) .0;
@@ -121,6 +143,7 @@ fitting-iff parts = (there, back)
           schedule-long = sizes .0;
           index-long = sizes .1;
           edition-right = there-iff (has parts 4) (isEdition (editionPart parts)) .0 (g .0);
+          popups-right = popups-asked parts .0 (p .0);
           schedule-right = there-iff (has parts 2) scheduled .0 (d .0);
           index-right = there-iff (has parts 3) indexed .0 (f .0);
         }
@@ -133,9 +156,12 @@ fitting-iff parts = (there, back)
             sizes-iff parts .1 (f .schedule-long, f .index-long),
             asked-iff 19 (question19 parts) _ (omega arith) .1 (
               there-iff (has parts 4) (isEdition (editionPart parts)) .1 (f .edition-right),
-              asked-iff 8 (question8 parts) _ (omega arith) .1 (
-                there-iff (has parts 2) scheduled .1 (f .schedule-right),
-                asked-iff 9 (question9 parts) _ (omega arith) .1 (there-iff (has parts 3) indexed .1 (f .index-right), none-asked),
+              asked-iff 21 (question21 parts) _ (omega arith) .1 (
+                popups-asked parts .1 (f .popups-right),
+                asked-iff 8 (question8 parts) _ (omega arith) .1 (
+                  there-iff (has parts 2) scheduled .1 (f .schedule-right),
+                  asked-iff 9 (question9 parts) _ (omega arith) .1 (there-iff (has parts 3) indexed .1 (f .index-right), none-asked),
+                ),
               ),
             ),
           ),

@@ -8,28 +8,27 @@ use native.Mathlib.Omega.{arith}
 use lib.Dec.{ltb, eqb}
 use borrow.Author.Tests.{ltb-true, eqb-true}
 use Rattle.lists.specs.TestLaws.{both-iff, either, every-at}
-use Rattle.numbers.specs.Little.{Bytes}
 use Rattle.fractions.specs.Order.{later, Small}
-use Rattle.marks.specs.Marks.{outranks, touching}
-use Rattle.marks.specs.Good.{GoodMarks}
-use Rattle.marks.specs.Laws.{touching-small}
+use Rattle.marks.specs.Marks.{outranks}
+use Rattle.marks.specs.Pairs.{pairValue}
+use Rattle.marks.specs.PairLaws.{pairs-small}
 use Rattle.elimination.specs.Records.{fractionOf, isNever, valueOf, markRecord, valueAt, eliminatorAt, numAt, denAt, fractionAt}
 use Rattle.elimination.specs.declared.Record.{Record}
-use Rattle.elimination.specs.Reel.{Reel}
+use Rattle.elimination.specs.Reel.{Reel, GoodReel}
 use Rattle.bodies.specs.Questions.{exactly, namesRight, recordRight, isSchedule}
 
 -- a record that names a mark rightly
 pub record Named (r : Reel) (d : Record) (m : ℕ) : Type 0 where
   pub below : d .eliminator < r .count
   pub higher : outranks (r .edition) (r .marks) (d .eliminator) m ≡ true
-  pub num-is : d .num ≡ (touching (r .marks) (d .eliminator) m) .num
-  pub den-is : d .den ≡ (touching (r .marks) (d .eliminator) m) .den
+  pub num-is : d .num ≡ (pairValue (r .marks) (r .popups) (d .eliminator) m) .num
+  pub den-is : d .den ≡ (pairValue (r .marks) (r .popups) (d .eliminator) m) .den
 
 pub named : (r : Reel) (d : Record) (m : ℕ) → namesRight r d m ≡ true → Named r d m
 unfolding namesRight
 named r d m e =
     let by = d .eliminator in
-    let t = touching (r .marks) by m in
+    let t = pairValue (r .marks) (r .popups) by m in
     let a = both-iff _ (exactly (fractionOf d) t) .0 e in
     let b = both-iff (ltb by (r .count)) (outranks (r .edition) (r .marks) by m) .0 (a .0) in
     let c = both-iff (eqb (d .num) (t .num)) (eqb (d .den) (t .den)) .0 (a .1) in
@@ -48,16 +47,18 @@ right-of r p m e {b} =
     subst (λ (d : Record). b ≡ (isNever d || (namesRight r d m && later (valueAt p (d .eliminator)) (valueOf d)))) e
 
 -- Both numbers of a record that passed are those of 'never' or of a pair, so they are small.
-pub record-small : (r : Reel) (p : List ℕ) (m : ℕ) → Bytes (r .marks) → GoodMarks (r .marks) (r .count) → isSchedule r p ≡ true → m < r .count → Small (fractionAt p m)
+pub record-small : (r : Reel) (p : List ℕ) (m : ℕ) → GoodReel r → isSchedule r p ≡ true → m < r .count → Small (fractionAt p m)
 unfolding isSchedule recordRight isNever
-record-small r p m b good e l =
+record-small r p m right e l =
     let by = eliminatorAt p m in
     elim (either (isNever (markRecord p m)) _ (every-at (recordRight r p) (r .count) e m l)) [
       | inl never ↦
           (let z = both-iff (eqb (numAt p m) 0) (eqb (denAt p m) 0) .0 (both-iff (eqb by 65535) _ .0 never .1) in
           record { num-small = omega (arith, eqb-true (numAt p m) 0 (z .0)); den-small = omega (arith, eqb-true (denAt p m) 0 (z .1)) })
-      | inr right ↦
-          (let k = named r (markRecord p m) m (both-iff (namesRight r (markRecord p m) m) _ .0 right .0) in
-          let small = touching-small (r .marks) by m b (good .each by (k .below) .used) (good .each m l .used) in
+      | inr rest ↦
+          (let k = named r (markRecord p m) m (both-iff (namesRight r (markRecord p m) m) _ .0 rest .0) in
+          let small =
+          pairs-small (r .marks) (r .popups) by m (right .bytes) (right .good .each by (k .below) .used) (right .good .each m l .used)
+          (right .popped .each by (k .below)) (right .popped .each m l) in
           record { num-small = omega (arith, k .num-is, small .num-small); den-small = omega (arith, k .den-is, small .den-small) })
     ]

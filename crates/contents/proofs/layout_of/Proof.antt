@@ -14,7 +14,15 @@ use Rattle.contents.proofs.layout_of.Tie as tie
 
 -- where the parts lie by the first i entries
 abbrev before : List ℕ → ℕ → Layout
-before s i = record { count = countAt s; marks = placeBefore s i 1; schedule = placeBefore s i 2; index = placeBefore s i 3; edition = placeBefore s i 4 }
+before s i =
+    record {
+      count = countAt s;
+      marks = placeBefore s i 1;
+      schedule = placeBefore s i 2;
+      index = placeBefore s i 3;
+      edition = placeBefore s i 4;
+      popups = placeBefore s i 5;
+    }
 
 abbrev Inv-loop : tie.InvT-loop
 Inv-loop s count layout₀ i₀ layout i = (count ≡ countAt s) × (i ≤ count) × (layout ≡ before s i)

@@ -20,9 +20,12 @@ returns-4 : tie.Need-returns-4
 returns-4 c = rw (c .before .match .keys4)
 
 returns-5 : tie.Need-returns-5
-returns-5 c =
+returns-5 c = rw (c .before .match .keys5)
+
+returns-6 : tie.Need-returns-6
+returns-6 c =
     let none = c .before .match .rest in
-    rw (ne-eqb _ 1 (none .0 .0 .0 .1), ne-eqb _ 2 (none .0 .0 .1), ne-eqb _ 3 (none .0 .1), ne-eqb _ 4 (none .1)) (c .nowhere .ensures)
+    rw (ne-eqb _ 1 (none .0 .0 .0 .0 .1), ne-eqb _ 2 (none .0 .0 .0 .1), ne-eqb _ 3 (none .0 .0 .1), ne-eqb _ 4 (none .0 .1), ne-eqb _ 5 (none .1)) (c .nowhere .ensures)
 
 pub place-of-spec : {M : Type 1} → statement M
-place-of-spec = tie.close (tie.spec nowhere-requires returns returns-2 returns-3 returns-4 returns-5)
+place-of-spec = tie.close (tie.spec nowhere-requires returns returns-2 returns-3 returns-4 returns-5 returns-6)

@@ -8,7 +8,7 @@ use lib.Dec.{leb}
 use borrow.Author.Tests.{le-leb}
 use lib.ListN.{length, length-append}
 use Rattle.contents.specs.Contents.{_holds_, chain, join}
-use Rattle.contents.specs.Asking.{Question, _asks_, answer}
+use Rattle.contents.specs.Asking.{_asks_, answer}
 use Rattle.contents.specs.Questions.{codesRight}
 use Rattle.contents.specs.Laws.{asked-yes, append-yes, join-length}
 use Rattle.bodies.specs.Questions.{markCount, part1Questions}
@@ -17,7 +17,7 @@ use Rattle.filling.specs.Filling.{filled, fillQuestions}
 use Rattle.filling.specs.Theorems.{filled-length, filled-count, filled-accepted, filled-some, filled-used, filled-again}
 use Rattle.sheet.specs.Laws.{parts-iff}
 use Rattle.jobs.specs.declared.Answer.{Answer}
-use Rattle.jobs.specs.Jobs.{outcome, areCounted, assembleQuestions, assembleJob, fillJob}
+use Rattle.jobs.specs.Jobs.{areCounted, assembleQuestions, assembleJob, fillJob}
 use Rattle.jobs.specs.Answers.{Gives}
 use Rattle.jobs.specs.Filled.{Filled, MeetsFilling}
 use Rattle.jobs.specs.Laws.Outcomes.{outcome-number, outcome-same}
@@ -44,7 +44,7 @@ module _ (s : List ℕ) (ok : answer (part1Questions s) ≡ 0) where
       let good = part1-iff w .0 (filled-accepted s ok) in
       let count : areCounted (1 ∷ []) (w ∷ further) ≡ true = le-leb 1 (length (w ∷ further)) (omega arith) in
       outcome-number (assembleQuestions (1 ∷ []) (w ∷ further) room) _ _
-      ∙ asked-yes 1 _ count ∙ asked-yes 2 _ refl ∙ parts-iff parts room .1 (alone-fits w [] (good .0) (good .1) kept-none, long)
+      ∙ asked-yes 1 _ count ∙ asked-yes 2 _ refl ∙ parts-iff parts room .1 (alone-fits w [] (good .0) (good .1) (kept-none _), long)
 
   filled-is : Filled s (filled s)
   filled-is =

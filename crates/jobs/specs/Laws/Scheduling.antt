@@ -1,38 +1,35 @@
 -- Scheduling: the written pieces are the sheet that is defined, and each way out answers as the job says. Assumes nothing.
-use Prim.Native.Nat.{ℕ, zero, suc, _+_, _-_, _*_, _<_, _≤_}
+use Prim.Native.Nat.{ℕ, _+_, _-_, _*_, _<_, _≤_}
 use mathlib.Core.Path.{_≡_, refl, sym, ap, _∙_}
-use mathlib.Core.Bool.{true, false, cond}
+use mathlib.Core.Bool.{Bool, true, false, cond}
+use mathlib.Core.Logic.{inl, inr}
 use mathlib.Core.List.{List, [], _∷_, _++_, append-nil, append-assoc}
-use native.Mathlib.Decide.{decLt}
 use native.Mathlib.Omega.{arith}
 use borrow.Author.Tests.{leb-true, le-leb}
 use borrow.Rule.Slice.PartMut.{midOf, putMid}
-use lib.Dec.{leb}
-use lib.ListN.{length, getD, take, drop, length-append, length-drop, drop-of-length-le, List·getD-eq-default}
-use lib.Seq.{sets, take-at, drop-at, drop-append-add, drop-drop, take-all, length-take-le, getD-take}
+use lib.Dec.{ltb, leb}
+use lib.ListN.{length, take, drop, length-append, length-drop, length-map}
+use lib.Seq.{sets, sets-eq, length-sets, take-at, drop-at, take-append-add, drop-append-add, drop-drop, length-take-le}
 use Rattle.lists.specs.Stores.{over}
 use Rattle.lists.specs.TestLaws.{both-iff}
 use Rattle.lists.specs.StoreLaws.{sets-append, over-sets}
+use Rattle.marks.specs.Pairs.{GoodPopups}
 use Rattle.elimination.specs.Reel.{Reel, scheduleOf}
 use Rattle.elimination.specs.Schedule.{schedule-length}
 use Rattle.index.specs.Index.{indexOf, indexBytes}
 use Rattle.index.specs.Laws as Index
 use Rattle.indexing.specs.Buffer.{withIndex}
-use Rattle.contents.specs.Contents.{Part, codesOf, bodiesOf, sizesOf, contentsOf, chain, join}
+use Rattle.contents.specs.Contents.{Part, codesOf, bodiesOf, sizesOf, contentsSize, contentsOf, chain, join, popupsPart}
 use Rattle.contents.specs.Asking.{Question, answer}
 use Rattle.contents.specs.Laws.{Numbered, none-asked, append-yes, append-no, append-iff, contents-length, join-length}
 use Rattle.bodies.specs.Questions.{markCount, editionIn, editionOf}
 use Rattle.jobs.specs.declared.Answer.{Answer}
 use Rattle.jobs.specs.Jobs.{outcome, newParts, scheduledFrom, scheduledSize, hasRoom, schedulingQuestions, schedulingJob}
 use Rattle.jobs.specs.Answers.{refusal, Gives}
-use Rattle.jobs.specs.Steps.{keptFrom, resultsOver}
+use Rattle.jobs.specs.Steps.{keptFrom, PopupsLent, codesFrom, sizesFrom, resultsOver}
 use Rattle.jobs.specs.Laws.Outcomes.{refused-gives, written-gives}
 
 -- ---- the written pieces
-
--- the rest of a buffer, from `a` on
-pub rest-long : (l : List ℕ) (a : ℕ) → length (take (length l - a) (drop a l)) ≡ length l - a
-rest-long l a = ap length (take-all (length l - a) (drop a l) (omega (arith, length-drop a l))) ∙ length-drop a l
 
 -- part 2 and then part 3, behind the marks
 pub results-are : (r : Reel) (a₀ : List ℕ) {a₁ a₂ : List ℕ} → length (r .marks) ≡ 11 * r .count
@@ -59,184 +56,262 @@ results-are r a₀ {a₁} {a₂} long first second =
     let is : a₂ ≡ (s ++ p) ++ (index ++ drop (27 * n) a₀) = rw (marks, schedule, front, back) at second in
     is ∙ append-assoc s p (index ++ drop (27 * n) a₀)
 
-index-long : (s : List ℕ) (n edition : ℕ) → n ≤ 4096
-    → length (indexBytes (indexOf s (scheduleOf (record { marks = s; count = n; edition = edition })) n)) ≡ 2 * n
-index-long s n edition few = Index.index-long s (scheduleOf (record { marks = s; count = n; edition = edition })) n (omega (arith, few))
+index-long : (s : List ℕ) (n edition : ℕ) (popups : List ℕ) → n ≤ 4096
+    → length (indexBytes (indexOf s (scheduleOf (record { marks = s; count = n; edition = edition; popups = popups })) n)) ≡ 2 * n
+index-long s n edition popups few =
+    Index.index-long s (scheduleOf (record { marks = s; count = n; edition = edition; popups = popups })) n (omega (arith, few))
 
 -- n marks, and parts that are kept
 module _ (s : List ℕ) (n : ℕ) (few : n ≤ 4096) (long : length s ≡ 11 * n) where
   count-is : markCount s ≡ n
   count-is = omega (arith, long)
 
-  abbrev schedule : ℕ → List ℕ
-  schedule edition = scheduleOf (record { marks = s; count = n; edition = edition })
+  abbrev schedule : ℕ → List ℕ → List ℕ
+  schedule edition popups = scheduleOf (record { marks = s; count = n; edition = edition; popups = popups })
 
-  abbrev results : ℕ → List ℕ
-  results edition = schedule edition ++ indexBytes (indexOf s (schedule edition) n)
+  abbrev results : ℕ → List ℕ → List ℕ
+  results edition popups = schedule edition popups ++ indexBytes (indexOf s (schedule edition popups) n)
 
-  results-long : (edition : ℕ) → length (results edition) ≡ 16 * n
-  results-long edition =
-      omega (arith, length-append (schedule edition) (indexBytes (indexOf s (schedule edition) n)), schedule-length (record { marks = s; count = n; edition = edition }), index-long s n edition few)
+  results-long : (edition : ℕ) (popups : List ℕ) → length (results edition popups) ≡ 16 * n
+  results-long edition popups =
+      omega (
+        arith,
+        length-append (schedule edition popups) (indexBytes (indexOf s (schedule edition popups) n)),
+        schedule-length (record { marks = s; count = n; edition = edition; popups = popups }),
+        index-long s n edition popups few,
+      )
 
   -- the bodies of what is written: the marks, their results, and what is kept
-  bodies-are : (kept : List Part) → chain (bodiesOf (newParts s kept)) ≡ s ++ (results (editionOf kept) ++ chain (bodiesOf kept))
+  bodies-are : (kept : List Part)
+      → chain (bodiesOf (newParts s kept)) ≡ s ++ (results (editionOf kept) (popupsPart kept) ++ chain (bodiesOf kept))
   unfolding chain
   bodies-are kept =
-      rw (count-is, append-assoc (schedule (editionOf kept)) (indexBytes (indexOf s (schedule (editionOf kept)) n)) (chain (bodiesOf kept)))
+      let p = schedule (editionOf kept) (popupsPart kept) in
+      rw (count-is, append-assoc p (indexBytes (indexOf s p n)) (chain (bodiesOf kept)))
 
   pub sheet-long : (kept : List Part) → length (join (newParts s kept)) ≡ scheduledSize n kept
   sheet-long kept =
+      let r = results (editionOf kept) (popupsPart kept) in
       omega (
         arith,
         join-length (newParts s kept),
         ap length (bodies-are kept),
-        length-append s (results (editionOf kept) ++ chain (bodiesOf kept)),
-        length-append (results (editionOf kept)) (chain (bodiesOf kept)),
-        results-long (editionOf kept),
+        length-append s (r ++ chain (bodiesOf kept)),
+        length-append r (chain (bodiesOf kept)),
+        results-long (editionOf kept) (popupsPart kept),
         long,
       )
 
-  -- ---- as the code writes them: `body` is part 4's bytes, none where it is not there
-  module _ (body : List ℕ) (short : length body ≤ 1) where
-    abbrev kept : List Part
-    kept = keptFrom body
-
-    abbrev edition : ℕ
-    edition = editionIn body
-
-    abbrev codes : List ℕ
-    codes = take (3 + length body) (1 ∷ 2 ∷ 3 ∷ 4 ∷ [])
-
-    abbrev sizes : List ℕ
-    sizes = take (3 + length body) (11 * n ∷ 14 * n ∷ 2 * n ∷ 1 ∷ [])
-
-    codes-are : (b : List ℕ) → length b ≤ 1 → codesOf (newParts s (keptFrom b)) ≡ take (3 + length b) (1 ∷ 2 ∷ 3 ∷ 4 ∷ [])
-    codes-are [] h = refl
-    codes-are (x ∷ []) h = refl
-    codes-are (x ∷ y ∷ b) h = absurd (omega arith)
-
-    sizes-are : (b : List ℕ) → length b ≤ 1 → sizesOf (bodiesOf (newParts s (keptFrom b))) ≡ take (3 + length b) (11 * n ∷ 14 * n ∷ 2 * n ∷ 1 ∷ [])
-    sizes-are [] h = rw (count-is, long, schedule-length (record { marks = s; count = n; edition = 1 }), index-long s n 1 few)
-    sizes-are (x ∷ []) h = rw (count-is, long, schedule-length (record { marks = s; count = n; edition = x }), index-long s n x few)
-    sizes-are (x ∷ y ∷ b) h = absurd (omega arith)
-
-    edition-is : (b : List ℕ) → editionOf (keptFrom b) ≡ editionIn b
-    edition-is [] = refl
-    edition-is (x ∷ b) = refl
-
-    chain-is : (b : List ℕ) → chain (bodiesOf (keptFrom b)) ≡ b
-    unfolding chain
-    chain-is [] = refl
-    chain-is (x ∷ b) = append-nil (x ∷ b)
-
-    pub codes-long : length codes ≡ 3 + length body
-    codes-long = length-take-le (3 + length body) (1 ∷ 2 ∷ 3 ∷ 4 ∷ []) (omega arith)
-
-    pub sizes-long : length sizes ≡ 3 + length body
-    sizes-long = length-take-le (3 + length body) (11 * n ∷ 14 * n ∷ 2 * n ∷ 1 ∷ []) (omega arith)
-
-    pub size-small : (i : ℕ) → getD sizes i 0 < 4294967296
-    size-small i =
-        elim (decLt i (3 + length body)) [
-          | yes h ↦ rw (getD-take (3 + length body) (11 * n ∷ 14 * n ∷ 2 * n ∷ 1 ∷ []) i 0 h) (each i)
-          | no h ↦ (let past : length sizes ≤ i = omega (arith, sizes-long) in rw (List·getD-eq-default sizes 0 past) (omega arith))
-        ]
-      where
-        each : (i : ℕ) → getD (11 * n ∷ 14 * n ∷ 2 * n ∷ 1 ∷ []) i 0 < 4294967296
-        each zero = omega (arith, few)
-        each (suc zero) = omega (arith, few)
-        each (suc (suc zero)) = omega (arith, few)
-        each (suc (suc (suc zero))) = omega arith
-        each (suc (suc (suc (suc i)))) = omega arith
+  -- ---- as the code writes them
+  module _ (kept : List Part) where
+    abbrev body : List ℕ
+    body = chain (bodiesOf kept)
 
     -- the contents
     abbrev head : List ℕ
-    head = contentsOf codes sizes
+    head = contentsOf (codesOf (newParts s kept)) (sizesOf (bodiesOf (newParts s kept)))
 
     -- where the marks begin
     abbrev begin : ℕ
-    begin = 10 * (3 + length body) + 2
+    begin = 10 * (3 + length kept) + 2
 
     head-long : length head ≡ begin
-    head-long = omega (arith, contents-length codes sizes (codes-long ∙ sym sizes-long), codes-long)
+    head-long =
+        let codes = length-map (newParts s kept) (λ (p : Part). p .code) in
+        let bodies = length-map (newParts s kept) (λ (p : Part). p .body) in
+        let sizes = length-map (bodiesOf (newParts s kept)) length in
+        contents-length (codesOf (newParts s kept)) (sizesOf (bodiesOf (newParts s kept))) (codes ∙ sym (sizes ∙ bodies)) ∙ omega (arith, codes)
 
-    abbrev pub start : List ℕ
-    start = head ++ s
+    abbrev reel : Reel
+    reel = record { marks = s; count = n; edition = editionOf kept; popups = popupsPart kept }
 
-    start-long : length start ≡ 11 * n + begin
-    start-long = omega (arith, long, length-append head s, head-long)
+    abbrev found : List ℕ
+    found = results (editionOf kept) (popupsPart kept)
 
-    -- the sheet but for what is kept
-    abbrev most : List ℕ
-    most = start ++ results edition
-
-    most-long : length most ≡ 27 * n + begin
-    most-long = omega (arith, length-append start (results edition), start-long, results-long edition)
-
-    pub sheet-is : join (newParts s kept) ≡ most ++ body
+    pub sheet-is : join (newParts s kept) ≡ head ++ (s ++ (found ++ body))
     unfolding join
-    sheet-is =
-        rw (codes-are body short, sizes-are body short, bodies-are kept, edition-is body, chain-is body)
-        (sym (append-assoc start (results edition) body ∙ append-assoc head s (results edition ++ body)))
+    sheet-is = rw (bodies-are kept)
 
-    module _ (o₀ : List ℕ) (room : 27 * n + begin + length body ≤ length o₀) where
-      -- the contents, and part 1 in two pieces
-      pub begun : (first second : List ℕ) → s ≡ first ++ second → {o₁ o₂ o₃ : List ℕ} → o₁ ≡ sets o₀ 0 head → o₂ ≡ sets o₁ begin first
-          → o₃ ≡ sets o₂ (begin + length first) second → o₃ ≡ start ++ drop (11 * n + begin) o₀
+    module _ (o₀ : List ℕ) (room : scheduledSize n kept ≤ length o₀) where
+      -- what stays between the marks and what is kept, and behind the sheet
+      abbrev between : List ℕ
+      between = take (16 * n) (drop (11 * n + begin) o₀)
+
+      abbrev past : List ℕ
+      past = drop (27 * n + begin + length body) o₀
+
+      between-long : length between ≡ 16 * n
+      between-long = length-take-le (16 * n) (drop (11 * n + begin) o₀) (omega (arith, length-drop (11 * n + begin) o₀))
+
+      -- the contents, the marks, and what is kept
+      pub begun : {o₁ o₂ o₃ : List ℕ} → o₁ ≡ sets o₀ 0 head → o₂ ≡ sets o₁ begin s → o₃ ≡ sets o₂ (begin + 27 * n) body
+          → o₃ ≡ head ++ (s ++ (between ++ (body ++ past)))
       unfolding over
-      begun first second are {o₁} {o₂} {o₃} e f g =
-          let b : o₃ ≡ sets o₁ begin s = rw (g, f, are) (sym (sets-append o₁ begin first second)) in
+      begun {o₁} {o₂} {o₃} e f g =
+          let start : List ℕ = head ++ s in
+          let start-long : length start ≡ 11 * n + begin = omega (arith, length-append head s, head-long) in
+          let behind : List ℕ = drop (11 * n + begin) o₀ in
           let from : 0 + length head ≡ begin = omega (arith, head-long) in
-          let a : sets o₀ 0 start ≡ sets (sets o₀ 0 head) begin s = rw from at (sets-append o₀ 0 head s) in
-          rw (b, e, ← a, over-sets start o₀ (omega (arith, start-long, room)), start-long)
+          let both : sets o₀ 0 start ≡ sets (sets o₀ 0 head) begin s = rw from at (sets-append o₀ 0 head s) in
+          let o-is : o₂ ≡ start ++ behind = rw (f, e, ← both, over-sets start o₀ (omega (arith, start-long)), start-long) in
+          let o-long : length o₂ ≡ length o₀ = rw (f, e) (length-sets (sets o₀ 0 head) begin s ∙ length-sets o₀ 0 head) in
+          let at : begin + 27 * n ≡ length start + 16 * n = omega (arith, start-long) in
+          let end : begin + 27 * n + length body ≡ length start + (16 * n + length body) = omega (arith, start-long) in
+          let sum : 11 * n + begin + (16 * n + length body) ≡ 27 * n + begin + length body = omega arith in
+          let front : take (begin + 27 * n) o₂ ≡ start ++ between = rw (o-is, at) (take-append-add start behind (16 * n)) in
+          let back : drop (begin + 27 * n + length body) o₂ ≡ past =
+          rw (o-is, end) (drop-append-add start behind (16 * n + length body)) ∙ drop-drop (16 * n + length body) (11 * n + begin) o₀
+          ∙ ap (λ (i : ℕ). drop i o₀) sum in
+          g ∙ sets-eq body o₂ (begin + 27 * n) (omega (arith, o-long))
+          ∙ rw (front, back)
+          (append-assoc (start ++ between) body past ∙ append-assoc start between (body ++ past)
+          ∙ append-assoc head s (between ++ (body ++ past)))
 
-      -- what a call is lent that is lent all but the contents
-      module _ (from k : ℕ) {o₂ : List ℕ} (from-is : from ≡ begin) (k-is : k ≡ length o₂ - from) (o-is : o₂ ≡ start ++ drop (11 * n + begin) o₀) where
-        contents-first : take from o₂ ≡ head
-        contents-first =
-            rw (from-is, o-is, append-assoc head s (drop (11 * n + begin) o₀)) (take-at head (s ++ drop (11 * n + begin) o₀) begin head-long)
+      -- what a call is lent that is lent the bodies, and the sheet once it has written parts 2 and 3
+      module _ (from end : ℕ) {o : List ℕ} (from-is : from ≡ begin) (end-is : end ≡ begin + 27 * n + length body)
+          (o-is : o ≡ head ++ (s ++ (between ++ (body ++ past)))) where
+        abbrev middle : List ℕ
+        middle = s ++ (between ++ body)
 
-        behind : drop from o₂ ≡ s ++ drop (11 * n + begin) o₀
-        behind = rw (from-is, o-is, append-assoc head s (drop (11 * n + begin) o₀)) (drop-at head (s ++ drop (11 * n + begin) o₀) begin head-long)
+        middle-long : length middle ≡ end - from
+        middle-long = omega (arith, length-append s (between ++ body), length-append between body, between-long)
 
-        less : length (drop from o₂) ≤ k
-        less = omega (arith, length-drop from o₂)
+        whole : o ≡ head ++ (middle ++ past)
+        whole = o-is ∙ ap (λ (l : List ℕ). head ++ l) (rw (append-assoc s (between ++ body) past, append-assoc between body past))
 
-        lent : midOf from k o₂ ≡ s ++ drop (11 * n + begin) o₀
-        lent = take-all k (drop from o₂) less ∙ behind
+        behind : drop from o ≡ middle ++ past
+        behind = rw (from-is, whole) (drop-at head (middle ++ past) begin head-long)
 
-        pub marks-first : take (11 * n) (midOf from k o₂) ≡ s
-        marks-first = rw lent (take-at s (drop (11 * n + begin) o₀) (11 * n) long)
+        lent : midOf from (end - from) o ≡ middle
+        lent = rw behind (take-at middle past (end - from) middle-long)
 
-        -- and then parts 2 and 3
-        pub results-put : {t : List ℕ} → t ≡ resultsOver (record { marks = s; count = n; edition = edition }) (midOf from k o₂) → putMid from k o₂ t ≡ over most o₀
+        pub lent-long : length (midOf from (end - from) o) ≡ 27 * n + length body
+        lent-long = rw lent (omega (arith, middle-long))
+
+        pub marks-first : take (11 * n) (midOf from (end - from) o) ≡ s
+        marks-first = rw lent (take-at s (between ++ body) (11 * n) long)
+
+        -- what is kept is behind the 27 bytes of each mark
+        pub kept-last : (i : ℕ) → drop (27 * n + i) (midOf from (end - from) o) ≡ drop i body
+        kept-last i =
+            let at : 27 * n + i ≡ length s + (16 * n + i) = omega (arith, long) in
+            let past-it : 16 * n + i ≡ length between + i = omega (arith, between-long) in
+            rw (lent, at) (drop-append-add s (between ++ body) (16 * n + i) ∙ rw past-it (drop-append-add between body i))
+
+        pub results-put : {t : List ℕ} → t ≡ resultsOver reel (midOf from (end - from) o) → putMid from (end - from) o t ≡ over (join (newParts s kept)) o₀
         unfolding over resultsOver
         results-put {t} t-is =
-            let none : drop k (drop from o₂) ≡ [] = drop-of-length-le (drop from o₂) less in
-            let end : 11 * n + begin + 16 * n ≡ 27 * n + begin = omega arith in
-            let sum : 27 * n ≡ length s + 16 * n = omega arith in
-            let rest : drop (27 * n) (midOf from k o₂) ≡ drop (27 * n + begin) o₀ =
-            ap (drop (27 * n)) lent ∙ ap (λ (j : ℕ). drop j (s ++ drop (11 * n + begin) o₀)) sum ∙ drop-append-add s (drop (11 * n + begin) o₀) (16 * n)
-            ∙ drop-drop (16 * n) (11 * n + begin) o₀ ∙ ap (λ (j : ℕ). drop j o₀) end in
+            let p = schedule (editionOf kept) (popupsPart kept) in
+            let front : take from o ≡ head = rw (from-is, whole) (take-at head (middle ++ past) begin head-long) in
+            let rest : drop (end - from) (drop from o) ≡ past = rw behind (drop-at middle past (end - from) middle-long) in
+            let none : 27 * n + 0 ≡ 27 * n = omega arith in
+            let last : drop (27 * n) (midOf from (end - from) o) ≡ body = rw none at (kept-last 0) in
+            let size : length (join (newParts s kept)) ≡ 27 * n + begin + length body = omega (arith, sheet-long kept) in
             rw (
-              most-long,
-              contents-first,
-              none,
-              append-nil t,
-              t-is,
+              front,
               rest,
-              append-assoc start (results edition) (drop (27 * n + begin) o₀),
-              append-assoc head s (results edition ++ drop (27 * n + begin) o₀),
-              append-assoc (schedule edition) (indexBytes (indexOf s (schedule edition) n)) (drop (27 * n + begin) o₀),
+              t-is,
+              last,
+              size,
+              sheet-is,
+              append-assoc head (s ++ (found ++ body)) past,
+              append-assoc s (found ++ body) past,
+              append-assoc p (indexBytes (indexOf s p n)) body,
+              append-assoc s (p ++ (indexBytes (indexOf s p n) ++ body)) past,
             )
 
-      -- and then what is kept
-      pub finished : {at : ℕ} {o₃ o₄ : List ℕ} → at ≡ 27 * n + begin → o₃ ≡ over most o₀ → o₄ ≡ sets o₃ at body → o₄ ≡ over (join (newParts s kept)) o₀
-      finished {at} at-is e f =
-          let end : 0 + length most ≡ at = omega (arith, most-long) in
-          let a : sets o₀ 0 (most ++ body) ≡ sets (sets o₀ 0 most) at body = rw end at (sets-append o₀ 0 most body) in
-          let fits : length (most ++ body) ≤ length o₀ = omega (arith, length-append most body, most-long) in
-          rw (f, e, ← over-sets most o₀ (omega (arith, most-long)), ← a, over-sets (most ++ body) o₀ fits, sheet-is)
+-- ---- from what is lent
+
+pub lent-good : (there : Bool) {q : List ℕ} {n : ℕ} → PopupsLent there q n → GoodPopups q n
+lent-good true l = record { sized = inr (l .sized); each = l .each }
+lent-good false l = record { sized = inl (l .sized); each = l .each }
+
+none-lent : (q : List ℕ) {n : ℕ} → PopupsLent false q n → q ≡ []
+none-lent [] l = refl
+none-lent (x ∷ q) l = absurd (omega (arith, l .sized))
+
+-- What is lent of a buffer `o` from `from` to `end`, in which the contents, n marks, part 4 and part 5 stand: it begins with the marks and
+-- ends with the popups, and once parts 2 and 3 are written in it the buffer holds the sheet.
+pub record Standing (s : List ℕ) (n : ℕ) (b : List ℕ) (there : Bool) (q o₀ o : List ℕ) (from end : ℕ) : Type 0 where
+  pub marks : take (11 * n) (midOf from (end - from) o) ≡ s
+  pub long : length (midOf from (end - from) o) ≡ 27 * n + length b + length q
+  pub popups : drop (27 * n + length b) (midOf from (end - from) o) ≡ q
+  pub put : (t : List ℕ) → t ≡ resultsOver (record { marks = s; count = n; edition = editionIn b; popups = q }) (midOf from (end - from) o)
+      → putMid from (end - from) o t ≡ over (join (newParts s (keptFrom b there q))) o₀
+
+-- from part 4's bytes, none where it is not there, and part 5's
+lent-chain : (b : List ℕ) (there : Bool) (q : List ℕ) {n : ℕ} → PopupsLent there q n → chain (bodiesOf (keptFrom b there q)) ≡ b ++ q
+unfolding chain
+lent-chain [] true q l = append-nil q
+lent-chain [] false q l = sym (none-lent q l)
+lent-chain (x ∷ b) true q l = rw (append-nil q)
+lent-chain (x ∷ b) false q l = rw (none-lent q l)
+
+lent-edition : (b : List ℕ) (there : Bool) (q : List ℕ) → editionOf (keptFrom b there q) ≡ editionIn b
+lent-edition [] true q = refl
+lent-edition [] false q = refl
+lent-edition (x ∷ b) there q = refl
+
+lent-popups : (b : List ℕ) (there : Bool) (q : List ℕ) {n : ℕ} → PopupsLent there q n → popupsPart (keptFrom b there q) ≡ q
+lent-popups [] true q l = refl
+lent-popups [] false q l = sym (none-lent q l)
+lent-popups (x ∷ b) true q l = refl
+lent-popups (x ∷ b) false q l = sym (none-lent q l)
+
+module _ (s : List ℕ) (n : ℕ) (few : n ≤ 4096) (long : length s ≡ 11 * n) where
+  lent-codes : (b : List ℕ) (there : Bool) (q : List ℕ) → length b ≤ 1 → codesOf (newParts s (keptFrom b there q)) ≡ codesFrom (ltb 0 (length b)) there
+  lent-codes [] false q h = refl
+  lent-codes [] true q h = refl
+  lent-codes (x ∷ []) false q h = refl
+  lent-codes (x ∷ []) true q h = refl
+  lent-codes (x ∷ y ∷ b) there q h = absurd (omega arith)
+
+  schedule-sized : (edition : ℕ) (q : List ℕ) → length (schedule s n few long edition q) ≡ 14 * n
+  schedule-sized edition q = schedule-length (record { marks = s; count = n; edition = edition; popups = q })
+
+  lent-sizes : (b : List ℕ) (there : Bool) (q : List ℕ) → length b ≤ 1 → PopupsLent there q n
+      → sizesOf (bodiesOf (newParts s (keptFrom b there q))) ≡ sizesFrom n (ltb 0 (length b)) there
+  lent-sizes [] false q h l = rw (count-is s n few long, long, schedule-sized 1 [], index-long s n 1 [] few)
+  lent-sizes [] true q h l = rw (count-is s n few long, long, schedule-sized 1 q, index-long s n 1 q few, l .sized)
+  lent-sizes (x ∷ []) false q h l = rw (count-is s n few long, long, schedule-sized x [], index-long s n x [] few)
+  lent-sizes (x ∷ []) true q h l = rw (count-is s n few long, long, schedule-sized x q, index-long s n x q few, l .sized)
+  lent-sizes (x ∷ y ∷ b) there q h l = absurd (omega arith)
+
+  module _ (b : List ℕ) (there : Bool) (q : List ℕ) (short : length b ≤ 1) (lent : PopupsLent there q n) where
+    abbrev others : List Part
+    others = keptFrom b there q
+
+    abbrev pub lentHead : List ℕ
+    lentHead = contentsOf (codesFrom (ltb 0 (length b)) there) (sizesFrom n (ltb 0 (length b)) there)
+
+    -- where the marks begin
+    abbrev pub lentBegin : ℕ
+    lentBegin = contentsSize (length (codesFrom (ltb 0 (length b)) there))
+
+    lent-begin : lentBegin ≡ 10 * (3 + length others) + 2
+    lent-begin = omega (arith, ap length (lent-codes b there q short), length-map (newParts s others) (λ (p : Part). p .code))
+
+    pub lent-size : scheduledSize n others ≡ lentBegin + 27 * n + length b + length q
+    lent-size = omega (arith, lent-begin, ap length (lent-chain b there q lent), length-append b q)
+
+    -- the contents, the marks, part 4 and part 5 are written, and all but the contents is lent
+    pub standing : (o₀ : List ℕ) → scheduledSize n others ≤ length o₀ → {o₁ o₂ o₃ o₄ : List ℕ} {from end : ℕ} → o₁ ≡ sets o₀ 0 lentHead
+        → o₂ ≡ sets o₁ lentBegin s → o₃ ≡ sets o₂ (lentBegin + 27 * n) b → o₄ ≡ sets o₃ (lentBegin + 27 * n + length b) q → from ≡ lentBegin
+        → end ≡ lentBegin + 27 * n + length b + length q → Standing s n b there q o₀ o₄ from end
+    standing o₀ room {o₁} {o₂} {o₃} {o₄} {from} {end} e f g h from-is end-is =
+        let body : chain (bodiesOf others) ≡ b ++ q = lent-chain b there q lent in
+        let begins : from ≡ 10 * (3 + length others) + 2 = from-is ∙ lent-begin in
+        let ends : end ≡ 10 * (3 + length others) + 2 + 27 * n + length (chain (bodiesOf others)) =
+        omega (arith, lent-begin, ap length body, length-append b q) in
+        let stands = begun s n few long others o₀ room {o₁ = o₁} {o₂ = o₂} {o₃ = o₄} (rw (lent-codes b there q short, lent-sizes b there q short lent) e)
+        (rw (← lent-begin) f) (rw (← lent-begin, body, sets-append o₂ (lentBegin + 27 * n) b q, ← g) h) in
+        record {
+          marks = marks-first s n few long others o₀ room from end begins ends stands;
+          long = omega (arith, lent-long s n few long others o₀ room from end begins ends stands, ap length body, length-append b q);
+          popups = kept-last s n few long others o₀ room from end begins ends stands (length b) ∙ ap (drop (length b)) body ∙ drop-at b q (length b) refl;
+          put = λ t t-is.
+              results-put s n few long others o₀ room from end begins ends stands {t = t} (rw (lent-edition b there q, lent-popups b there q lent) t-is);
+        }
 
 -- ---- the ways out
 
@@ -272,6 +347,13 @@ pub passed : (checks : List Question) → Numbered checks → (marks : List ℕ)
     → schedulingJob checks marks others work room ≡ schedulingJob [] marks others work room
 unfolding schedulingJob outcome
 passed checks numbered marks others work room e = rw (room-asked checks numbered marks others work room e, room-asked [] tt marks others work room none-asked)
+
+-- and so the job gives what is given once they are
+pub once-passed : (checks : List Question) → Numbered checks → answer checks ≡ 0 → (work : ℕ) {l marks : List ℕ} {k others : List Part} {before left : List ℕ}
+    {r : Answer} → l ≡ marks → k ≡ others → Gives (schedulingJob [] l k work (length before)) before r left
+    → Gives (schedulingJob checks marks others work (length before)) before r left
+once-passed checks numbered ok work {l} {marks} {k} {others} {before} e f given =
+    rw (passed checks numbered marks others work (length before) ok, ← e, ← f) given
 
 -- and the job that asks 13 alone, of n marks
 module _ (s : List ℕ) (n : ℕ) (few : n ≤ 4096) (long : length s ≡ 11 * n) (others : List Part) (work : ℕ) (buffer : List ℕ) where

@@ -9,7 +9,8 @@ use lib.Dec.{leb}
 use lib.ListN.{length}
 use Rattle.lists.specs.Stores.{over}
 use Rattle.lists.specs.TestLaws.{both-iff}
-use Rattle.contents.specs.Contents.{has, split, marksPart, schedulePart, indexPart}
+use Rattle.bodies.specs.Laws.{popups-good}
+use Rattle.contents.specs.Contents.{has, split, marksPart, schedulePart, indexPart, popupsPart}
 use Rattle.contents.specs.Asking.{Question, _asks_, answer}
 use Rattle.contents.specs.Laws.{append-no}
 use Rattle.sheet.specs.Questions.{sheetCount, check, question10, indexedQuestions}
@@ -34,7 +35,7 @@ use Rattle.jobs.specs.Laws.Outcomes.{refused-gives, written-gives}
 
 module _ (s : List ℕ) (e : Window) (k : ℕ) (buffer : List ℕ) where
   abbrev show : ℕ → Bool
-  show = shown (marksPart (split s)) (schedulePart (split s)) k e
+  show = shown (marksPart (split s)) (schedulePart (split s)) (popupsPart (split s)) k e
 
   pub view-no-room : {r : Answer} → length buffer < mapSize (sheetCount s) → r ≡ refusal 13 → Gives (viewAt s e k (length buffer)) buffer r buffer
   unfolding viewAt answer
@@ -92,7 +93,7 @@ module _ (s : List ℕ) (e : Window) (zoom : Zoom) (buffer : List ℕ) where
 -- ---- what the search asks for
 
 pub viewable : (s map : List ℕ) → check s ≡ 0 → question10 (split s) ≡ true → mapSize (sheetCount s) ≤ length map
-    → Viewable (marksPart (split s)) (schedulePart (split s)) (indexPart (split s)) map (sheetCount s)
+    → Viewable (marksPart (split s)) (schedulePart (split s)) (popupsPart (split s)) (indexPart (split s)) map (sheetCount s)
 unfolding question10
 viewable s map ok there room =
     let f = accepted-iff s .0 ok .fitting in
@@ -106,5 +107,6 @@ viewable s map ok there room =
             index-long = f .index-long (parts .1);
           };
       index-right = f .index-right (parts .1);
+      popups = popups-good (split s) (sheetCount s) (f .popups-right);
       room = room;
     }

@@ -1,5 +1,5 @@
 -- What scheduling writes passes the questions: its records are right, and its index is the tree of its own schedule. Assumes nothing.
-use Prim.Native.Nat.{ℕ, zero, suc, _*_, _<_, _≤_}
+use Prim.Native.Nat.{ℕ, _*_, _<_, _≤_}
 use mathlib.Core.Path.{_≡_, refl, sym, ap, _∙_}
 use mathlib.Core.Bool.{Bool, true, false, true≢false}
 use mathlib.Core.List.{List}
@@ -14,19 +14,21 @@ use Rattle.fractions.specs.declared.Value.{Value}
 use Rattle.fractions.specs.declared.Value.the-variants.{At}
 use Rattle.fractions.specs.Order.{later, Later}
 use Rattle.fractions.specs.Laws.{later-iff}
-use Rattle.marks.specs.Marks.{outranks, touching}
+use Rattle.marks.specs.Marks.{outranks}
+use Rattle.marks.specs.Pairs.{pairValue}
 use Rattle.marks.specs.Good.{GoodMarks}
 use Rattle.marks.specs.Laws.{outranks-key}
 use Rattle.elimination.specs.Process.{Removal, stays, gone, when, process}
 use Rattle.elimination.specs.Records.{isNever, markRecord, valueAt}
-use Rattle.elimination.specs.Reel.{Reel, marksOf}
+use Rattle.elimination.specs.Reel.{Reel, marksOf, GoodReel}
 use Rattle.elimination.specs.Sheet.{sheet-proper}
 use Rattle.elimination.specs.Theorems.{process-eliminator}
 use Rattle.elimination.specs.Schedule.{schedule-length, schedule-reads, schedule-value}
 use Rattle.index.specs.Laws.{index-long, index-iff}
-use Rattle.contents.specs.Contents.{Part, split, marksPart}
+use Rattle.contents.specs.Contents.{Part, split, marksPart, popupsPart}
 use Rattle.contents.specs.Laws.{find-bytes}
-use Rattle.bodies.specs.Questions.{markCount, editionOf, namesRight, recordRight, isSchedule, reelFrom}
+use Rattle.bodies.specs.Laws.{popups-good}
+use Rattle.bodies.specs.Questions.{markCount, editionOf, namesRight, recordRight, isSchedule, reelFrom, reelOf}
 use Rattle.bodies.specs.Fitting.{Fitting}
 use Rattle.sheet.specs.Questions.{sheetCount, check}
 use Rattle.sheet.specs.Laws.{accepted-iff}
@@ -47,51 +49,59 @@ later-same v w f e = cases (later v (At f)) (later w (At f)) refl refl
 
 -- ---- the parts that scheduling writes for the marks `s`, with parts that are kept
 
-module _ (s : List ℕ) (kept : List Part) (good : GoodMarks s (markCount s)) (long : length s ≡ 11 * markCount s) (bytes : Bytes s) where
+module _ (s : List ℕ) (kept : List Part) (good : GoodMarks s (markCount s)) (long : length s ≡ 11 * markCount s) (bytes : Bytes s)
+    (kept-right : KeptRight (markCount s) kept) where
   abbrev edition : ℕ
   edition = editionOf kept
 
+  abbrev popups : List ℕ
+  popups = popupsPart kept
+
   -- each record that scheduling writes is right: question 8
-  new-right : (m : ℕ) → m < markCount s → recordRight (reelFrom edition s) (newSchedule s kept) m ≡ true
+  new-right : (m : ℕ) → m < markCount s → recordRight (reelFrom edition popups s) (newSchedule s kept) m ≡ true
   unfolding recordRight isNever namesRight
   new-right m h = cases (process (marksOf r) m) refl
     where
       r : Reel
-      r = reelFrom edition s
+      r = reelFrom edition popups s
 
       p : List ℕ
       p = newSchedule s kept
 
+      right : GoodReel r
+      right = record { good = good; bytes = bytes; popped = popups-good kept (markCount s) (kept-right .popups-right) }
+
       cases : (x : Removal) → process (marksOf r) m ≡ x → recordRight r p m ≡ true
       cases stays e =
-          let w = rw e at (schedule-reads r good bytes m h) in
+          let w = rw e at (schedule-reads r right m h) in
           rw (w .eliminator, w .numerator, w .denominator)
       cases (gone g f) e =
           let x = process-eliminator (marksOf r) (sheet-proper r (good .few)) m g f h e in
-          let w = rw e at (schedule-reads r good bytes m h) in
+          let w = rw e at (schedule-reads r right m h) in
           let o : outranks edition s g m ≡ true =
           outranks-key edition s g m bytes (omega (arith, x .inside, good .few)) (omega (arith, h, good .few)) (good .each g (x .inside) .used) (good .each m h .used) .1 (x .outranks) in
-          let num : f .num ≡ (touching s g m) .num = ap (λ (q : Fraction). q .num) (x .exact) in
-          let den : f .den ≡ (touching s g m) .den = ap (λ (q : Fraction). q .den) (x .exact) in
-          let vm : valueAt p m ≡ At f = schedule-value r good bytes m h ∙ ap when e in
+          let num : f .num ≡ (pairValue s popups g m) .num = ap (λ (q : Fraction). q .num) (x .exact) in
+          let den : f .den ≡ (pairValue s popups g m) .den = ap (λ (q : Fraction). q .den) (x .exact) in
+          let vm : valueAt p m ≡ At f = schedule-value r right m h ∙ ap when e in
           let l : later (valueAt p g) (valueAt p m) ≡ true =
-          rw (schedule-value r good bytes g (x .inside), vm) (later-iff (when (process (marksOf r) g)) f .1 (x .later)) in
+          rw (schedule-value r right g (x .inside), vm) (later-iff (when (process (marksOf r) g)) f .1 (x .later)) in
           or-right (isNever (markRecord p m))
           (rw (w .eliminator, w .numerator, w .denominator, lt-ltb g (markCount s) (x .inside), o, eq-eqb _ _ num, eq-eqb _ _ den, l))
 
-  new-every : isSchedule (reelFrom edition s) (newSchedule s kept) ≡ true
+  new-every : isSchedule (reelFrom edition popups s) (newSchedule s kept) ≡ true
   unfolding isSchedule
-  new-every = every-of (recordRight (reelFrom edition s) (newSchedule s kept)) (markCount s) new-right
+  new-every = every-of (recordRight (reelFrom edition popups s) (newSchedule s kept)) (markCount s) new-right
 
   -- the parts that scheduling writes fit one another: questions 4 to 9 say yes
-  pub new-fitting : KeptRight kept → Fitting (newParts s kept)
-  new-fitting right =
+  pub new-fitting : Fitting (newParts s kept)
+  new-fitting =
       record {
         marks = good;
         marks-long = long;
-        schedule-long = λ h. schedule-length (reelFrom edition s);
+        schedule-long = λ h. schedule-length (reelFrom edition popups s);
         index-long = λ h. index-long s (newSchedule s kept) (markCount s) few;
-        edition-right = right .edition-right;
+        edition-right = kept-right .edition-right;
+        popups-right = kept-right .popups-right;
         schedule-right = λ h. new-every;
         index-right = λ h. index-iff s (newSchedule s kept) (markCount s) few (newIndex s kept) .1 refl;
       }
@@ -110,3 +120,6 @@ module _ (g : List ℕ) (bytes : Bytes g) (ok : check g ≡ 0) where
 
   pub marks-bytes : Bytes (marksPart (split g))
   marks-bytes = find-bytes g bytes 1
+
+  pub good-reel : GoodReel (reelOf (split g))
+  good-reel = record { good = good; bytes = marks-bytes; popped = popups-good (split g) (sheetCount g) ((accepted-iff g .0 ok) .fitting .popups-right) }

@@ -15,10 +15,11 @@ use Rattle.text.specs.Laws.{decimal-denotes, wrote-length}
 use Rattle.zoom.specs.Printed.{nearest}
 use Rattle.zoom.specs.Laws.{nearest-is, nearest-fits}
 use Rattle.marks.specs.Good.{GoodMarks}
+use Rattle.marks.specs.Pairs.{GoodPopups}
 use Rattle.elimination.specs.Process.{gone, process}
-use Rattle.elimination.specs.Reel.{marksOf, scheduleOf}
-use Rattle.elimination.specs.Schedule.{schedule-length}
-use Rattle.contents.specs.Contents.{split, marksPart}
+use Rattle.elimination.specs.Reel.{Reel, marksOf, GoodReel, scheduleOf}
+use Rattle.elimination.specs.Schedule.{schedule-length, gone-small}
+use Rattle.contents.specs.Contents.{split, marksPart, popupsPart}
 use Rattle.contents.specs.Asking.{Question, _asks_, answer}
 use Rattle.contents.specs.Laid.{Laid}
 use Rattle.contents.specs.Laws.{none-asked, asked-yes, asked-no, asked-iff}
@@ -26,11 +27,11 @@ use Rattle.contents.specs.Laws.{append-yes, append-no, append-iff}
 use Rattle.bodies.specs.Questions.{markCount, editionOf, reelFrom, reelOf}
 use Rattle.sheet.specs.Questions.{sheetCount, checkQuestions, check}
 use Rattle.sheet.specs.Laws.{check-numbered, accepted-iff}
-use Rattle.jobs.specs.Theorems.{good, marks-bytes}
+use Rattle.jobs.specs.Theorems.{good, good-reel}
 use Rattle.report.specs.Text.{text, line, markLine, listing, refusalLine, mostMarks, longestInput, printQuestions, removals, printed}
 use Rattle.report.specs.Printing.{removalAt, Printable, firstRoom, textRoom, workedOut, ZoomLine, Prints}
 use Rattle.report.specs.Lemmas.Lines.{refusal-room, listing-room, lines-at, listing-same}
-use Rattle.report.specs.Lemmas.Removals.{gone-small, removal-process, schedule-printable}
+use Rattle.report.specs.Lemmas.Removals.{removal-process, schedule-printable}
 
 module _ (s : List ℕ) where
   last : List Question
@@ -115,7 +116,7 @@ module _ (s : List ℕ) where
     unfolding listing markLine
     zoom-line m h f l e =
         let ok = asked yes .0 in
-        let small = gone-small (reelOf (split s)) [] (good s bytes ok) (marks-bytes s bytes ok) m h f l e in
+        let small = gone-small (reelOf (split s)) (good-reel s bytes ok) m h f l e in
         let at = lines-at (removals s) m (sheetCount s) l in
         record {
           k = nearest f;
@@ -133,31 +134,37 @@ module _ (s : List ℕ) where
     pub part1-good : GoodMarks part (markCount part)
     part1-good = rw is (good s bytes (asked yes .0))
 
-    part1-bytes : Bytes part
-    part1-bytes = rw is (marks-bytes s bytes (asked yes .0))
+    -- these the popups, and this the edition that ranks them
+    module _ {popups : List ℕ} (popped : popups ≡ popupsPart (split s)) {edition : ℕ} (ranked : edition ≡ editionOf (split s)) where
+      abbrev reel : Reel
+      reel = reelFrom edition popups part
 
-    -- and this the edition that ranks them
-    module _ {edition : ℕ} (ranked : edition ≡ editionOf (split s)) {p : List ℕ} (before : List ℕ)
-        (schedule : p ≡ scheduleOf (reelFrom edition part) ++ drop (14 * markCount part) before) where
-      rest : List ℕ
-      rest = drop (14 * markCount part) before
+      part1-reel : GoodReel reel
+      part1-reel = rw (is, popped, ranked) (good-reel s bytes (asked yes .0))
 
-      pub taken-printable : Printable p (markCount part)
-      unfolding rest
-      taken-printable = rw schedule (schedule-printable (reelFrom edition part) rest part1-good part1-bytes)
+      pub popups-good : GoodPopups popups (markCount part)
+      popups-good = part1-reel .popped
 
-      same : listing (removalAt p) (markCount part) ≡ printed s
-      unfolding printed rest
-      same =
-          let e = listing-same (removalAt p) (process (marksOf (reelFrom edition part))) (markCount part) (rw schedule (removal-process (reelFrom edition part) rest part1-good part1-bytes)) in
-          rw (yes, ← is, ← ranked) e
+      module _ {p : List ℕ} (before : List ℕ) (schedule : p ≡ scheduleOf reel ++ drop (14 * markCount part) before) where
+        rest : List ℕ
+        rest = drop (14 * markCount part) before
 
-      worked-out : p ≡ over (workedOut s) before
-      unfolding workedOut over
-      worked-out = rw (yes, ← is, ← ranked, schedule-length (reelFrom edition part)) schedule
+        pub taken-printable : Printable p (markCount part)
+        unfolding rest
+        taken-printable = rw schedule (schedule-printable reel rest part1-reel)
 
-      pub prints-listing : (work work-after : List ℕ) {out out-after : List ℕ} {r : ℕ} → length work-after ≡ length work → textRoom mostMarks ≤ length out
-          → Wrote out out-after 0 (listing (removalAt p) (markCount part)) r → Prints s work before out r work-after p out-after
-      prints-listing work work-after long room o =
-          let w = stands (listing (removalAt p) (markCount part)) (sym same) (omega (arith, listing-room (removalAt p) (markCount part), part1-few)) o in
-          record { size = w .size; inside = w .inside; text = w .text; records = worked-out; long = long; refused = λ h. absurd (omega (arith, h, yes)); zooms = λ _. zoom-line bytes yes }
+        same : listing (removalAt p) (markCount part) ≡ printed s
+        unfolding printed rest
+        same =
+            let e = listing-same (removalAt p) (process (marksOf reel)) (markCount part) (rw schedule (removal-process reel rest part1-reel)) in
+            rw (yes, ← is, ← popped, ← ranked) e
+
+        worked-out : p ≡ over (workedOut s) before
+        unfolding workedOut over
+        worked-out = rw (yes, ← is, ← popped, ← ranked, schedule-length reel) schedule
+
+        pub prints-listing : (work work-after : List ℕ) {out out-after : List ℕ} {r : ℕ} → length work-after ≡ length work → textRoom mostMarks ≤ length out
+            → Wrote out out-after 0 (listing (removalAt p) (markCount part)) r → Prints s work before out r work-after p out-after
+        prints-listing work work-after long room o =
+            let w = stands (listing (removalAt p) (markCount part)) (sym same) (omega (arith, listing-room (removalAt p) (markCount part), part1-few)) o in
+            record { size = w .size; inside = w .inside; text = w .text; records = worked-out; long = long; refused = λ h. absurd (omega (arith, h, yes)); zooms = λ _. zoom-line bytes yes }

@@ -1,6 +1,6 @@
 -- The schedule that was worked out for the marks says, record by record, what the process makes of them. Assumes nothing.
 use Prim.Native.Nat.{ℕ, _+_, _*_, _<_, _≤_}
-use mathlib.Core.Path.{_≡_, refl, sym, _∙_, subst}
+use mathlib.Core.Path.{_≡_, refl, sym, _∙_}
 use mathlib.Core.Bool.{true, false, true≢false}
 use mathlib.Core.List.{List, _++_}
 use native.Mathlib.Omega.{arith}
@@ -8,19 +8,14 @@ use borrow.Author.Tests.{ne-eqb}
 use lib.Dec.{eqb}
 use lib.ListN.{length, length-append}
 use Rattle.lists.specs.TestLaws.{and-no}
-use Rattle.numbers.specs.Little.{Bytes}
 use Rattle.numbers.specs.Laws.{le-append}
 use Rattle.fractions.specs.declared.Fraction.{Fraction}
 use Rattle.fractions.specs.Order.{Small}
-use Rattle.marks.specs.Good.{GoodMarks}
-use Rattle.marks.specs.Laws.{touching-small, touching-positive}
 use Rattle.elimination.specs.declared.Record.{Record}
 use Rattle.elimination.specs.Process.{Removal, stays, gone, process}
 use Rattle.elimination.specs.Records.{recordSize, numOffset, denOffset, isNever, markRecord, eliminatorAt, numAt, Reads, removalRecord}
-use Rattle.elimination.specs.Reel.{Reel, marksOf, scheduleOf}
-use Rattle.elimination.specs.Sheet.{sheet-proper}
-use Rattle.elimination.specs.Theorems.{process-eliminator}
-use Rattle.elimination.specs.Schedule.{schedule-length, schedule-reads}
+use Rattle.elimination.specs.Reel.{Reel, marksOf, GoodReel, scheduleOf}
+use Rattle.elimination.specs.Schedule.{schedule-length, schedule-reads, gone-small}
 use Rattle.report.specs.Printing.{removalAt, Zoomable, Printable}
 
 -- a record reads the same with more bytes behind the schedule
@@ -53,16 +48,8 @@ says-gone p m h f r small positive =
       zoom = λ n. record { small = rw (r .numerator, r .denominator) small; positive = rw (r .denominator) positive };
     }
 
-module _ (r : Reel) (rest : List ℕ) (good : GoodMarks (r .marks) (r .count)) (bytes : Bytes (r .marks)) where
-  open Reel r using (marks as s, count as n)
-
-  -- the value at which a mark goes is its touching value with another
-  pub gone-small : (m h : ℕ) (f : Fraction) → m < n → process (marksOf r) m ≡ gone h f → Small f × (0 < f .den)
-  gone-small m h f k e =
-      let x = process-eliminator (marksOf r) (sheet-proper r (good .few)) m h f k e in (
-        subst Small (sym (x .exact)) (touching-small s h m bytes (good .each h (x .inside) .used) (good .each m k .used)),
-        rw (x .exact) (touching-positive s h m),
-      )
+module _ (r : Reel) (rest : List ℕ) (right : GoodReel r) where
+  open Reel r using (count as n)
 
   says : (m : ℕ) → m < n → Says (scheduleOf r ++ rest) m (process (marksOf r) m)
   says m k = cases (process (marksOf r) m) refl
@@ -71,10 +58,10 @@ module _ (r : Reel) (rest : List ℕ) (good : GoodMarks (r .marks) (r .count)) (
       inside = omega (arith, schedule-length r)
 
       cases : (x : Removal) → process (marksOf r) m ≡ x → Says (scheduleOf r ++ rest) m x
-      cases stays e = says-stays _ m (reads-append (scheduleOf r) rest m inside (rw e at (schedule-reads r good bytes m k)))
+      cases stays e = says-stays _ m (reads-append (scheduleOf r) rest m inside (rw e at (schedule-reads r right m k)))
       cases (gone h f) e =
-          let g = gone-small m h f k e in
-          says-gone _ m h f (reads-append (scheduleOf r) rest m inside (rw e at (schedule-reads r good bytes m k))) (g .0) (g .1)
+          let g = gone-small r right m h f k e in
+          says-gone _ m h f (reads-append (scheduleOf r) rest m inside (rw e at (schedule-reads r right m k))) (g .0) (g .1)
 
   pub removal-process : (m : ℕ) → m < n → removalAt (scheduleOf r ++ rest) m ≡ process (marksOf r) m
   removal-process m k = says m k .removal

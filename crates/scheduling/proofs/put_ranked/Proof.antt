@@ -19,10 +19,10 @@ put-rows-requires : tie.Need-put-rows-requires
 put-rows-requires c κs =
     let o = c .before .before .before in
     let k = o .before .before .before .before in
-    let a = k .before .before .before .before in
+    let a = k .before .before .before .before .before in
     let p = a .pre in
     let rs = ranks (a .args .edition) (a .args .marks .now) (p .0 .few) (k .put-keys .ensures .keys) (o .sort .ensures) in
-    ((p .0 .few, p .0 .there, omega (arith, o .sort .ensures .long, k .put-keys .ensures .long, p .1)), (rs .inside, λ i h. p .0 .each i h .used))
+    ((p .0 .few, p .0 .there, omega (arith, o .sort .ensures .long, k .put-keys .ensures .long, p .1)), (rs .inside, (λ i h. p .0 .each i h .used), p .2))
 
 same-length : tie.Need-same-length
 same-length c = search needs
@@ -32,7 +32,7 @@ returns c =
     let f = c .before .before in
     let o = f .before .before .before .before in
     let k = o .before .before .before .before in
-    let a = k .before .before .before .before in
+    let a = k .before .before .before .before .before in
     record {
       long = f .put-rows .ensures .long ∙ o .sort .ensures .long ∙ k .put-keys .ensures .long;
       in-rank = in-rank (ranks (a .args .edition) (a .args .marks .now) (a .pre .0 .few) (k .put-keys .ensures .keys) (o .sort .ensures)) (f .put-rows .ensures);

@@ -1,31 +1,23 @@
--- `scheduling::schedule_behind` meets its contract: the marks are lent, and then the room behind them. Assumes nothing.
+-- `scheduling::schedule_behind` meets its contract: the marks and the popups are lent, and then the room behind the marks. Assumes nothing.
 use Prim.Native.Nat.{_*_, _-_}
-use mathlib.Core.Path.{refl, sym}
-use lib.ListN.{length}
-use lib.Seq.{length-take-le}
+use mathlib.Core.Path.{refl}
+use lib.ListN.{length, drop, length-drop}
+use native.Mathlib.Omega.{arith}
+use borrow.Author.Needs.{needs}
+use borrow.Author.Tests.{ltb-false}
 use denote.Ref.{now}
 use Rattle.marks.specs.Marks.{markSize}
 use Rattle.elimination.specs.Reel.{scheduleOf}
-use Rattle.scheduling.proofs.Filling.{ordered, numbered, radii-rows}
+use Rattle.scheduling.proofs.Filling.{ordered, numbered, rows-small}
 use Rattle.scheduling.proofs.Behind.{behind, lent-long}
-use native.Mathlib.Omega.{arith}
-use borrow.Author.Needs.{needs}
 use Rattle.scheduling.proofs.schedule_behind.Statement.{statement}
 use Rattle.scheduling.proofs.schedule_behind.Tie as tie
 
-mul-size : tie.Need-mul-size
-mul-size c = search needs
+put-ranked-in-requires : tie.Need-put-ranked-in-requires
+put-ranked-in-requires c κs = search needs
 
-slice-reshare-prefix-put-ranked : tie.Need-slice-reshare-prefix-put-ranked
-slice-reshare-prefix-put-ranked c = search needs
-
-slice-aggregate-put-ranked : tie.Need-slice-aggregate-put-ranked
-slice-aggregate-put-ranked c =
-    let a = c .before .before .before in
-    sym (length-take-le (markSize * a .args .n) (now (a .args .all)) (omega (arith, a .pre .2)))
-
-put-ranked-requires : tie.Need-put-ranked-requires
-put-ranked-requires c κs = (c .before .before .before .before .pre .0, c .before .before .before .before .pre .1)
+mul-schedule-rows : tie.Need-mul-schedule-rows
+mul-schedule-rows c = search needs
 
 sub-schedule-rows : tie.Need-sub-schedule-rows
 sub-schedule-rows c = search needs
@@ -40,9 +32,9 @@ schedule-rows-requires : tie.Need-schedule-rows-requires
 schedule-rows-requires c κs =
     let r = c .before .before .before .before in
     let a = r .before .before .before .before .before in
-    let rows = r .put-ranked .ensures .in-rank in (
-      (a .pre .0 .few, omega (arith, r .put-ranked .ensures .long, a .pre .1), lent-long (now (a .args .all)) (a .args .n) (a .pre .2)),
-      (radii-rows rows (λ i h. a .pre .0 .each i h .used), numbered rows),
+    let rows = r .put-ranked-in .ensures .in-rank in (
+      (a .pre .0 .few, omega (arith, r .put-ranked-in .ensures .long, a .pre .1), lent-long (now (a .args .all)) (a .args .n) (a .pre .2)),
+      (rows-small rows _ (λ i h. a .pre .0 .each i h .used) (a .pre .4) (λ e. omega (arith, ltb-false (a .args .at) (length (now (a .args .all))) e, length-drop (a .args .at) (now (a .args .all)))), numbered rows),
     )
 
 same-length : tie.Need-same-length
@@ -58,17 +50,15 @@ returns c =
     let r = s .before .before .before .before .before in
     let a = r .before .before .before .before .before in
     let held = now (a .args .all) in
-    behind (a .args .edition) held (a .args .n) (markSize * a .args .n) (length held - markSize * a .args .n) refl refl
-    (s .schedule-rows .ensures .records-are _ _ (ordered (r .put-ranked .ensures .in-rank) (a .pre .0 .few)))
+    behind (a .args .edition) (drop (a .args .at) held) held (a .args .n) (markSize * a .args .n) (length held - markSize * a .args .n) refl refl
+    (s .schedule-rows .ensures .records-are _ _ (ordered (r .put-ranked-in .ensures .in-rank) (a .pre .0 .few)))
 
 pub schedule-behind-spec : {M : Type 1} → statement M
 schedule-behind-spec =
     tie.close
     (tie.spec
-    mul-size
-    slice-reshare-prefix-put-ranked
-    slice-aggregate-put-ranked
-    put-ranked-requires
+    put-ranked-in-requires
+    mul-schedule-rows
     sub-schedule-rows
     part-schedule-rows-start
     part-schedule-rows-end

@@ -8,7 +8,7 @@ use Rattle.scheduling.proofs.schedule_rows.Tie as tie
 settle-all-requires : tie.Need-settle-all-requires
 settle-all-requires c κs =
     let a = c .before .before .before in
-    (omega (arith, a .pre .0 .0), omega (arith, a .pre .0 .1), λ q h. a .pre .1 .0 q (omega (arith, h)))
+    (omega (arith, a .pre .0 .0), omega (arith, a .pre .0 .1), a .pre .1 .0)
 
 send-all-requires : tie.Need-send-all-requires
 send-all-requires c κs =

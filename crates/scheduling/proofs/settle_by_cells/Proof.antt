@@ -1,6 +1,6 @@
 -- `scheduling::settle_by_cells` meets its contract: each turn settles one mark more and puts its row into the grid. Assumes nothing.
 use mathlib.Core.Path.{_∙_}
-use Rattle.scheduling.proofs.Progress.{same-kept, radius-same, processed-like}
+use Rattle.scheduling.proofs.Progress.{same-kept, small-same, processed-like}
 use native.Mathlib.Omega.{arith}
 use Prim.Native.Nat.{_≤_, _-_, _*_}
 use borrow.Author.Needs.{needs}
@@ -13,10 +13,10 @@ use Rattle.scheduling.proofs.settle_by_cells.Statement.{statement}
 use Rattle.scheduling.proofs.settle_by_cells.Tie as tie
 
 abbrev Inv-loop : tie.InvT-loop
-Inv-loop w₀ n plan p₀ w p = (p ≤ n) × Progress n p w₀ w × Gridded w (rowSize * n) p × Divides plan
+Inv-loop w₀ n popped plan p₀ w p = (p ≤ n) × Progress n p w₀ w × Gridded w (rowSize * n) p × Divides plan
 
 abbrev μ-loop : tie.MeasureT-loop
-μ-loop w₀ n plan p₀ w p = n - p
+μ-loop w₀ n popped plan p₀ w p = n - p
 
 plan-grid-requires : tie.Need-plan-grid-requires Inv-loop μ-loop
 plan-grid-requires c κs = search needs
@@ -41,7 +41,7 @@ settle-in-grid-requires c κs =
     let k = l .before .before .before in
     let a = k .before .before .before .before .before in
     let s = same-kept (k .clear .ensures .kept) in (
-      ready (a .pre .1) (omega (arith, a .pre .2, s .long)) (λ q h. rw (radius-same s q h) (a .pre .3 q h)) (i .loop-test .taken) (l .loop .inv .1),
+      ready (a .pre .1) (omega (arith, a .pre .2, s .long)) (small-same s (a .pre .3)) (i .loop-test .taken) (l .loop .inv .1),
       l .loop .inv .2,
       omega (arith, a .pre .2, s .long, l .loop .inv .1 .fields .long),
       a .pre .0,

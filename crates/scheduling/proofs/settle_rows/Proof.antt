@@ -7,10 +7,10 @@ use Rattle.scheduling.proofs.settle_rows.Statement.{statement}
 use Rattle.scheduling.proofs.settle_rows.Tie as tie
 
 abbrev Inv-loop : tie.InvT-loop
-Inv-loop w₀ n p₀ w p = (p ≤ n) × Progress n p w₀ w
+Inv-loop w₀ n popped p₀ w p = (p ≤ n) × Progress n p w₀ w
 
 abbrev μ-loop : tie.MeasureT-loop
-μ-loop w₀ n p₀ w p = n - p
+μ-loop w₀ n popped p₀ w p = n - p
 
 loop-holds : tie.Need-loop-holds Inv-loop μ-loop
 loop-holds c = (omega arith, start _ _)

@@ -1,95 +1,93 @@
--- `searching::better` meets its contract: a row takes the place of the best one if it goes before it and is removed later. Assumes nothing.
-use Rattle.fractions.specs.Order.{Small}
+-- `searching::better` meets its contract: what is compared is the pair value, which is the touching value where no row has a popup. Assumes nothing.
 use native.Mathlib.Omega.{arith}
-use mathlib.Core.Path.{_≡_, sym, ap, _∙_}
-use Rattle.fractions.specs.Laws.{less-iff}
-use Rattle.marks.specs.Marks.{touchingOf}
-use Rattle.searching.specs.Rows.{rowLabel, rowsTouch}
-use Rattle.searching.proofs.Steps.{not-less, keep-behind, keep-gone, take}
+use mathlib.Core.Path.{_≡_, sym, ap, ap₂, _∙_}
 use borrow.Author.Needs.{needs}
+use Rattle.marks.specs.Marks.{touchingOf}
+use Rattle.marks.specs.Pairs.{larger, pairOf}
+use Rattle.marks.specs.PairLaws.{larger-most, pair-none}
+use Rattle.searching.specs.Rows.{rowLabel, rowPopup, rowsTouch}
 use Rattle.searching.proofs.better.Statement.{statement}
 use Rattle.searching.proofs.better.Tie as tie
 
--- the value of row q with the mark in row p
-value : (c : tie.After-touching-row) → let a = c .before .before .args in c .touching-row .result ≡ rowsTouch (a .w .now) (a .q) (a .p)
-value c =
+-- the touching value of rows q and p, and the larger of their popups
+touch-is : (c : tie.After-touching-row) → let a = c .before .before .args in c .touching-row .result ≡ rowsTouch (a .w .now) (a .q) (a .p)
+touch-is c =
     let a = c .before .before in
     c .touching-row .ensures .0 ∙ ap (touchingOf (rowLabel (a .args .w .now) (a .args .q))) (a .pre .0 .label-is)
+
+popup-is : (c : tie.After-larger) → let a = c .before .before .before .before .before .before .args in c .larger .result ≡ larger (rowPopup (a .w .now) (a .q)) (rowPopup (a .w .now) (a .p))
+popup-is c = c .larger .ensures ∙ ap₂ larger (c .before .before .row-popup .ensures) (c .before .row-popup2 .ensures)
 
 touching-row-requires : tie.Need-touching-row-requires
 touching-row-requires c κs =
     let a = c .before in
     (omega (arith, a .pre .0 .room, a .pre .1), a .pre .0 .above (a .args .q) (a .pre .1) .radius, a .pre .0 .radius-small)
 
-cast-row : tie.Need-cast-row
-cast-row c = search needs
+row-popup-requires : tie.Need-row-popup-requires
+row-popup-requires c κs = search needs
 
-leader-value-requires : tie.Need-leader-value-requires
-leader-value-requires c κs = search needs
+row-popup-requires-2 : tie.Need-row-popup-requires-2
+row-popup-requires-2 c κs = search needs
 
-precedes-requires : tie.Need-precedes-requires
-precedes-requires c κs =
-    let t = c .before .before in
-    (t .touching-row .ensures .1, rw (c .leader-value .ensures) (t .before .before .pre .2 .small))
+larger-requires : tie.Need-larger-requires
+larger-requires c κs = search needs
 
-row-value-requires : tie.Need-row-value-requires
-row-value-requires c κs = search needs
-
-less-small-requires : tie.Need-less-small-requires
-less-small-requires c κs =
-    let t = c .before .before .before .before .before in
+pair-of-requires : tie.Need-pair-of-requires
+pair-of-requires c κs =
+    let t = c .before .before .before .before in
     let a = t .before .before in
-    let new = t .touching-row .ensures .1 in
-    let end : Small (c .row-value .result) = rw (c .row-value .ensures) (a .pre .0 .above (a .args .q) (a .pre .1) .value) in
-    search needs
+    (t .touching-row .ensures .1, rw (popup-is c) (larger-most _ _ 65536 (a .pre .0 .above (a .args .q) (a .pre .1) .popup) (a .pre .0 .popup-small)))
 
-cast-taken : tie.Need-cast-taken
-cast-taken c = search needs
+better-pair-requires : tie.Need-better-pair-requires
+better-pair-requires c κs =
+    let t = c .before .before .before .before .before in
+    let a = t .before .before in (
+      record {
+        room = omega (arith, a .pre .0 .room, a .pre .1);
+        few = a .pre .0 .few;
+        value-is = c .pair-of .ensures .0 ∙ ap₂ pairOf (touch-is t) (popup-is (c .before));
+        small = c .pair-of .ensures .1;
+        removal-small = a .pre .0 .above (a .args .q) (a .pre .1) .value;
+      },
+      a .pre .1,
+      a .pre .2,
+    )
 
 returns : tie.Need-returns
-returns c =
-    let two = c .before in
-    let e = two .before in
-    let one = e .before .before in
-    let b = one .before in
-    let t = b .before .before in
-    let a = t .before .before in (
-      record { small = t .touching-row .ensures .1; inside = omega (arith, a .pre .1) },
-      take (a .pre .1) (value t) (rw (b .leader-value .ensures) at (sym (one .precedes .ensures) ∙ e .before .if1 .taken))
-          (rw (e .row-value .ensures) at (less-iff _ _ .0 (sym (two .less-small .ensures) ∙ c .if2 .taken))),
+returns c = c .better-pair .ensures
+
+better-pair-requires-2 : tie.Need-better-pair-requires-2
+better-pair-requires-2 c κs =
+    let t = c .before in
+    let a = t .before .before in
+    let w = a .args .w .now in
+    let none = a .pre .0 .plain (c .if1 .left) in
+    let q-none : rowPopup w (a .args .q) ≡ 0 = none (a .args .q) (omega (arith, a .pre .1)) in
+    let p-none : rowPopup w (a .args .p) ≡ 0 = none (a .args .p) (omega arith) in (
+      record {
+        room = omega (arith, a .pre .0 .room, a .pre .1);
+        few = a .pre .0 .few;
+        value-is = touch-is t ∙ rw (q-none, p-none) (sym (pair-none (rowsTouch w (a .args .q) (a .args .p))));
+        small = t .touching-row .ensures .1;
+        removal-small = a .pre .0 .above (a .args .q) (a .pre .1) .value;
+      },
+      a .pre .1,
+      a .pre .2,
     )
 
 returns-2 : tie.Need-returns-2
-returns-2 c =
-    let two = c .before in
-    let e = two .before in
-    let t = e .before .before .before .before .before in
-    let a = t .before .before in (
-      a .pre .2,
-      keep-gone (a .pre .1) (value t) (λ l. not-less (sym (two .less-small .ensures) ∙ c .if2 .left) (rw (e .row-value .ensures) l)),
-    )
-
-returns-3 : tie.Need-returns-3
-returns-3 c =
-    let one = c .before in
-    let b = one .before in
-    let t = b .before .before in
-    let a = t .before .before in (
-      a .pre .2,
-      keep-behind (a .pre .1) (value t) (rw (b .leader-value .ensures) at (sym (one .precedes .ensures) ∙ c .if1 .left)),
-    )
+returns-2 c = c .better-pair2 .ensures
 
 pub better-spec : {M : Type 1} → statement M
 better-spec =
     tie.close
     (tie.spec
     touching-row-requires
-    cast-row
-    leader-value-requires
-    precedes-requires
-    row-value-requires
-    less-small-requires
-    cast-taken
+    row-popup-requires
+    row-popup-requires-2
+    larger-requires
+    pair-of-requires
+    better-pair-requires
     returns
-    returns-2
-    returns-3)
+    better-pair-requires-2
+    returns-2)

@@ -3,15 +3,16 @@ use native.Mathlib.Omega.{arith}
 use Prim.Native.Nat.{_≤_, _-_}
 use borrow.Author.Needs.{needs}
 use Rattle.searching.specs.Search.{Admitted}
-use Rattle.searching.proofs.Cells.{Walked, walk-start, walk-next, walk-end}
+use Rattle.searching.specs.Cells.{Walked}
+use Rattle.searching.proofs.Cells.{walk-start, walk-next, walk-end}
 use Rattle.searching.proofs.scan_cell.Statement.{statement}
 use Rattle.searching.proofs.scan_cell.Tie as tie
 
 abbrev Inv-loop : tie.InvT-loop
-Inv-loop w at p c label best₀ h₀ best h = (h ≤ p) × Admitted p best × Walked w at p c h best₀ best
+Inv-loop w at p c label popped best₀ h₀ best h = (h ≤ p) × Admitted p best × Walked w at p c h best₀ best
 
 abbrev μ-loop : tie.MeasureT-loop
-μ-loop w at p c label best₀ h₀ best h = h
+μ-loop w at p c label popped best₀ h₀ best h = h
 
 last-row-requires : tie.Need-last-row-requires Inv-loop μ-loop
 last-row-requires c κs = let a = c .before in (a .pre .2, omega (arith, a .pre .1 .room))

@@ -3,13 +3,13 @@ use Rattle.fractions.specs.Order.{Small}
 use native.Mathlib.Omega.{arith}
 use mathlib.Core.Path.{sym, _∙_}
 use Rattle.fractions.specs.Laws.{less-iff}
-use Rattle.searching.proofs.Cells.{walk-start, walk-end, skip-own, skip-far, as-other}
+use Rattle.searching.proofs.Cells.{walk-start, walk-end, skip-one, skip-far, as-other}
 use borrow.Author.Needs.{needs}
 use Rattle.searching.proofs.scan_other.Statement.{statement}
 use Rattle.searching.proofs.scan_other.Tie as tie
 
 returns : tie.Need-returns
-returns c = (c .before .before .pre .3, skip-own (c .if1 .taken))
+returns c = (c .before .before .pre .3, skip-one (c .if1 .taken))
 
 last-row-requires : tie.Need-last-row-requires
 last-row-requires c κs = search needs
@@ -43,8 +43,8 @@ returns-3 c =
     let v = b .before in
     let a = v .before .before .before .before .before in (
       a .pre .3,
-      skip-far (a .pre .0) (b .bound .ensures)
-          (rw (v .leader-value .ensures) at (less-iff _ _ .0 (sym (t .less-small .ensures) ∙ c .if3 .taken))),
+      as-other (skip-far (a .pre .0) (b .bound .ensures)
+          (rw (v .leader-value .ensures) at (less-iff _ _ .0 (sym (t .less-small .ensures) ∙ c .if3 .taken)))),
     )
 
 scan-cell-requires : tie.Need-scan-cell-requires

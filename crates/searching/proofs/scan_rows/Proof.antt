@@ -9,10 +9,10 @@ use Rattle.searching.proofs.scan_rows.Statement.{statement}
 use Rattle.searching.proofs.scan_rows.Tie as tie
 
 abbrev Inv-loop : tie.InvT-loop
-Inv-loop w p label best₀ q₀ best q = (q ≤ p) × Admitted p best × Adds w p (Higher q) none best
+Inv-loop w p label popped best₀ q₀ best q = (q ≤ p) × Admitted p best × Adds w p (Higher q) none best
 
 abbrev μ-loop : tie.MeasureT-loop
-μ-loop w p label best₀ q₀ best q = p - q
+μ-loop w p label popped best₀ q₀ best q = p - q
 
 loop-holds : tie.Need-loop-holds Inv-loop μ-loop
 loop-holds c = (omega arith, record { small = record { num-small = omega arith; den-small = omega arith }; inside = omega arith }, higher-none none)

@@ -1,7 +1,5 @@
--- `searching::search` meets its contract: every row is in the cell `own` or in another one. Assumes nothing.
-use Rattle.searching.specs.Search.{none, Admitted}
+-- `searching::search` meets its contract: either way all rows above are taken in. Assumes nothing.
 use native.Mathlib.Omega.{arith}
-use Rattle.searching.proofs.Cells.{all-cells}
 use borrow.Author.Needs.{needs}
 use Rattle.searching.proofs.search.Statement.{statement}
 use Rattle.searching.proofs.search.Tie as tie
@@ -26,26 +24,11 @@ scan-rows-requires-2 c κs = search needs
 returns-2 : tie.Need-returns-2
 returns-2 c = search needs
 
-scan-cell-requires : tie.Need-scan-cell-requires
-scan-cell-requires c κs =
-    let a = c .before .before .before .before in (
-      a .pre .0,
-      a .pre .1 .ready,
-      a .pre .2,
-      record { small = record { num-small = omega arith; den-small = omega arith }; inside = omega arith },
-    )
-
-scan-others-requires : tie.Need-scan-others-requires
-scan-others-requires c κs =
-    let a = c .before .before .before .before .before in
-    let nobody : Admitted (a .args .p) none = record { small = record { num-small = omega arith; den-small = omega arith }; inside = omega arith } in
-    search needs
+scan-grid-requires : tie.Need-scan-grid-requires
+scan-grid-requires c κs = search needs
 
 returns-3 : tie.Need-returns-3
-returns-3 c =
-    let n = c .before in
-    let a = n .before .before .before .before .before in
-    (c .scan-others .ensures .0, all-cells (a .pre .1) (n .scan-cell .ensures .1) (c .scan-others .ensures .1))
+returns-3 c = c .scan-grid .ensures
 
 pub search-spec : {M : Type 1} → statement M
 search-spec =
@@ -57,6 +40,5 @@ search-spec =
     mul-if2
     scan-rows-requires-2
     returns-2
-    scan-cell-requires
-    scan-others-requires
+    scan-grid-requires
     returns-3)

@@ -12,7 +12,7 @@ use borrow.Fn.Kinds.{In}
 use borrow.Fn.PlainCycle.{Measures, is, falls, and}
 use Rattle.view.specs.Lemmas.Reaching.{living-shown}
 use Rattle.view.specs.Lemmas.Bits.{set-nothing, set-same}
-use Rattle.view.specs.Lemmas.Search.{root-fits, all-marked, block-none, half-call, block-set}
+use Rattle.view.specs.Lemmas.Search.{root-fits, root-popup, all-marked, block-none, half-call, block-set}
 use Rattle.view.proofs.search.Reads as reads
 use Rattle.view.proofs.search.Kinds as kinds
 use Rattle.view.proofs.+search.Lts-search as lts
@@ -24,13 +24,13 @@ use Rattle.view.proofs.visit.Reads as visit
 use Rattle.view.proofs.+search.{statement}
 use Rattle.view.proofs.+search.Tie.{close}
 
-abbrev size-of : Measures 4 kinds.ps ℕ
-size-of κs a = a .1 .1 .1 .1 .1 .1 .1 .1 .0
+abbrev size-of : Measures 5 kinds.ps ℕ
+size-of κs a = a .1 .1 .1 .1 .1 .1 .1 .1 .1 .0
 
 -- what a call with the size t is given, and what it asks of the calls that it makes
 module _ (t : ℕ) where
-  abbrev given : In 4 kinds.ps
-  given = and 4 kinds.ps (is 4 kinds.ps size-of t) reads.Pre
+  abbrev given : In 5 kinds.ps
+  given = and 5 kinds.ps (is 5 kinds.ps size-of t) reads.Pre
 
   abbrev claims : lts.Claims
   claims = (
@@ -44,13 +44,13 @@ module _ (t : ℕ) where
     visit.Learnt,
     size-to-search.Asked,
     size-to-search.Learnt,
-    and 4 kinds.ps (falls 4 kinds.ps _<_ size-of t) reads.Pre,
+    and 5 kinds.ps (falls 5 kinds.ps _<_ size-of t) reads.Pre,
     reads.Post,
   )
 
   -- `e` is where the root has been read, `start e` the call's start and `some e` that the block is not empty
   abbrev start : lts.After-entry claims given reads.Post → lts.Start claims given reads.Post
-  start e = e .before .before .before .before .before .before
+  start e = e .before .before .before .before .before .before .before
 
   abbrev some : (e : lts.After-entry claims given reads.Post) → start e .args .size ≢ 0
   some e = e .before .if1 .left
@@ -79,7 +79,7 @@ module _ (t : ℕ) where
       let e = c .before .before .before .before in
       let r = start e .pre .1 .0 in
       let f = root-fits r (some e) (e .entry .ensures .0) in
-      (f .0, r .taken, start e .pre .1 .1, f .2)
+      (f .0, r .taken, start e .pre .1 .1, root-popup r (some e) (e .entry .ensures .0), f .2)
 
   sub-second : lts.Need-sub-second claims given reads.Post
   sub-second c = omega arith
@@ -138,7 +138,7 @@ module _ (t : ℕ) where
       let a = start e .args in
       let l = v .before .before .before in
       let alive = sym (rw (l .before .value-at .ensures) at (l .lives .ensures)) ∙ not-false _ (v .before .before .if2 .left) in
-      let same = living-shown (now (a .marks)) (now (a .schedule)) (a .k) (a .edges) _ alive in
+      let same = living-shown (now (a .marks)) (now (a .schedule)) (now (a .popups)) (a .k) (a .edges) _ alive in
       block-set (start e .pre .1 .0) (some e) (e .entry .ensures .0) (set-same _ same (v .visit .ensures))
       (w .before .before .size-to-search .ensures) (w .search .ensures)
       (c .before .before .before .before .size-to-search2 .ensures) (c .before .before .search2 .ensures)

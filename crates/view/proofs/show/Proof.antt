@@ -1,5 +1,4 @@
 -- `view::show` meets its contract: the search of the whole index sets the shown marks' bits in a cleared map. Assumes nothing.
-use native.Mathlib.Omega.{arith}
 use mathlib.Core.Path.{subst⁻¹}
 use denote.Ref.{now}
 use borrow.Author.Needs.{needs}
@@ -10,11 +9,11 @@ use Rattle.view.proofs.show.Statement.{statement}
 use Rattle.view.proofs.show.Tie as tie
 
 turned-back-requires : tie.Need-turned-back-requires
-turned-back-requires c κs = c .before .before .before .before .pre .1 .0
+turned-back-requires c κs = c .before .before .before .before .before .pre .1 .0
 
 module _ (t : tie.After-turned-back) where
   abbrev start : tie.Start
-  start = t .before .before .before .before .before
+  start = t .before .before .before .before .before .before
 
   edged : Edged (t .turned-back .result)
   edged = subst⁻¹ Edged (t .turned-back .ensures) (back-edged (start .args .window) (start .pre .1 .0))
@@ -44,13 +43,13 @@ search-requires c κs =
 
 count-requires : tie.Need-count-requires
 count-requires c κs =
-    let a = c .before .before .before .before .before .before .before .before .before .before .before .before .before .before .before .before in
+    let a = c .before .before .before .before .before .before .before .before .before .before .before .before .before .before .before .before .before in
     search (needs, a .pre .0 .0 .room, a .pre .0 .0 .whole .few)
 
 cast-result : tie.Need-cast-result
 cast-result c =
-    let after = c .before .before .before .before .search .last .1 .1 .1 .1 .1 .1 .0 in
-    let a = c .before .before .before .before .before .before .before .before .before .before .before .before .before .before .before .before .before in
+    let after = c .before .before .before .before .search .last .1 .1 .1 .1 .1 .1 .1 .0 in
+    let a = c .before .before .before .before .before .before .before .before .before .before .before .before .before .before .before .before .before .before in
     record { fits = count-fits after (a .pre .0 .0 .whole .few) (c .count .ensures) }
 
 same-length : tie.Need-same-length
@@ -63,8 +62,8 @@ returns c =
     let t = d .before .before in
     let a = start t in
     let v = a .args in
-    viewed-back (now (v .marks)) (now (v .schedule)) (λ i. t .before .before .before .before .shared-slice-known .given i .fits) (v .k) (v .window) (a .pre .1 .0) (a .pre .1 .1) (t .turned-back .ensures)
-    (viewed (a .pre .0 .0) {shown = shownHere (now (v .marks)) (now (v .schedule)) (v .k) (t .turned-back .result)} (d .clear .ensures) (f .search .ensures)
+    viewed-back (now (v .marks)) (now (v .schedule)) (now (v .popups)) (λ i. t .before .before .before .before .before .shared-slice-known .given i .fits) (v .k) (v .window) (a .pre .1 .0) (a .pre .1 .1) (t .turned-back .ensures)
+    (viewed (a .pre .0 .0) {shown = shownHere (now (v .marks)) (now (v .schedule)) (now (v .popups)) (v .k) (t .turned-back .result)} (d .clear .ensures) (f .search .ensures)
     (λ i. c .before .before .slice-known3 .given i .fits) (c .count .ensures))
 
 pub show-spec : {M : Type 1} → statement M

@@ -7,8 +7,8 @@ use Rattle.view.specs.Lemmas.Bits.{set-nothing, set-none, set-one}
 use Rattle.view.proofs.visit.Statement.{statement}
 use Rattle.view.proofs.visit.Tie as tie
 
-reaches-requires : tie.Need-reaches-requires
-reaches-requires c κs = search needs
+is-visible-requires : tie.Need-is-visible-requires
+is-visible-requires c κs = search needs
 
 set-bit-requires : tie.Need-set-bit-requires
 set-bit-requires c κs = search needs
@@ -19,10 +19,10 @@ same-length c = search needs
 returns : tie.Need-returns
 returns c =
     let a = c .before .before .before .before in
-    set-one _ _ (sym (a .before .reaches .ensures) ∙ a .if1 .taken) (c .before .before .set-bit .ensures)
+    set-one _ _ (sym (a .before .is-visible .ensures) ∙ a .if1 .taken) (c .before .before .set-bit .ensures)
 
 returns-2 : tie.Need-returns-2
-returns-2 c = set-none _ _ (omega (arith, bit-false (sym (c .before .reaches .ensures) ∙ c .if1 .left))) (set-nothing _ _)
+returns-2 c = set-none _ _ (omega (arith, bit-false (sym (c .before .is-visible .ensures) ∙ c .if1 .left))) (set-nothing _ _)
 
 pub visit-spec : {M : Type 1} → statement M
-visit-spec = tie.close (tie.spec reaches-requires set-bit-requires same-length returns returns-2)
+visit-spec = tie.close (tie.spec is-visible-requires set-bit-requires same-length returns returns-2)

@@ -16,7 +16,8 @@ use Rattle.elimination.specs.Records.{valueAt}
 use Rattle.zoom.specs.Living.{livesAt}
 use Rattle.index.specs.Index.{coordinate}
 use Rattle.view.specs.declared.Bounds.{Bounds}
-use Rattle.view.specs.Turning.{gapHere, distanceHere, reachesHere, shownHere}
+use Rattle.view.specs.Turning.{gapHere, distanceHere, reachesHere, visibleHere, shownHere}
+use Rattle.view.specs.Shown.{poppedUp}
 use Rattle.view.specs.Search.{wider, widestLiving, moved, boundsOf, Within}
 
 -- ---- a gap is no wider than a disk that reaches over it
@@ -68,23 +69,23 @@ module _ (s p : List ℕ) (k : ℕ) where
 
 -- ---- who is shown lives, and lies in the bounds
 
-module _ (s p : List ℕ) (k : ℕ) (e : Bounds) (m : ℕ) where
-  pub shown-lives : shownHere s p k e m ≡ true → livesAt k (valueAt p m) ≡ true
+module _ (s p q : List ℕ) (k : ℕ) (e : Bounds) (m : ℕ) where
+  pub shown-lives : shownHere s p q k e m ≡ true → livesAt k (valueAt p m) ≡ true
   unfolding shownHere
-  shown-lives h = and-left (livesAt k (valueAt p m)) (reachesHere s k e m) h
+  shown-lives h = and-left (livesAt k (valueAt p m)) (visibleHere s q k e m) h
 
-  shown-reaches : shownHere s p k e m ≡ true → 4096 * distanceHere s e m ≤ k * k * (usedAt s m * usedAt s m)
-  unfolding shownHere reachesHere
+  shown-reaches : shownHere s p q k e m ≡ true → 4096 * distanceHere s e m ≤ k * k * (usedAt s m * usedAt s m)
+  unfolding shownHere visibleHere reachesHere
   shown-reaches h =
       leb-true (4096 * distanceHere s e m) (k * k * (usedAt s m * usedAt s m))
-      (and-right (livesAt k (valueAt p m)) (reachesHere s k e m) h)
+      (and-right (poppedUp q k m) (reachesHere s k e m) (and-right (livesAt k (valueAt p m)) (visibleHere s q k e m) h))
 
-  pub living-shown : livesAt k (valueAt p m) ≡ true → reachesHere s k e m ≡ shownHere s p k e m
+  pub living-shown : livesAt k (valueAt p m) ≡ true → visibleHere s q k e m ≡ shownHere s p q k e m
   unfolding shownHere
   living-shown h = rw h
 
   -- on an axis with the edges `low` and `high`
-  within-edges : (n : ℕ) → m < n → shownHere s p k e m ≡ true
+  within-edges : (n : ℕ) → m < n → shownHere s p q k e m ≡ true
       → (low high c : ℕ) → gapHere low high c * gapHere low high c ≤ distanceHere s e m
       → (low - k * widestLiving s p k n / 64 ≤ c) × (c ≤ high + k * widestLiving s p k n / 64)
   within-edges n l h low high c axis =
@@ -92,7 +93,7 @@ module _ (s p : List ℕ) (k : ℕ) (e : Bounds) (m : ℕ) where
       let most = gap-most k (usedAt s m) (widestLiving s p k n) (gapHere low high c) (distanceHere s e m) wide axis (shown-reaches h) in
       (omega (arith, most), omega (arith, most))
 
-  pub shown-within : (n : ℕ) → m < n → shownHere s p k e m ≡ true
+  pub shown-within : (n : ℕ) → m < n → shownHere s p q k e m ≡ true
       → (axis : Bool) → Within s (boundsOf e k (widestLiving s p k n)) m axis
   unfolding distanceHere boundsOf moved
   shown-within n l h true =

@@ -23,6 +23,7 @@ use Rattle.index.specs.Blocks.{entryAt, leftOf, rightOf, Halves}
 use Rattle.index.specs.Check.{AllMarked}
 use Rattle.index.specs.Laws.{block-halves, none-later, none-left, none-right}
 use Rattle.view.specs.declared.Bounds.{Bounds}
+use Rattle.marks.specs.Pairs.{GoodPopup}
 use Rattle.view.specs.Search.{boundOn, Within, isBeyond, sizeToSearch, BitsSet, Searchable}
 use Rattle.view.specs.Lemmas.Bits.{set-nothing, set-none, set-then}
 
@@ -50,12 +51,15 @@ searchedOf left s t b axis lo size =
 count-below : (n : ℕ) (q : ℕ → Bool) (l : List ℕ) → count (non (below n)) l ≡ 0 → count (both (below n) q) l ≡ 0 → count q l ≡ 0
 count-below n q l a b = omega (arith, count-split q (below n) l, both-le (non (below n)) q l)
 
-module _ {shown : ℕ → Bool} {s p t map : List ℕ} {b : Bounds} {k lo size : ℕ} {axis : Bool}
-    (r : Searchable shown s p t map b k lo size axis) (some : size ≢ 0) where
+module _ {shown : ℕ → Bool} {s p q t map : List ℕ} {b : Bounds} {k lo size : ℕ} {axis : Bool}
+    (r : Searchable shown s p q t map b k lo size axis) (some : size ≢ 0) where
   -- ---- the root
 
   pub root-fits : {root : ℕ} → root ≡ entryAt t lo → (markSize * root + markSize ≤ length s) × (recordSize * root + recordSize ≤ length p) × (root / 8 < length map)
   root-fits i = omega (arith, r .below lo (omega arith))
+
+  pub root-popup : {root : ℕ} → root ≡ entryAt t lo → GoodPopup q root
+  root-popup i = rw i (r .popups (entryAt t lo) (r .below lo (omega arith)))
 
   pub all-marked : AllMarked s t
   all-marked i h = omega (arith, r .below i (omega arith))
@@ -154,10 +158,10 @@ module _ {shown : ℕ → Bool} {s p t map : List ℕ} {b : Bounds} {k lo size :
 
     -- `top` is the size, under which the call's own has to stay
     pub half-call : {top : ℕ} {after : List ℕ} → size ≡ top → length after ≡ length map
-        → (m < top) × Searchable shown s p t after b k (startOf left lo size) m (not axis)
+        → (m < top) × Searchable shown s p q t after b k (startOf left lo size) m (not axis)
     half-call {after = after} is long = (omega (arith, searched-most, half-smaller left), half-ready)
       where
-        half-ready : Searchable shown s p t after b k (startOf left lo size) m (not axis)
+        half-ready : Searchable shown s p q t after b k (startOf left lo size) m (not axis)
         half-ready =
             record {
               n = r .n;
@@ -167,6 +171,7 @@ module _ {shown : ℕ → Bool} {s p t map : List ℕ} {b : Bounds} {k lo size :
               room = omega (arith, r .room);
               tree = searched-tree;
               taken = r .taken;
+              popups = r .popups;
               lives = r .lives;
               held = r .held;
             }

@@ -12,16 +12,22 @@ use Rattle.lists.specs.TestLaws.{by-cases, and-left, and-right}
 use Rattle.numbers.specs.Little.{Bytes}
 use Rattle.marks.specs.Marks.{markSize, yOffset, xAt, yAt, shifted, usedAt, distance}
 use Rattle.marks.specs.Laws.{place-fits, distance-symmetric}
+use Rattle.elimination.specs.Records.{valueAt}
+use Rattle.zoom.specs.Living.{livesAt}
 use Rattle.index.specs.Index.{coordinate}
 use Rattle.turns.specs.declared.Place.{Place}
 use Rattle.turns.specs.Turns.{turnedPlace}
 use Rattle.turns.specs.Small.{UpTo, Within}
 use Rattle.turns.specs.Laws.{turned-0, turned-1, turned-2, turned-3, turned-four, turned-within}
 use Rattle.view.specs.declared.Window.{Window}
-use Rattle.view.specs.Shown.{above, gap, Rectangle, distanceSquared, diskReaches, placeAt, edgesOf, reaches, shown}
+use Rattle.view.specs.Shown.{above, gap, distanceSquared, diskReaches, placeAt, edgesOf, reaches, poppedUp, lives, shown}
 use Rattle.view.specs.Questions.{isEdge, IsEdge, question20, question11}
-use Rattle.view.specs.Turning.{cornerOf, lower, higher, lacking, turnedBack, Edged, gapHere, distanceHere, reachesHere, shownHere}
+use Rattle.view.specs.Turning.{cornerOf, lower, higher, lacking, turnedBack, Edged, gapHere, distanceHere, reachesHere, visibleHere, shownHere}
 use Rattle.view.specs.Lemmas.Edges.{edge-abs, abs-edge, edge-shifted, shifted-le, gap-here, neg-edge, place-edge}
+
+and-assoc : (a b c : Bool) → (a && b) && c ≡ a && (b && c)
+and-assoc true b c = refl
+and-assoc false b c = refl
 
 -- ---- negatives
 
@@ -174,6 +180,6 @@ module _ (w : Window) (taken : question20 w ≡ true) where
           (distance-back (placeAt s m) (place-edge (xAt s m) (place-fits s (markSize * m) bytes)) (place-edge (yAt s m) (place-fits s (markSize * m + yOffset) bytes)) (w .turn) turn-most)
 
       -- Who is shown in the window is who is shown in the window turned back.
-      pub shown-back : (p : List ℕ) → shown s p k w m ≡ shownHere s p k (turnedBack w) m
-      unfolding shown shownHere
-      shown-back p = rw reaches-back
+      pub shown-back : (p q : List ℕ) → shown s p q k w m ≡ shownHere s p q k (turnedBack w) m
+      unfolding shown lives shownHere visibleHere
+      shown-back p q = rw reaches-back (and-assoc (livesAt k (valueAt p m)) (poppedUp q k m) (reachesHere s k (turnedBack w) m))

@@ -22,6 +22,7 @@ use Rattle.bitmap.specs.Facts.{Shows, MapCleared, countBits}
 use Rattle.bitmap.specs.Laws.{map-same, count-same, map-is, cleared-bit, count-shown, count-bits-le}
 use Rattle.view.specs.View.{Viewable, Viewed}
 use Rattle.view.specs.declared.Bounds.{Bounds}
+use Rattle.marks.specs.PairLaws.{good-popup}
 use Rattle.view.specs.declared.Window.{Window}
 use Rattle.view.specs.Shown.{shown}
 use Rattle.view.specs.Questions.{question20, question11}
@@ -30,13 +31,13 @@ use Rattle.view.specs.Lemmas.Turned.{shown-back}
 use Rattle.view.specs.Search.{widestLiving, boundsOf, inByte, BitsSet, Searchable}
 use Rattle.view.specs.Lemmas.Reaching.{shown-lives, shown-within}
 
-module _ {s p t map : List ℕ} {n : ℕ} (v : Viewable s p t map n) where
+module _ {s p q t map : List ℕ} {n : ℕ} (v : Viewable s p q t map n) where
   few : n ≤ 65536
   few = omega arith
 
   -- `b` is what the code has worked out
   pub whole-searchable : {cleared : List ℕ} (k : ℕ) (e : Bounds) {b : Bounds} → length cleared ≡ length map → k ≤ largestScale
-      → b ≡ boundsOf e k (widestLiving s p k n) → Searchable (shownHere s p k e) s p t cleared b k 0 n true
+      → b ≡ boundsOf e k (widestLiving s p k n) → Searchable (shownHere s p q k e) s p q t cleared b k 0 n true
   whole-searchable k e long taken is =
       record {
         n = n;
@@ -46,8 +47,9 @@ module _ {s p t map : List ℕ} {n : ℕ} (v : Viewable s p t map n) where
         room = omega (arith, v .room);
         tree = block-tree s p n few t (v .index-right);
         taken = taken;
-        lives = shown-lives s p k e;
-        held = λ m h q axis. rw is (shown-within s p k e m n h q axis);
+        popups = λ m h. good-popup (v .popups) h;
+        lives = shown-lives s p q k e;
+        held = λ m h x axis. rw is (shown-within s p q k e m n h x axis);
       }
 
   -- ---- the map
@@ -96,9 +98,9 @@ viewed-same {p} {q} {n} h v =
     record { map-is = rw (← map-same p q n h) (v .map-is); count-is = v .count-is ∙ count-same p q n h }
 
 -- What is found in the window turned back is what is shown in the window.
-pub viewed-back : (s p : List ℕ) → Bytes s → (k : ℕ) {n : ℕ} (w : Window) {e : Bounds} → question20 w ≡ true → question11 w ≡ true → e ≡ turnedBack w
-    → {before after : List ℕ} {r : ℕ} → Viewed (shownHere s p k e) n before after r → Viewed (shown s p k w) n before after r
-viewed-back s p bytes k w taken order is v = viewed-same (λ m h. rw is (sym (shown-back w taken order s bytes k m p))) v
+pub viewed-back : (s p q : List ℕ) → Bytes s → (k : ℕ) {n : ℕ} (w : Window) {e : Bounds} → question20 w ≡ true → question11 w ≡ true → e ≡ turnedBack w
+    → {before after : List ℕ} {r : ℕ} → Viewed (shownHere s p q k e) n before after r → Viewed (shown s p q k w) n before after r
+viewed-back s p q bytes k w taken order is v = viewed-same (λ m h. rw is (sym (shown-back w taken order s bytes k m p q))) v
 
 -- the count of a map fits 32 bits
 pub count-fits : (map : List ℕ) {n r : ℕ} → n ≤ 4096 → r ≡ countBits (bitAt map) (8 * mapSize n) → r < 4294967296

@@ -2,11 +2,13 @@
 //! pairs.
 
 use oracle::contents::{contents_bytes, write_contents};
+use oracle::fraction::Fraction;
 use oracle::label::Label;
 use oracle::mark::{Mark, MARK_BYTES};
+use oracle::popup::pair_value;
 use oracle::rank::{Edition, RankKey};
 use oracle::record::{Record, RECORD_BYTES};
-use oracle::sheet::part_lengths;
+use oracle::sheet::{part_lengths, Rows};
 use oracle::tree::{write_number, Axis, INDEX_BYTES};
 use oracle::{ask, Refusal};
 
@@ -15,7 +17,8 @@ use super::index::{build, keys, Ordered};
 use super::sheet::open;
 use super::value::Value;
 
-/// A mark in rank order: its label, removal value, and who removes it.
+/// A mark in rank order: its label, removal value, and who removes it. Its popup stands in
+/// an array of its own: the inner loop seldom reads one.
 #[derive(Clone, Copy)]
 struct Row {
     label: Label,
@@ -23,7 +26,22 @@ struct Row {
     value: Value,
 }
 
-/// Two rows and their touching value.
+/// The popups of the rows, none of them where there is no part 5.
+#[derive(Default)]
+struct RowPopups(Vec<u32>);
+
+impl RowPopups {
+    /// The pair value of two rows with this touching value.
+    #[inline]
+    fn pair_value(&self, p: usize, q: usize, touching: Fraction) -> Fraction {
+        match self.0.as_slice() {
+            [] => touching,
+            popups => pair_value(touching, popups[p].max(popups[q])),
+        }
+    }
+}
+
+/// Two rows and their pair value.
 #[derive(Clone, Copy)]
 struct Pair {
     numerator: u64,
@@ -33,7 +51,7 @@ struct Pair {
 }
 
 impl Pair {
-    /// The touching value.
+    /// The pair value.
     #[inline]
     fn value(&self) -> Value {
         Value {
@@ -43,7 +61,7 @@ impl Pair {
     }
 }
 
-/// The best row found so far for another, and its touching value.
+/// The best row found so far for another, and their pair value.
 #[derive(Clone, Copy)]
 struct Candidate {
     value: Value,
@@ -56,14 +74,26 @@ impl Candidate {
         row: 0,
     };
 
-    /// This one, or a row that touches sooner, or at the same value and ranks higher, if
-    /// it is removed later than that.
+    /// Whether row q takes its place with this value: it is less, or equal and the row ranks
+    /// higher, and the row is removed later.
     #[inline]
-    fn or(self, rows: &[Row], q: usize, label: Label) -> Self {
-        let value = Value::from(label.touching_value(rows[q].label));
+    fn gives_way(self, rows: &[Row], q: usize, value: Value) -> bool {
         let sooner = self.value.later_than(value);
         let level = !sooner && !value.later_than(self.value);
-        if (sooner || level && q < self.row) && rows[q].value.later_than(value) {
+        (sooner || level && q < self.row) && rows[q].value.later_than(value)
+    }
+
+    /// This one, or row q, if it takes its place with its pair value with a label, which
+    /// `pair` gives for their touching value. Most rows do not even with the touching value,
+    /// which is no greater.
+    #[inline]
+    fn or(self, rows: &[Row], q: usize, label: Label, pair: impl Fn(Fraction) -> Fraction) -> Self {
+        let touching = label.touching_value(rows[q].label);
+        if !self.gives_way(rows, q, touching.into()) {
+            return self;
+        }
+        let value = pair(touching).into();
+        if self.gives_way(rows, q, value) {
             return Self { value, row: q };
         }
         self
@@ -80,6 +110,7 @@ const FEW: usize = 192;
 pub struct Desk {
     order: Vec<RankKey>,
     rows: Vec<Row>,
+    popups: RowPopups,
     grid: Grid,
     pairs: Vec<Pair>,
     ordered: Vec<Ordered>,
@@ -110,14 +141,24 @@ impl Desk {
         core: fn(&mut Self),
     ) -> Result<usize, Refusal> {
         let rows = open(sheet)?;
-        let (marks, part_4) = (rows.marks, rows.named.map(Edition::write));
+        let marks = rows.marks;
         let [length_1, length_2, length_3] = part_lengths(marks.len());
-        let parts = [(1, length_1), (2, length_2), (3, length_3), (4, 1)];
-        let parts = &parts[..3 + usize::from(part_4.is_some())];
+        let part_4 = rows.named.map(Edition::write);
+        let part_4 = part_4.as_ref().map(|part_4| part_4.as_slice());
+        let part_5 = rows.popups.map(|popups| popups.as_flattened());
+        let mut parts = [(1, length_1), (2, length_2), (3, length_3), (0, 0), (0, 0)];
+        let mut count = 3;
+        for (code, body) in [(4, part_4), (5, part_5)] {
+            if let Some(body) = body {
+                parts[count] = (code, body.len());
+                count += 1;
+            }
+        }
+        let parts = &parts[..count];
         let bodies: usize = parts.iter().map(|&(_, length)| length).sum();
         let written = contents_bytes(parts.len()) + bodies;
         ask(13, out.len() >= written)?;
-        self.lay_out(marks, rows.edition());
+        self.lay_out(&rows);
         core(self);
         write_contents(parts, out);
         let bodies = &mut out[contents_bytes(parts.len())..written];
@@ -127,37 +168,49 @@ impl Desk {
         part_1.copy_from_slice(marks.as_flattened());
         self.write_records(marks, part_2.as_chunks_mut().0);
         self.write_index(part_3.as_chunks_mut().0);
-        kept.copy_from_slice(part_4.as_ref().map_or(&[], |part_4| part_4));
+        let (named, popups) = kept.split_at_mut(part_4.map_or(0, <[u8]>::len));
+        named.copy_from_slice(part_4.unwrap_or_default());
+        popups.copy_from_slice(part_5.unwrap_or_default());
         Ok(written)
     }
 
     /// Sorts the marks by rank and lays out their rows.
-    fn lay_out(&mut self, marks: &[[u8; MARK_BYTES]], edition: Edition) {
-        let rank = |(m, mark)| RankKey::of(edition, &Mark::read(mark), m);
+    fn lay_out(&mut self, rows: &Rows) {
+        let mark = |m: usize| Mark::read(&rows.marks[m]);
+        let rank = |m| RankKey::of(rows.edition(), &mark(m), m);
         self.order.clear();
-        self.order.extend(marks.iter().enumerate().map(rank));
+        self.order.extend((0..rows.marks.len()).map(rank));
         self.order.sort_unstable();
         let row = |rank: &RankKey| Row {
-            label: Mark::read(&marks[rank.number()]).label(),
+            label: mark(rank.number()).label(),
             eliminator: 0,
             value: Value::NEVER,
         };
         self.rows.clear();
         self.rows.extend(self.order.iter().map(row));
+        let RowPopups(popups) = &mut self.popups;
+        popups.clear();
+        if rows.popups.is_some() {
+            popups.extend(self.order.iter().map(|rank| rows.popup(rank.number())));
+        }
     }
 
-    /// The rank-order core: each row goes at the least touching value with an earlier
-    /// one that is removed later; of equal values the earliest is taken.
+    /// The rank-order core: each row goes at the least pair value with an earlier one that
+    /// is removed later; of equal values the earliest is taken.
     fn settle(&mut self) {
         for p in 0..self.rows.len() {
             let (earlier, rest) = self.rows.split_at_mut(p);
             let row = &mut rest[0];
             let mut best = Value::NEVER;
             for (q, other) in earlier.iter().enumerate() {
-                let value = Value::from(row.label.touching_value(other.label));
-                if best.later_than(value) && other.value.later_than(value) {
-                    best = value;
-                    row.eliminator = q as u32;
+                let touching = row.label.touching_value(other.label);
+                let goes = |value| best.later_than(value) && other.value.later_than(value);
+                if goes(touching.into()) {
+                    let value = self.popups.pair_value(p, q, touching).into();
+                    if goes(value) {
+                        best = value;
+                        row.eliminator = q as u32;
+                    }
                 }
             }
             row.value = best;
@@ -184,13 +237,15 @@ impl Desk {
     /// are soon too far.
     fn search(&self, p: usize, label: Label, own: usize) -> Candidate {
         let (grid, rows) = (&self.grid, self.rows.as_slice());
-        if p < FEW || p < 2 * grid.count(own) {
-            return (0..p).fold(Candidate::NONE, |best, q| best.or(rows, q, label));
-        }
-        let scan = |best, cell| {
-            grid.rows(cell)
-                .fold(best, |best: Candidate, q| best.or(rows, q, label))
+        let or = |best: Candidate, q| {
+            best.or(rows, q, label, |touching| {
+                self.popups.pair_value(p, q, touching)
+            })
         };
+        if p < FEW || p < 2 * grid.count(own) {
+            return (0..p).fold(Candidate::NONE, or);
+        }
+        let scan = |best, cell| grid.rows(cell).fold(best, or);
         let others = Grid::cells().filter(|&cell| cell != own);
         others.fold(scan(Candidate::NONE, own), |best, cell| {
             if grid.may_hold(cell, label, best.value) {
@@ -207,7 +262,8 @@ impl Desk {
         self.pairs.clear();
         for (lower, row) in self.rows.iter().enumerate() {
             self.pairs.extend((0..lower).map(|higher| {
-                let value = row.label.touching_value(self.rows[higher].label);
+                let touching = row.label.touching_value(self.rows[higher].label);
+                let value = self.popups.pair_value(lower, higher, touching);
                 Pair {
                     numerator: value.numerator,
                     denominator: value.denominator,

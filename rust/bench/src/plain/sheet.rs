@@ -1,7 +1,9 @@
-//! Questions 1 to 9, and 19.
+//! Questions 1 to 9, 19 and 21.
 
 use oracle::contents::split;
-use oracle::mark::Mark;
+use oracle::mark::{touching_value, Mark};
+use oracle::popup::pair_value;
+use oracle::rank::RankKey;
 use oracle::record::Record;
 use oracle::sheet::{record_fits, Rows};
 use oracle::{ask, Refusal};
@@ -12,11 +14,18 @@ use super::index::Indexed;
 pub fn open(sheet: &[u8]) -> Result<Rows<'_>, Refusal> {
     let rows = Rows::of(&split(sheet)?)?;
     if let Some(records) = rows.records {
-        let n = rows.marks.len();
+        let (n, edition) = (rows.marks.len(), rows.edition());
         let mark = |m: usize| Mark::read(&rows.marks[m]);
+        let rank = |m| RankKey::of(edition, &mark(m), m);
+        let pair = |a, b| {
+            let touching = touching_value(&mark(a), &mark(b));
+            match rows.popups {
+                Some(_) => pair_value(touching, rows.popup(a).max(rows.popup(b))),
+                None => touching,
+            }
+        };
         let record = |m: usize| Record::read(&records[m]);
-        let fits = |m| record_fits(rows.edition(), m, n, mark, record);
-        ask(8, (0..n).all(fits))?;
+        ask(8, (0..n).all(|m| record_fits(m, n, rank, pair, record)))?;
     }
     if let Some(indexed) = Indexed::of(&rows) {
         ask(9, indexed.is_tree())?;

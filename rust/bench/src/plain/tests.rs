@@ -4,10 +4,12 @@
 use oracle::label::Label;
 use oracle::map::map_bytes;
 use oracle::mark::{write_marks, Mark};
+use oracle::popup::write_popups;
 use oracle::process::schedule_in_rank_order;
 use oracle::rank::Edition;
 use oracle::record::write_records;
-use oracle::sample::{marks, Generator, Shape};
+use oracle::reel::Reel;
+use oracle::sample::{marks, popups, Generator, Popups, Shape};
 use oracle::sheet::{check, join, join_parts, split};
 use oracle::tree;
 use oracle::view::{Edges, Window};
@@ -19,22 +21,24 @@ use super::view::{turned_back, view, walk};
 
 /// The sheet of one part with these marks, and the scheduled one.
 fn sheets(marks: &[Mark]) -> [Vec<u8>; 2] {
-    sheets_by(Edition::First, marks)
+    sheets_of(Edition::First.reel(marks))
 }
 
-/// The same in an edition, which no part 4 names.
-fn sheets_by(edition: Edition, marks: &[Mark]) -> [Vec<u8>; 2] {
-    let records = schedule_in_rank_order(edition.reel(marks));
-    let (part_1, part_2) = (write_marks(marks), write_records(&records));
-    let part_3 = tree::write_tree(&tree::build(marks, &records));
+/// The sheets of a reel's marks without parts beyond 3.
+fn sheets_of(reel: Reel) -> [Vec<u8>; 2] {
+    let records = schedule_in_rank_order(reel);
+    let (part_1, part_2) = (write_marks(reel.marks), write_records(&records));
+    let part_3 = tree::write_tree(&tree::build(reel.marks, &records));
     [join(&[&part_1]), join(&[&part_1, &part_2, &part_3])]
 }
 
-/// The same with a part 4 that names the edition.
-fn named_sheets(edition: Edition, marks: &[Mark]) -> [Vec<u8>; 2] {
-    sheets_by(edition, marks).map(|sheet| {
-        let (mut parts, part_4) = (split(&sheet).unwrap().present(), edition.write());
+/// The same with a part 4 that names the edition, and a part 5 where the reel has popups.
+fn whole_sheets(reel: Reel) -> [Vec<u8>; 2] {
+    let (part_4, part_5) = (reel.edition.write(), reel.popups.map(write_popups));
+    sheets_of(reel).map(|sheet| {
+        let mut parts = split(&sheet).unwrap().present();
         parts.push((4, &part_4));
+        parts.extend(part_5.as_ref().map(|part_5| (5, part_5.as_slice())));
         join_parts(&parts)
     })
 }
@@ -48,13 +52,19 @@ fn every_core_writes_the_scheduled_sheet() {
     ];
     let mut desk = Desk::default();
     for shape in Shape::ALL {
-        for n in [0, 1, 2, 9, 64, 255, 256, 700] {
+        for n in [0, 1, 2, 9, 64, 255, 256, 500] {
             let mut sample = marks(shape, n, n as u64);
-            let bare = sheets(&sample);
+            let mut all = vec![sheets(&sample)];
             sample.iter_mut().for_each(|mark| mark.priority &= 1);
-            let [first, second] = Edition::ALL.map(|edition| named_sheets(edition, &sample));
-            for ([sheet, expected], core) in [&bare, &first, &second]
-                .into_iter()
+            all.extend(Edition::ALL.map(|edition| whole_sheets(edition.reel(&sample))));
+            for how in Popups::ALL {
+                let popups = popups(how, &sample, 1);
+                all.push(whole_sheets(
+                    Edition::Second.reel(&sample).with_popups(&popups),
+                ));
+            }
+            for ([sheet, expected], core) in all
+                .iter()
                 .flat_map(|sheets| cores.map(|core| (sheets, core)))
             {
                 let mut out = vec![0xee; expected.len() + 1];
@@ -78,8 +88,11 @@ fn opened(sheet: &[u8]) -> u32 {
 fn sheets_with_a_byte_changed_or_cut_short_are_refused_by_the_same_question() {
     for shape in Shape::ALL {
         let sample = marks(shape, 6, 3);
-        let named = Edition::ALL.map(|edition| named_sheets(edition, &sample));
-        for mut sheet in sheets(&sample).into_iter().chain(named.concat()) {
+        let popups = popups(Popups::Touching, &sample, 3);
+        let named = Edition::ALL.map(|edition| whole_sheets(edition.reel(&sample)));
+        let popping_up = whole_sheets(Edition::First.reel(&sample).with_popups(&popups));
+        let others = named.concat().into_iter().chain(popping_up);
+        for mut sheet in sheets(&sample).into_iter().chain(others) {
             assert_eq!(opened(&sheet), 0);
             for at in 0..sheet.len() {
                 let own = sheet[at];
@@ -140,6 +153,11 @@ fn views_show_what_looking_at_every_mark_shows() {
     {
         let sample = marks(shape, n, 6);
         let [bare, sheet] = sheets(&sample);
+        let drawn = [Popups::Any, Popups::Few].map(|how| popups(how, &sample, 6));
+        let popping_up = drawn.map(|popups| {
+            let [_, sheet] = whole_sheets(Edition::First.reel(&sample).with_popups(&popups));
+            sheet
+        });
         let compare = |sheet: &[u8], window, stop| {
             let zoom = Zoom::Stop(stop);
             let mut map = vec![0xee; map_bytes(n)];
@@ -153,9 +171,11 @@ fn views_show_what_looking_at_every_mark_shows() {
         };
         for stop in 0..=17 {
             compare(&bare, Window::WHOLE, stop);
-            compare(&sheet, Window::WHOLE, stop);
-            for _ in 0..50 {
-                compare(&sheet, some_window(&mut generator, &sample, stop), stop);
+            for sheet in [&sheet].into_iter().chain(&popping_up) {
+                compare(sheet, Window::WHOLE, stop);
+                for _ in 0..30 {
+                    compare(sheet, some_window(&mut generator, &sample, stop), stop);
+                }
             }
         }
     }

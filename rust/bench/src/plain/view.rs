@@ -4,7 +4,7 @@ use oracle::map::{map_bytes, set_bit};
 use oracle::tree::{branches, Axis};
 use oracle::turn::turned;
 use oracle::view::{ask_view, disk_reaches, Edges, Window};
-use oracle::zoom::{lives, Zoom};
+use oracle::zoom::{lives, remains, Zoom};
 use oracle::{ask, Refusal};
 
 use super::index::{number, Block, Indexed};
@@ -58,9 +58,9 @@ struct Search<'a> {
 }
 
 impl<'a> Search<'a> {
-    /// The search with the rectangle widened by the widest disk that lives.
+    /// The search with the rectangle widened by the widest disk that is not removed.
     fn new(indexed: Indexed<'a>, edges: Edges, k: u32) -> Self {
-        let by = (u64::from(k) * u64::from(widest_living(&indexed, k)) / 64) as i32;
+        let by = (u64::from(k) * u64::from(widest_remaining(&indexed, k)) / 64) as i32;
         Self {
             indexed,
             edges,
@@ -70,18 +70,21 @@ impl<'a> Search<'a> {
         }
     }
 
-    /// Sets the bits of a block's shown marks, and answers how many they are.
+    /// Sets the bits of a block's shown marks, and answers how many they are. Where the root
+    /// is removed, all of the block are; where it has not popped up, others may have.
     fn block(&self, block: &Block, axis: Axis, map: &mut [u8]) -> u32 {
         let Some((root, left, right)) = branches(block) else {
             return 0;
         };
         let root = number(root);
-        if !lives(self.indexed.removal(root), self.k) {
+        let removal = self.indexed.removal(root);
+        if !remains(removal, self.k) {
             return 0;
         }
-        let reached = disk_reaches(self.indexed.mark(root).label(), self.edges, self.k);
-        set_bit(map, root, reached);
-        let mut count = u32::from(reached);
+        let shown = lives(self.indexed.popup(root), removal, self.k)
+            && disk_reaches(self.indexed.mark(root).label(), self.edges, self.k);
+        set_bit(map, root, shown);
+        let mut count = u32::from(shown);
         for half in self.halves(left, right, axis) {
             count += self.block(half, axis.next(), map);
         }
@@ -93,7 +96,7 @@ impl<'a> Search<'a> {
         let Some((root, left, right)) = branches(block) else {
             return 0;
         };
-        if !lives(self.indexed.removal(number(root)), self.k) {
+        if !remains(self.indexed.removal(number(root)), self.k) {
             return 1;
         }
         let halves = self.halves(left, right, axis).into_iter();
@@ -119,11 +122,11 @@ impl<'a> Search<'a> {
     }
 }
 
-/// The greatest used radius of the marks that live.
-fn widest_living(indexed: &Indexed, k: u32) -> u32 {
+/// The greatest used radius of the marks that are not removed.
+fn widest_remaining(indexed: &Indexed, k: u32) -> u32 {
     (0..indexed.index.len()).fold(0, |widest, m| {
         let radius = indexed.mark(m).label().radius;
-        if radius > widest && lives(indexed.removal(m), k) {
+        if radius > widest && remains(indexed.removal(m), k) {
             radius
         } else {
             widest

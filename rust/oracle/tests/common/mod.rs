@@ -4,18 +4,30 @@
 #![allow(dead_code)]
 
 use oracle::mark::{write_marks, Mark};
+use oracle::popup::write_popups;
+use oracle::process::schedule_in_rank_order;
 use oracle::rank::Edition;
 use oracle::record::{write_records, Record};
+use oracle::reel::Reel;
+use oracle::sample::{marks, popups, Popups, Shape};
 use oracle::sheet::{join, join_parts, schedule, split};
 use oracle::tree;
 
 /// The largest work and written buffers that scheduling asks for, the latter without
-/// part 4.
+/// parts 4 and 5.
 pub const WORK: usize = 32 * 4_096 + 1_024;
 pub const OUT: usize = 32 + 27 * 4_096;
 
 /// What part 4 adds to a sheet.
 pub const EDITION: usize = 11;
+
+/// What part 5 adds to a sheet of n marks.
+pub const fn popup_bytes(n: usize) -> usize {
+    10 + 4 * n
+}
+
+/// The largest written buffer that scheduling asks for.
+pub const LONGEST: usize = OUT + EDITION + popup_bytes(4_096);
 
 /// The sheet of one part with these marks.
 pub fn one_part(marks: &[Mark]) -> Vec<u8> {
@@ -36,11 +48,17 @@ pub fn with_tree(marks: &[Mark], records: &[Record], tree: &[u16]) -> Vec<u8> {
     ])
 }
 
-/// The sheet with this part 4 behind its own parts, of which it is none.
-pub fn with_part_4(sheet: &[u8], part_4: &[u8]) -> Vec<u8> {
+/// The sheet with this part in its place by its code, of which it has none.
+pub fn with_part(sheet: &[u8], code: u16, body: &[u8]) -> Vec<u8> {
     let mut parts = split(sheet).unwrap().present();
-    parts.push((4, part_4));
+    parts.push((code, body));
+    parts.sort_unstable_by_key(|&(code, _)| code);
     join_parts(&parts)
+}
+
+/// The sheet with this part 4.
+pub fn with_part_4(sheet: &[u8], part_4: &[u8]) -> Vec<u8> {
+    with_part(sheet, 4, part_4)
 }
 
 /// The sheet with an edition named in part 4.
@@ -48,9 +66,14 @@ pub fn with_edition(sheet: &[u8], edition: Edition) -> Vec<u8> {
     with_part_4(sheet, &edition.write())
 }
 
+/// The sheet with these popups in part 5.
+pub fn with_popups(sheet: &[u8], popups: &[u32]) -> Vec<u8> {
+    with_part(sheet, 5, &write_popups(popups))
+}
+
 /// The sheet that scheduling a sheet writes.
 pub fn schedule_large(sheet: &[u8]) -> Result<Vec<u8>, u32> {
-    schedule(sheet, WORK, OUT + EDITION)
+    schedule(sheet, WORK, LONGEST)
 }
 
 /// The sheet of three parts that scheduling these marks writes.
@@ -61,4 +84,30 @@ pub fn scheduled(marks: &[Mark]) -> Vec<u8> {
 /// The sheet of four parts that scheduling these marks by an edition writes.
 pub fn scheduled_by(edition: Edition, marks: &[Mark]) -> Vec<u8> {
     schedule_large(&with_edition(&one_part(marks), edition)).unwrap()
+}
+
+/// The sheet of four parts that scheduling these marks with these popups writes.
+pub fn scheduled_popping_up(marks: &[Mark], popups: &[u32]) -> Vec<u8> {
+    schedule_large(&with_popups(&one_part(marks), popups)).unwrap()
+}
+
+/// The sheet of five parts that a reel with popups and its edition give, in the order of
+/// rank.
+pub fn five_parts(reel: Reel) -> Vec<u8> {
+    let sheet = three_parts(reel.marks, &schedule_in_rank_order(reel));
+    let named = with_edition(&sheet, reel.edition);
+    with_popups(&named, reel.popups.expect("the reel has popups"))
+}
+
+/// Calls `visit` with samples of every shape and of these numbers of marks, which pop up in
+/// every way.
+pub fn each_popping_up(numbers: &[usize], mut visit: impl FnMut(&[Mark], &[u32])) {
+    for shape in Shape::ALL {
+        for (seed, &n) in (1..).zip(numbers) {
+            let sample = marks(shape, n, seed);
+            for how in Popups::ALL {
+                visit(&sample, &popups(how, &sample, seed));
+            }
+        }
+    }
 }

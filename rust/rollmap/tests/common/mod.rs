@@ -10,13 +10,18 @@ use std::collections::BTreeMap;
 use oracle::contents::Part;
 use oracle::fraction::Fraction;
 use oracle::mark::{touching_value, write_marks, Mark};
+use oracle::popup::write_popups;
 use oracle::process::schedule_in_rank_order;
-use oracle::rank::{Edition, Reel};
+use oracle::rank::Edition;
 use oracle::record::{write_records, Record};
-use oracle::sample::{marks, Generator, Shape, CODES_TAKEN};
+use oracle::reel::Reel;
+use oracle::sample::{marks, popups, Generator, Popups, Shape, CODES_TAKEN};
 use oracle::sheet::{join, join_parts, split, Opened};
 use oracle::tree;
-use rollmap::{scheduled_bytes, work_bytes, Code, Refusal, Work, EDITION_BYTES, MARK_BYTES};
+use rollmap::{
+    popups_bytes, scheduled_bytes, work_bytes, Code, Refusal, Work, EDITION_BYTES, MARK_BYTES,
+    POPUP_BYTES,
+};
 
 /// The program, as `rt check schedule` builds it.
 pub const PROGRAM: &str = concat!(env!("CARGO_MANIFEST_DIR"), "/../../target/bin/schedule");
@@ -177,15 +182,17 @@ pub fn schedule_in(
     out.assert_answered(&answer, expected)
 }
 
-/// The lengths of work and out that scheduling n marks asks for, with part 4 or without.
-pub fn lengths_with(named: bool, n: usize) -> [usize; 2] {
-    let kept = if named { EDITION_BYTES } else { 0 };
-    [work_bytes(n), scheduled_bytes(n) + kept]
+/// The lengths of work and out that scheduling n marks asks for, where a sheet has no part
+/// beyond 3.
+pub fn lengths(n: usize) -> [usize; 2] {
+    [work_bytes(n), scheduled_bytes(n)]
 }
 
 /// Buffers that are long enough for any sheet.
 pub fn longest() -> [usize; 2] {
-    lengths_with(true, rollmap::MOST_MARKS)
+    let n = rollmap::MOST_MARKS;
+    let [work, out] = lengths(n);
+    [work, out + EDITION_BYTES + popups_bytes(n)]
 }
 
 /// A length near the one that is needed.
@@ -247,33 +254,135 @@ pub fn scheduled(marks: &[Mark]) -> Vec<u8> {
     three_parts(marks, &our_records(marks))
 }
 
-/// What a part 4 may say: nothing, where it is not there, or an edition.
-pub const NAMED: [Option<Edition>; 3] = [None, Some(Edition::First), Some(Edition::Second)];
-
-/// The sheet with this part 4 behind its own parts, of which it is none.
-pub fn with_part_4(sheet: &[u8], part_4: &[u8]) -> Vec<u8> {
+/// The sheet with this part in its place by its code, of which it has none.
+pub fn with_part(sheet: &[u8], code: u16, body: &[u8]) -> Vec<u8> {
     let mut parts = split(sheet).expect("its parts are joined").present();
-    parts.push((4, part_4));
+    parts.push((code, body));
+    parts.sort_unstable_by_key(|&(code, _)| code);
     join_parts(&parts)
 }
 
+/// The sheet with this part 4.
+pub fn with_part_4(sheet: &[u8], part_4: &[u8]) -> Vec<u8> {
+    with_part(sheet, 4, part_4)
+}
+
+/// The sheet with these popups in part 5.
+pub fn with_popups(sheet: &[u8], popups: &[u32]) -> Vec<u8> {
+    with_part(sheet, 5, &write_popups(popups))
+}
+
+/// What a part 4 may say: nothing, where it is not there, or an edition.
+pub const NAMED: [Option<Edition>; 3] = [None, Some(Edition::First), Some(Edition::Second)];
+
 /// The sheet with a part 4 that names this edition, if there is one.
 pub fn with_named(sheet: Vec<u8>, named: Option<Edition>) -> Vec<u8> {
-    match named {
-        Some(edition) => with_part_4(&sheet, &edition.write()),
-        None => sheet,
-    }
+    Beyond::named(named).put_behind(sheet)
 }
 
 /// The sheet that scheduling these marks with such a part 4 writes.
 pub fn scheduled_with(named: Option<Edition>, marks: &[Mark]) -> Vec<u8> {
-    let reel = named.unwrap_or_default().reel(marks);
-    with_named(three_parts(marks, &schedule_in_rank_order(reel)), named)
+    Beyond::named(named).scheduled(marks)
 }
 
-/// The edition that a sheet's part 4 names, where it is there.
-pub fn named_in(opened: &Opened) -> Option<Edition> {
-    opened.bodies.get(4).map(|_| opened.edition)
+/// What a sheet has beyond part 3: an edition, where part 4 names one, and popups, where
+/// there is a part 5.
+#[derive(Clone, Debug, Default, PartialEq, Eq)]
+pub struct Beyond {
+    pub named: Option<Edition>,
+    pub popups: Option<Vec<u32>>,
+}
+
+impl Beyond {
+    /// Such a part 4, and no part 5.
+    pub fn named(named: Option<Edition>) -> Self {
+        Self {
+            named,
+            popups: None,
+        }
+    }
+
+    /// These popups, and no part 4.
+    pub fn popping_up(popups: Vec<u32>) -> Self {
+        Self {
+            named: None,
+            popups: Some(popups),
+        }
+    }
+
+    /// What an accepted sheet has.
+    pub fn of(opened: &Opened) -> Self {
+        Self {
+            named: opened.bodies.get(4).map(|_| opened.edition),
+            popups: opened.popups.clone(),
+        }
+    }
+
+    /// Some parts for these marks.
+    pub fn draw(generator: &mut Generator, marks: &[Mark]) -> Self {
+        let drawn = popups(generator.choose(&Popups::ALL), marks, generator.draw());
+        Self {
+            named: generator.choose(&NAMED),
+            popups: (generator.below(3) > 0).then_some(drawn),
+        }
+    }
+
+    /// These marks as the parts have them.
+    pub fn reel<'a>(&'a self, marks: &'a [Mark]) -> Reel<'a> {
+        Reel {
+            marks,
+            edition: self.named.unwrap_or_default(),
+            popups: self.popups.as_deref(),
+        }
+    }
+
+    /// The sheet with these parts behind its own, of which none is beyond 3.
+    pub fn put_behind(&self, sheet: Vec<u8>) -> Vec<u8> {
+        let named = match self.named {
+            Some(edition) => with_part_4(&sheet, &edition.write()),
+            None => sheet,
+        };
+        match &self.popups {
+            Some(popups) => with_popups(&named, popups),
+            None => named,
+        }
+    }
+
+    /// The sheet of these marks alone, with the parts.
+    pub fn bare(&self, marks: &[Mark]) -> Vec<u8> {
+        self.put_behind(one_part(marks))
+    }
+
+    /// The sheet of these marks and records, with the parts.
+    pub fn with_records(&self, marks: &[Mark], records: &[Record]) -> Vec<u8> {
+        self.put_behind(three_parts(marks, records))
+    }
+
+    /// The sheet that scheduling these marks with the parts writes.
+    pub fn scheduled(&self, marks: &[Mark]) -> Vec<u8> {
+        self.with_records(marks, &schedule_in_rank_order(self.reel(marks)))
+    }
+
+    /// The lengths of work and out that scheduling n marks with the parts asks for.
+    pub fn lengths(&self, n: usize) -> [usize; 2] {
+        let [work, mut out] = lengths(n);
+        out += self.named.map_or(0, |_| EDITION_BYTES);
+        out += self.popups.as_ref().map_or(0, |_| popups_bytes(n));
+        [work, out]
+    }
+}
+
+/// The sheet of these codes, which question 2 takes, that scheduling these marks gives: by
+/// the first edition and these popups, where the sheet has part 4 and part 5.
+pub fn scheduled_of(codes: &[u16], marks: &[Mark], popups: &[u32]) -> Vec<u8> {
+    let beyond = Beyond {
+        named: codes.contains(&4).then_some(Edition::First),
+        popups: codes.contains(&5).then(|| popups.to_vec()),
+    };
+    let whole = beyond.scheduled(marks);
+    let mut parts = split(&whole).expect("its parts are joined").present();
+    parts.retain(|(code, _)| codes.contains(code));
+    join_parts(&parts)
 }
 
 /// Records that question 8 takes and that are most likely not ours: each mark
@@ -283,7 +392,7 @@ pub fn foreign_records(generator: &mut Generator, reel: Reel) -> Vec<Record> {
     let mut records = vec![Record::NEVER; ranked.len()];
     for place in 1..ranked.len() {
         let other = ranked[generator.below(place as u32) as usize];
-        let value = reel.touching_value(other, ranked[place]);
+        let value = reel.pair_value(other, ranked[place]);
         if records[other].removal().later_than(value) && generator.below(8) > 0 {
             records[ranked[place]] = Record::removed(other, value);
         }
@@ -344,20 +453,24 @@ pub fn rivals(generator: &mut Generator, n: usize) -> Vec<Mark> {
 // ---- damaged sheets
 
 /// A record that is not the mark's own: one that nearly fits, or nonsense.
-pub fn another_record(generator: &mut Generator, marks: &[Mark], own: Record) -> Record {
+pub fn another_record(generator: &mut Generator, reel: Reel, own: Record) -> Record {
     let mut changed = own;
-    let other = generator.below(marks.len() as u32 + 1) as usize;
-    let mark = generator.below(marks.len() as u32) as usize;
-    match generator.below(8) {
+    let (marks, n) = (reel.marks, reel.marks.len() as u32);
+    let other = generator.below(n + 1) as usize;
+    let mark = generator.below(n) as usize;
+    match generator.below(9) {
         0 => changed = Record::NEVER,
         1 if other < marks.len() => {
+            changed = Record::removed(other, reel.pair_value(other, mark));
+        }
+        2 if other < marks.len() => {
             changed = Record::removed(other, touching_value(&marks[other], &marks[mark]));
         }
-        2 => changed.value = reduced(own.value),
-        3 => changed.value = scaled(generator, own.value),
-        4 => changed.eliminator = other as u16,
-        5 => changed.value.numerator = odd_number(generator, own.value.numerator),
-        6 => {
+        3 => changed.value = reduced(own.value),
+        4 => changed.value = scaled(generator, own.value),
+        5 => changed.eliminator = other as u16,
+        6 => changed.value.numerator = odd_number(generator, own.value.numerator),
+        7 => {
             let odd = odd_number(generator, u64::from(own.value.denominator));
             changed.value.denominator = odd as u32;
         }
@@ -406,8 +519,11 @@ pub fn odd_number(generator: &mut Generator, own: u64) -> u64 {
 /// the sheet has.
 pub struct SomeBodies {
     pub codes: &'static [u16],
-    pub bodies: [Vec<u8>; 4],
+    pub bodies: [Vec<u8>; 5],
 }
+
+/// The codes of a sheet that has an index.
+const INDEXED: [&[u16]; 4] = [&[1, 2, 3], &[1, 2, 3, 4], &[1, 2, 3, 5], &[1, 2, 3, 4, 5]];
 
 impl SomeBodies {
     /// Bodies with none, one or two faults.
@@ -419,19 +535,25 @@ impl SomeBodies {
             }
             _ => some_marks(generator),
         };
-        let [one, two, named, three, two_named, four] = CODES_TAKEN;
-        let codes = generator.choose(&[one, two, named, three, three, two_named, four, four]);
-        let mut edition = Edition::First;
-        if codes.contains(&4) {
-            edition = generator.choose(&Edition::ALL);
-        }
-        let mut records = some_records(generator, edition.reel(&marks));
+        let codes = match generator.below(3) {
+            0 => generator.choose(&CODES_TAKEN),
+            _ => generator.choose(&INDEXED),
+        };
+        let drawn = popups(generator.choose(&Popups::ALL), &marks, generator.draw());
+        let beyond = Beyond {
+            named: codes.contains(&4).then(|| generator.choose(&Edition::ALL)),
+            popups: codes.contains(&5).then_some(drawn),
+        };
+        let reel = beyond.reel(&marks);
+        let mut records = some_records(generator, reel);
         if !marks.is_empty() && generator.below(3) == 0 {
             let at = generator.below(marks.len() as u32) as usize;
-            records[at] = another_record(generator, &marks, records[at]);
+            records[at] = another_record(generator, reel, records[at]);
         }
         let [part_1, part_2, part_3] = bodies_of(&marks, &records);
-        let mut bodies = [part_1, part_2, part_3, edition.write().to_vec()];
+        let part_4 = reel.edition.write().to_vec();
+        let part_5 = write_popups(reel.popups.unwrap_or_default());
+        let mut bodies = [part_1, part_2, part_3, part_4, part_5];
         for _ in 0..generator.choose(&[0, 0, 1, 1, 2]) {
             damage_body(generator, &mut bodies);
         }
@@ -460,6 +582,9 @@ pub fn code(number: u16) -> Code {
 
 /// Bytes of a mark by which its radius or its kind is refused.
 pub const FAULTS_OF_A_MARK: [(usize, u8); 4] = [(5, 0x40), (5, 0xff), (8, 200), (8, 255)];
+
+/// Bytes of a popup by which it is refused, whatever its other bytes are.
+pub const FAULTS_OF_A_POPUP: [(usize, u8); 4] = [(2, 2), (2, 255), (3, 1), (3, 128)];
 
 /// Puts a fault into rows of some width, most often: into their length, a field of one of
 /// them, or any bit.
@@ -490,21 +615,24 @@ fn put_fault(generator: &mut Generator, rows: &mut [u8], width: usize, faults: &
 }
 
 /// Puts one fault into one of the bodies.
-fn damage_body(generator: &mut Generator, bodies: &mut [Vec<u8>; 4]) {
-    let body = generator.choose(&[0, 1, 2, 2, 3, 3]);
+fn damage_body(generator: &mut Generator, bodies: &mut [Vec<u8>; 5]) {
+    let body = generator.choose(&[0, 1, 2, 2, 3, 3, 4, 4]);
     let length = bodies[body].len();
-    match generator.below(7) {
+    match generator.below(8) {
         0 => {
-            let longer = length + generator.choose(&[1, 2, 11, 14]);
+            let longer = length + generator.choose(&[1, 2, 4, 11, 14]);
             bodies[body].resize(longer, 0);
         }
-        1 => bodies[body].truncate(length.saturating_sub(generator.choose(&[1, 2, 11, 14]))),
+        1 => bodies[body].truncate(length.saturating_sub(generator.choose(&[1, 2, 4, 11, 14]))),
         2 | 3 if length > 0 => {
             let at = generator.below(length as u32) as usize;
             bodies[body][at] = generator.choose(&[0, 1, 2, 3, 64, 199, 200, 255]);
         }
         4 if bodies[0].len() >= MARK_BYTES => {
             put_fault(generator, &mut bodies[0], MARK_BYTES, &FAULTS_OF_A_MARK);
+        }
+        5 if bodies[4].len() >= POPUP_BYTES => {
+            put_fault(generator, &mut bodies[4], POPUP_BYTES, &FAULTS_OF_A_POPUP);
         }
         _ => damage_tree(generator, &mut bodies[2]),
     }
@@ -533,8 +661,8 @@ pub fn some_sheet(generator: &mut Generator) -> Vec<u8> {
         0 => sheet.truncate(generator.below(sheet.len() as u32) as usize),
         1 => sheet.extend(vec![0; 1 + generator.below(20) as usize]),
         2 => {
-            let at = generator.below(42.min(sheet.len() as u32)) as usize;
-            sheet[at] = generator.choose(&[0, 1, 2, 3, 4, 5, 12, 22, 32, 42, 128, 255]);
+            let at = generator.below(52.min(sheet.len() as u32)) as usize;
+            sheet[at] = generator.choose(&[0, 1, 2, 3, 4, 5, 6, 12, 22, 32, 42, 52, 128, 255]);
         }
         3 => {
             let at = generator.below(sheet.len() as u32) as usize;

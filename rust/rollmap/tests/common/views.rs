@@ -7,12 +7,22 @@ use oracle::record::{removals, Record};
 use oracle::sample::Generator;
 use oracle::view::{map_and_count, Edges, Window};
 use oracle::zoom::{removal_zoom_in_64ths, zoom_in_64ths};
-use rollmap::{Turn, View, Zoom, FARTHEST_EDGE};
+use rollmap::{Code, Turn, View, Zoom, FARTHEST_EDGE};
 
-use super::{number, three_parts, Lent};
+use super::{number, Beyond, Lent};
 
 /// All places at stop 0, without a turn.
 pub const WHOLE: View = View::whole(Zoom::Stop(0));
+
+/// Sees that two sheets have the same bytes under these codes, and show the same of all
+/// places.
+pub fn assert_alike(one: &[u8], other: &[u8], codes: &[Code], zoom: Zoom) {
+    for &code in codes {
+        assert_eq!(rollmap::part(one, code), rollmap::part(other, code));
+    }
+    let shown = |sheet| rollmap::view_to_map(sheet, View::whole(zoom));
+    assert_eq!(shown(one), shown(other));
+}
 
 // ---- what the oracle answers
 
@@ -73,37 +83,61 @@ pub fn view(sheet: &[u8], view: View, map_length: usize) -> u32 {
     assert_view(sheet, view, map_length, &expected)
 }
 
-/// A sheet of three parts, and what it says, so that larger ones need not be opened
+/// A sheet with parts 2 and 3, and what it says, so that larger ones need not be opened
 /// for each view.
 pub struct Scheduled {
     pub sheet: Vec<u8>,
     pub marks: Vec<Mark>,
     pub removals: Vec<Removal>,
+    pub beyond: Beyond,
 }
 
 impl Scheduled {
+    /// The sheet of three parts with these marks and records.
     pub fn new(marks: Vec<Mark>, records: &[Record]) -> Self {
+        Self::with(Beyond::default(), marks, records)
+    }
+
+    /// The sheet with these marks and records, and these parts beyond 3.
+    pub fn with(beyond: Beyond, marks: Vec<Mark>, records: &[Record]) -> Self {
         Self {
-            sheet: three_parts(&marks, records),
+            sheet: beyond.with_records(&marks, records),
             removals: removals(records),
             marks,
+            beyond,
         }
     }
 
     /// The map and the count of a view that is taken.
     pub fn expected(&self, view: View) -> (Vec<u8>, u32) {
-        let k = in_64ths(view.zoom);
-        map_and_count(&self.marks, &self.removals, window(view), k)
+        let reel = self.beyond.reel(&self.marks);
+        map_and_count(reel, &self.removals, window(view), in_64ths(view.zoom))
     }
 
     /// Some view of it with this turn that is taken.
     pub fn some_view(&self, generator: &mut Generator, turn: Turn) -> View {
-        let zoom = some_zoom(generator, &self.removals);
+        let zoom = self.some_zoom(generator);
         let k = in_64ths(zoom);
         View {
             zoom,
             ..some_window(generator, &self.marks, turn, k)
         }
+    }
+
+    /// Some zoom, or one about which a mark goes or pops up.
+    fn some_zoom(&self, generator: &mut Generator) -> Zoom {
+        if self.marks.is_empty() {
+            return some_zoom(generator);
+        }
+        let m = generator.below(self.marks.len() as u32) as usize;
+        let k = match (generator.below(4), self.removals[m], &self.beyond.popups) {
+            (0, Removal::At(value), _) => removal_zoom_in_64ths(value),
+            (1, _, Some(popups)) => popups[m].into(),
+            (1, Removal::At(value), None) => removal_zoom_in_64ths(value),
+            _ => return some_zoom(generator),
+        };
+        let near = (k + u64::from(generator.below(3))).saturating_sub(1);
+        wheel(near.clamp(1, 65_536) as u32)
     }
 
     /// Answers a view that is taken, as looking at every mark does. Answers the count.
@@ -207,16 +241,9 @@ pub fn touches(mark: &Mark, view: View, k: u32) -> bool {
 
 // ---- zooms
 
-/// A zoom: a stop, any wheel value that is taken, or one about which a mark goes.
-pub fn some_zoom(generator: &mut Generator, removals: &[Removal]) -> Zoom {
-    let choice = generator.below(4);
-    if let (2.., false) = (choice, removals.is_empty()) {
-        if let Removal::At(value) = generator.choose(removals) {
-            let k = removal_zoom_in_64ths(value) + u64::from(generator.below(3));
-            return wheel(k.saturating_sub(1).clamp(1, 65_536) as u32);
-        }
-    }
-    match choice {
+/// A zoom that is taken: a stop, or any wheel value.
+pub fn some_zoom(generator: &mut Generator) -> Zoom {
+    match generator.below(3) {
         0 => Zoom::Stop(generator.below(17) as u8),
         _ => wheel(1 + (generator.below(65_536) >> generator.below(16))),
     }
