@@ -286,14 +286,17 @@ pub fn pair_of(f: Fraction, k: u32) -> Fraction
     }
 }
 
-// The pair value of marks a and b. Part 5 is empty where it is not there.
+// The pair value of marks a and b. Part 5 is empty where it is not there, and then it is the touching value.
 pub fn pair(s: &[u8], popups: &[u8], a: usize, b: usize) -> Fraction
     requires { ⌜ (markSize * a + markSize ≤ length (now s)) × (markSize * b + markSize ≤ length (now s)) ⌝ }
     requires { ⌜ (usedAt (now s) a ≤ 16383) × (usedAt (now s) b ≤ 16383) × GoodPopup (now popups) a × GoodPopup (now popups) b ⌝ }
     ensures { λ r. ⌜ r ≡ pairValue (now (s .entry)) (now (popups .entry)) a b ⌝ }
 {
-    let k = larger(popup_at(popups, a), popup_at(popups, b));
-    pair_of(touching(s, a, b), k)
+    let touch = touching(s, a, b);
+    if popups.len() == 0 {
+        return touch;
+    }
+    pair_of(touch, larger(popup_at(popups, a), popup_at(popups, b)))
 }
 
 // ---- rank

@@ -37,7 +37,7 @@ not-less {f} {g} e l = true≢false (sym (less-iff f g .1 l) ∙ e)
 at-most : {f g : Fraction} → less f g ≡ false → AtMost g f
 at-most {f} {g} e = elim (order g f) [ inl a ↦ a | inr l ↦ absurd (not-less e l) ]
 
-precedes-yes : (f : Fraction) (j : ℕ) (g : Fraction) (k : ℕ) → precedes f j g k ≡ true → Less f g ⊎ (AtMost f g × AtMost g f × (j < k))
+precedes-yes : (f : Fraction) (j : ℕ) (g : Fraction) (k : ℕ) → precedes f g (ltb j k) ≡ true → Less f g ⊎ (AtMost f g × AtMost g f × (j < k))
 unfolding precedes
 precedes-yes f j g k e = go (less f g) (less g f) (ltb j k) refl refl refl e
   where
@@ -47,7 +47,7 @@ precedes-yes f j g k e = go (less f g) (less g f) (ltb j k) refl refl refl e
     go false false true x y z e = inr (at-most y, at-most x, ltb-true j k z)
     go false false false x y z e = absurd (false≢true e)
 
-precedes-no : (f : Fraction) (j : ℕ) (g : Fraction) (k : ℕ) → precedes f j g k ≡ false → Less g f ⊎ (AtMost g f × (k ≤ j))
+precedes-no : (f : Fraction) (j : ℕ) (g : Fraction) (k : ℕ) → precedes f g (ltb j k) ≡ false → Less g f ⊎ (AtMost g f × (k ≤ j))
 unfolding precedes
 precedes-no f j g k e = go (less f g) (less g f) (ltb j k) refl refl refl e
   where
@@ -96,7 +96,7 @@ module _ {w : List ℕ} {p q : ℕ} {c : Leader} {v : Fraction} (b : q < p) (v-i
   cover : Before w p c q → Adds w p (Only q) c c
   cover x = adds-before (Only q) c (λ pos k h i. rw i x)
 
-  pub keep-behind : precedes v q (leaderValue c) (c .row) ≡ false → Adds w p (Only q) c c
+  pub keep-behind : precedes v (leaderValue c) (ltb q (c .row)) ≡ false → Adds w p (Only q) c c
   keep-behind t =
       cover
       (elim (precedes-no v q (leaderValue c) (c .row) t) [
@@ -107,7 +107,7 @@ module _ {w : List ℕ} {p q : ℕ} {c : Leader} {v : Fraction} (b : q < p) (v-i
   pub keep-gone : (Less v (rowValue w q) → ⊥) → Adds w p (Only q) c c
   keep-gone nay = cover (record { atMost = λ s. absurd (nay (rw v-is s)); less = λ s k. absurd (nay (rw v-is s)) })
 
-  pub take : precedes v q (leaderValue c) (c .row) ≡ true → Less v (rowValue w q) → Adds w p (Only q) c (row-of q v)
+  pub take : precedes v (leaderValue c) (ltb q (c .row)) ≡ true → Less v (rowValue w q) → Adds w p (Only q) c (row-of q v)
   take t l =
       record {
         step = λ pos re. (

@@ -4,7 +4,6 @@ use mathlib.Core.Path.{_≡_}
 use mathlib.Core.Bool.{Bool, true, false, cond}
 use mathlib.Core.List.{List}
 use mathlib.Core.Logic.{_⊎_}
-use lib.Dec.{ltb}
 use lib.ListN.{length}
 use Rattle.fractions.specs.declared.Fraction.{Fraction}
 use Rattle.fractions.specs.Order.{less, Less, AtMost, Small}
@@ -37,9 +36,9 @@ pub record Admitted (p : ℕ) (c : Leader) : Type 0 where
   pub small : Small (leaderValue c)
   pub inside : c .row ≤ p
 
--- the value f of row j goes before the value g of row k: it is less, or equal and of the higher-ranked row
-unfoldable pub precedes : Fraction → ℕ → Fraction → ℕ → Bool
-precedes f j g k = cond (less f g) true (cond (less g f) false (ltb j k))
+-- the value f goes before the value g: it is less, or equal, where a tie goes to f
+unfoldable pub precedes : Fraction → Fraction → Bool → Bool
+precedes f g tie = cond (less f g) true (cond (less g f) false tie)
 
 -- v is the pair value of rows q and p
 pub record Paired (w : List ℕ) (p q : ℕ) (v : Fraction) : Type 0 where
@@ -82,3 +81,7 @@ Only j q = q ≡ j
 
 abbrev pub Higher : ℕ → ℕ → Type 0
 Higher k q = q < k
+
+-- d names row q, or the row that c names
+abbrev pub OneOf : ℕ → Leader → Leader → Type 0
+OneOf q c d = (d .row ≡ q) ⊎ (d .row ≡ c .row)

@@ -6,13 +6,14 @@ use fractions::Fraction;
 use marks::Label;
 ghost use mathlib.Core.Path.{_≡_};
 ghost use Prim.Native.Nat.{_+_, _-_, _*_, _<_, _≤_};
+ghost use lib.Dec.{ltb};
 ghost use lib.ListN.{length};
 ghost use Rattle.fractions.specs.Order.{Small};
 ghost use Rattle.marks.specs.Marks.{touchingOf};
 ghost use Rattle.grid.specs.Table.{cellCount, EntriesLow};
 ghost use Rattle.searching.specs.Rows.{rowSize, rowLabel, rowPopup, rowRecord, rowValue};
 ghost use Rattle.searching.specs.Scan.{Scanned};
-ghost use Rattle.searching.specs.Search.{leaderValue, none, precedes, Paired, Admitted, SearchFor, Adds, Only, Higher};
+ghost use Rattle.searching.specs.Search.{leaderValue, none, precedes, Paired, Admitted, SearchFor, Adds, Only, Higher, OneOf};
 ghost use Rattle.searching.specs.Cells.{Gridded, CellAdded, Own, Other, Range};
 
 // Among so few rows a scan of all is as fast as a search by cells.
@@ -98,26 +99,25 @@ fn leader_value(c: Leader) -> Fraction
     }
 }
 
-// Does the value f of row j go before the value g of row k: is it less, or equal and of the higher-ranked row? In the inner loop this is one
-// comparison of cross products, without a branch: a tie that goes to row j makes the bound one more.
-fn precedes(f: Fraction, j: usize, g: Fraction, k: usize) -> bool
+// Does the value f go before the value g: is it less, or equal, where a tie goes to f? In the inner loop this is one comparison of cross
+// products, without a branch: a tie that goes to f makes the bound one more.
+fn precedes(f: Fraction, g: Fraction, tie: bool) -> bool
     requires { ⌜ Small f × Small g ⌝ }
-    ensures { λ r. ⌜ r ≡ precedes f j g k ⌝ }
+    ensures { λ r. ⌜ r ≡ precedes f g tie ⌝ }
 {
     let left = f.num * (g.den as u64);
     let right = g.num * (f.den as u64);
-    let bound = right + (j < k) as u64;
+    let bound = right + tie as u64;
     left < bound
 }
 
 // Row q, whose pair value with row p is v, against the best found so far: it takes its place if v goes before its value and row q is removed
-// later.
-fn better_pair(w: &[u8], q: usize, p: usize, v: Fraction, best: Leader) -> Leader
-    requires { ⌜ Paired (now w) p q v × (q < p) × Admitted p best ⌝ }
-    ensures { λ t. ⌜ Admitted p t × Adds (now (w .entry)) p (Only q) best t ⌝ }
+// later. A tie goes to the higher-ranked row, which `tie` says is row q.
+fn better_pair(w: &[u8], q: usize, p: usize, v: Fraction, best: Leader, tie: bool) -> Leader
+    requires { ⌜ Paired (now w) p q v × (q < p) × Admitted p best × (tie ≡ ltb q (best .row)) ⌝ }
+    ensures { λ t. ⌜ Admitted p t × Adds (now (w .entry)) p (Only q) best t × OneOf q best t ⌝ }
 {
-    let row = best.row as usize;
-    if precedes(v, q, leader_value(best), row) {
+    if precedes(v, leader_value(best), tie) {
         if fractions::less_small(v, row_value(w, q)) {
             let taken = q as u32;
             return Leader {
@@ -132,19 +132,28 @@ fn better_pair(w: &[u8], q: usize, p: usize, v: Fraction, best: Leader) -> Leade
 
 // The same for row p, whose label is given. Where no row has a popup, which `popped` tells, the touching value is the pair value; that `popped`
 // changes in no loop keeps the reading of popups out of the inner one.
-fn better(w: &[u8], q: usize, p: usize, label: Label, best: Leader, popped: bool) -> Leader
-    requires { ⌜ SearchFor popped (now w) p label × (q < p) × Admitted p best ⌝ }
-    ensures { λ t. ⌜ Admitted p t × Adds (now (w .entry)) p (Only q) best t ⌝ }
+fn better(
+    w: &[u8],
+    q: usize,
+    p: usize,
+    label: Label,
+    best: Leader,
+    tie: bool,
+    popped: bool,
+) -> Leader
+    requires { ⌜ SearchFor popped (now w) p label × (q < p) × Admitted p best × (tie ≡ ltb q (best .row)) ⌝ }
+    ensures { λ t. ⌜ Admitted p t × Adds (now (w .entry)) p (Only q) best t × OneOf q best t ⌝ }
 {
     let touch = touching_row(w, q, label);
     if popped {
         let k = marks::larger(row_popup(w, q), row_popup(w, p));
-        return better_pair(w, q, p, marks::pair_of(touch, k), best);
+        return better_pair(w, q, p, marks::pair_of(touch, k), best, tie);
     }
-    better_pair(w, q, p, touch, best)
+    better_pair(w, q, p, touch, best, tie)
 }
 
-// The best of all rows above p.
+// The best of all rows above p. They are met from the highest rank down, so that no tie goes to a later one: the inner loop does not ask, and takes
+// two rows a turn, so that it counts half as often.
 fn scan_rows(w: &[u8], p: usize, label: Label, popped: bool) -> Leader
     requires { ⌜ SearchFor popped (now w) p label ⌝ }
     ensures { λ t. ⌜ Admitted p t × Adds (now (w .entry)) p (Higher p) none t ⌝ }
@@ -155,9 +164,13 @@ fn scan_rows(w: &[u8], p: usize, label: Label, popped: bool) -> Leader
         row: 0,
     };
     let mut q = 0;
-    while q < p {
-        best = better(w, q, p, label, best, popped);
-        q += 1;
+    while q + 1 < p {
+        best = better(w, q, p, label, best, false, popped);
+        best = better(w, q + 1, p, label, best, false, popped);
+        q += 2;
+    }
+    if q < p {
+        return better(w, q, p, label, best, false, popped);
     }
     best
 }
@@ -181,7 +194,8 @@ fn scan_cell(
     let mut h = grid::last_row(w, at, c);
     while 0 < h {
         let q = h - 1;
-        best = better(w, q, p, label, best, popped);
+        let row = best.row as usize;
+        best = better(w, q, p, label, best, q < row, popped);
         h = grid::previous_row(w, at, q);
     }
     best

@@ -51,6 +51,7 @@ better-pair-requires c κs =
       },
       a .pre .1,
       a .pre .2,
+      a .pre .3,
     )
 
 returns : tie.Need-returns
@@ -73,6 +74,7 @@ better-pair-requires-2 c κs =
       },
       a .pre .1,
       a .pre .2,
+      a .pre .3,
     )
 
 returns-2 : tie.Need-returns-2

@@ -1,6 +1,7 @@
 -- `searching::better_pair` meets its contract: a row takes the place of the best one if it goes before it and is removed later. Assumes nothing.
 use native.Mathlib.Omega.{arith}
-use mathlib.Core.Path.{sym, _∙_}
+use mathlib.Core.Path.{refl, sym, _∙_}
+use mathlib.Core.Logic.{inl, inr}
 use Rattle.fractions.specs.Laws.{less-iff}
 use Rattle.searching.proofs.Steps.{not-less, keep-behind, keep-gone, take}
 use borrow.Author.Needs.{needs}
@@ -8,10 +9,7 @@ use Rattle.searching.proofs.better_pair.Statement.{statement}
 use Rattle.searching.proofs.better_pair.Tie as tie
 
 abbrev start-of : tie.After-leader-value → tie.Start
-start-of c = c .before .before .before
-
-cast-row : tie.Need-cast-row
-cast-row c = search needs
+start-of c = c .before .before
 
 leader-value-requires : tie.Need-leader-value-requires
 leader-value-requires c κs = search needs
@@ -40,8 +38,9 @@ returns c =
     let b = one .before in
     let a = start-of b in (
       record { small = a .pre .0 .small; inside = omega (arith, a .pre .1) },
-      take (a .pre .1) (a .pre .0 .value-is) (rw (b .leader-value .ensures) at (sym (one .precedes .ensures) ∙ e .before .if1 .taken))
+      take (a .pre .1) (a .pre .0 .value-is) (rw (b .leader-value .ensures, a .pre .3) at (sym (one .precedes .ensures) ∙ e .before .if1 .taken))
           (rw (e .row-value .ensures) at (less-iff _ _ .0 (sym (two .less-small .ensures) ∙ c .if2 .taken))),
+      inl refl,
     )
 
 returns-2 : tie.Need-returns-2
@@ -51,6 +50,7 @@ returns-2 c =
     let a = start-of (e .before .before .before) in (
       a .pre .2,
       keep-gone (a .pre .1) (a .pre .0 .value-is) (λ l. not-less (sym (two .less-small .ensures) ∙ c .if2 .left) (rw (e .row-value .ensures) l)),
+      inr refl,
     )
 
 returns-3 : tie.Need-returns-3
@@ -59,14 +59,14 @@ returns-3 c =
     let b = one .before in
     let a = start-of b in (
       a .pre .2,
-      keep-behind (a .pre .1) (a .pre .0 .value-is) (rw (b .leader-value .ensures) at (sym (one .precedes .ensures) ∙ c .if1 .left)),
+      keep-behind (a .pre .1) (a .pre .0 .value-is) (rw (b .leader-value .ensures, a .pre .3) at (sym (one .precedes .ensures) ∙ c .if1 .left)),
+      inr refl,
     )
 
 pub better-pair-spec : {M : Type 1} → statement M
 better-pair-spec =
     tie.close
     (tie.spec
-    cast-row
     leader-value-requires
     precedes-requires
     row-value-requires

@@ -58,13 +58,13 @@ bound-fits false h = record { fits = omega arith }
 add-bound : tie.Need-add-bound
 add-bound c =
     let a = c .before .before .before .before in
-    bound-fits (ltb (a .args .j) (a .args .k)) (small-cross (a .pre .1) (a .pre .0))
+    bound-fits (a .args .tie) (small-cross (a .pre .1) (a .pre .0))
 
 returns : tie.Need-returns
 unfolding precedes less
 returns c =
     let a = c .before .before .before .before .args in
-    by-bound (a .f .num * a .g .den) (a .g .num * a .f .den) (ltb (a .j) (a .k))
+    by-bound (a .f .num * a .g .den) (a .g .num * a .f .den) (a .tie)
 
 pub precedes-spec : {M : Type 1} → statement M
 precedes-spec =

@@ -1,6 +1,7 @@
 -- `searching::scan_cell` meets its contract: each turn takes in one row more of the cell, from the last one down. Assumes nothing.
 use native.Mathlib.Omega.{arith}
 use Prim.Native.Nat.{_≤_, _-_}
+use mathlib.Core.Path.{refl}
 use borrow.Author.Needs.{needs}
 use Rattle.searching.specs.Search.{Admitted}
 use Rattle.searching.specs.Cells.{Walked}
@@ -26,21 +27,25 @@ loop-holds c =
 sub-q : tie.Need-sub-q Inv-loop μ-loop
 sub-q c = search needs
 
+cast-row : tie.Need-cast-row Inv-loop μ-loop
+cast-row c = search needs
+
 better-requires : tie.Need-better-requires Inv-loop μ-loop
 better-requires c κs =
-    let l = c .before in
+    let i = c .before in
+    let l = i .before in
     let a = l .before .before .before in
-    (a .pre .0, omega (arith, c .loop-test .taken, l .loop .inv .0), l .loop .inv .1)
+    (a .pre .0, omega (arith, i .loop-test .taken, l .loop .inv .0), l .loop .inv .1, refl)
 
 previous-row-requires : tie.Need-previous-row-requires Inv-loop μ-loop
 previous-row-requires c κs =
-    let i = c .before in
+    let i = c .before .before in
     let l = i .before in
     omega (arith, i .loop-test .taken, l .loop .inv .0, l .before .before .before .pre .1 .room)
 
 loop-less : tie.Need-loop-less Inv-loop μ-loop
 loop-less c =
-    let i = c .before .before in
+    let i = c .before .before .before in
     let l = i .before in
     let n = l .before .before .before .pre .1 .link-low (l .loop .h - 1) (omega (arith, i .loop-test .taken, l .loop .inv .0)) in
     omega (arith, i .loop-test .taken, n, c .previous-row .ensures)
@@ -48,7 +53,7 @@ loop-less c =
 loop-again : tie.Need-loop-again Inv-loop μ-loop
 loop-again c =
     let b = c .before in
-    let i = b .before in
+    let i = b .before .before in
     let l = i .before in
     let n = l .before .before .before .pre .1 .link-low (l .loop .h - 1) (omega (arith, i .loop-test .taken, l .loop .inv .0)) in
     let e = c .previous-row .ensures in (
@@ -69,6 +74,7 @@ scan-cell-spec =
     last-row-requires
     loop-holds
     sub-q
+    cast-row
     better-requires
     previous-row-requires
     loop-less
