@@ -3,7 +3,8 @@
  *
  * Link with librollmap.a, which is for x86-64 Linux and needs of other libraries only
  * memset. All calls answer by value; nothing is allocated or kept, there is no state, and
- * any thread may call at any time. A call takes less than 8 KiB of stack.
+ * any thread may call at any time. A call takes less than 8 KiB of stack, rollmap_judge
+ * less than 16.
  *
  * A sheet is bytes: contents, then up to five parts, as docs/FORMAT.md has them. Part 1
  * has 11 bytes a mark, so that the number n of a sheet's marks is the length of part 1
@@ -54,6 +55,9 @@
  *       their pair value as its two unreduced numbers, and that one is removed later
  *    9  part 3 is the tree that parts 1 and 2 give
  *   10  parts 2 and 3 are there
+ *   22  of a schedule that is judged: no pair of marks has both removed later than its pair
+ *       value, each removal value is the pair value with some higher-ranked mark that is
+ *       removed later, and the highest-ranked such mark is named; this is asked after 10
  *   20  the turn is 0 to 3, and each edge is from -32,768 to 32,768; this is asked between
  *       10 and 11
  *   11  x0 is at most x1, and y0 at most y1
@@ -104,6 +108,7 @@ extern "C" {
 #define ROLLMAP_REFUSED_EDITION 19u
 #define ROLLMAP_REFUSED_WINDOW 20u
 #define ROLLMAP_REFUSED_POPUPS 21u
+#define ROLLMAP_REFUSED_JUDGEMENT 22u
 
 /* The codes of a sheet's parts. More may come. */
 #define ROLLMAP_CODE_MARKS 1u
@@ -217,6 +222,15 @@ struct rollmap_answer rollmap_add(const uint8_t *sheet, size_t sheet_length,
 struct rollmap_answer rollmap_take_out(const uint8_t *sheet, size_t sheet_length, uint32_t m,
                                        uint8_t *work, size_t work_length,
                                        uint8_t *out, size_t out_length);
+
+/* Judges the schedule of a sheet with parts 2 and 3, whoever made it, without working it out
+   again: nothing is written, and no work buffer is needed. The value is 0. Accepted is the
+   schedule that rollmap_schedule writes for the sheet, by its own edition and popups, and no
+   other. So an accepted sheet is, byte for byte, what rollmap_schedule writes for it, and
+   what holds of such a sheet holds of this one. rollmap_check accepts other schedules, too,
+   in which marks stay or go later, or name another mark; these get 22 here, and
+   rollmap_schedule replaces them. Asks 1 to 10, and 22. */
+struct rollmap_answer rollmap_judge(const uint8_t *sheet, size_t sheet_length);
 
 /* Puts parts together into a sheet in out, and leaves what follows there as it is: the
    first row is the body of the part of the first code, and so on. Further rows than codes

@@ -28,6 +28,7 @@ use Rattle.contents.specs.Lemmas.Written as Written
 
 pub use Rattle.contents.specs.Lemmas.Asked.{Numbered, numbered-append, none-asked, asked-yes, asked-no, asked-iff}
 pub use Rattle.contents.specs.Lemmas.Asked.{append-yes, append-no, append-iff}
+pub use Rattle.contents.specs.Lemmas.Codes.{inOrder}
 pub use Rattle.contents.specs.Lemmas.Turns.{turn-numbered, turn-none, turn-more, turn-stop, turn-at, turn-of}
 
 -- ---- the contents
@@ -56,6 +57,9 @@ module _ (codes : List ℕ) (right : codesRight codes ≡ true) where
   pub codes-few : length codes ≤ topCode
   codes-few = Codes.codes-few codes right
 
+  pub one-there : names codes 1 ≡ true
+  one-there = Codes.one-there codes right
+
   -- part 3 is there only with part 2
   pub two-there : names codes 3 ≡ true → names codes 2 ≡ true
   two-there = Codes.two-there codes right
@@ -65,6 +69,10 @@ module _ (codes : List ℕ) (right : codesRight codes ≡ true) where
 
   pub codes-most : (i : ℕ) → getD codes i 0 ≤ topCode
   codes-most = Codes.codes-most codes right
+
+-- Parts of right codes are those that are there, code by code.
+pub in-order : (parts : List Part) → codesRight (codesOf parts) ≡ true → parts ≡ inOrder 1 topCode parts
+in-order = Codes.in-order
 
 -- no code stands twice: under its own code a part is found
 pub find-own : (parts : List Part) → codesRight (codesOf parts) ≡ true → (i : ℕ) → i < length parts

@@ -15,7 +15,8 @@ use Rattle.index.specs.Index.{indexOf, indexBytes}
 use Rattle.contents.specs.Contents.{Part, _holds_, bodiesOf, find, has, split, chain, join, together, marksPart, schedulePart, popupsPart}
 use Rattle.contents.specs.Questions.{isCount, codesRight}
 use Rattle.contents.specs.Asking.{Question, _asks_, answer}
-use Rattle.bodies.specs.Questions.{markCount, editionOf, reelFrom, fieldQuestions, isPopup}
+use Rattle.bodies.specs.Questions.{markCount, editionOf, reelFrom, reelOf, fieldQuestions, isPopup}
+use Rattle.judging.specs.Judge.{judgeSchedule}
 use Rattle.changing.specs.Changing.{added, takenOut, addedPopup, takenOutPopup}
 use Rattle.filling.specs.Filling.{filled, fillQuestions}
 use Rattle.logs.specs.Log.{logRecordSize, recordCount, marksOfLog, logOfMarks}
@@ -153,6 +154,19 @@ takeOutChecks s m = indexedQuestions s ++ ((17 asks ltb m (sheetCount s)) ∷ []
 abbrev pub takeOutJob : List ℕ → ℕ → ℕ → ℕ → Outcome
 takeOutJob s m work room =
     schedulingJob (takeOutChecks s m) (takenOut (marksPart (split s)) m) (carried (split s) (λ q. takenOutPopup q m)) work room
+
+-- ---- judging: 02, request 10
+
+-- 22: "where the judge says no", of the schedule that part 2 proposes
+unfoldable pub question22 : List Part → Bool
+question22 parts = judgeSchedule (reelOf parts) (schedulePart parts)
+
+-- "Checks: 1 to 9, then 10 where part 2 or 3 is lacking, then 22 where the judge says no."
+unfoldable pub judgeQuestions : List ℕ → List Question
+judgeQuestions s = indexedQuestions s ++ ((22 asks question22 (split s)) ∷ [])
+
+unfoldable pub judgeJob : List ℕ → Outcome
+judgeJob s = outcome (judgeQuestions s) 0 []
 
 -- ---- putting together
 

@@ -9,3 +9,4 @@ pub mod Walking
 pub mod Scheduling
 pub mod Changing
 pub mod Viewing
+pub mod Judging

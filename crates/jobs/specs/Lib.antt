@@ -1,7 +1,7 @@
 -- Jobs is what each call gives, Parts and Demand3 what is claimed of sheets and views by demands 2 and 3, and Theorems their proofs.
 -- Changed is what is claimed of marks that come and go, and Coming its proof. Filled is what is claimed of filled marks, and Logs of logs and marks that are turned into one another.
 -- Stops is request 4 of 02: a stop and the wheel value of the same zoom give the same. Editions is of request 6: without part 4 as with edition 1.
--- Turns is of request 8: the guarantee on turned marks.
+-- Turns is of request 8: the guarantee on turned marks. Judged is of request 10: what the judge accepts is scheduled here.
 -- Steps is what the code's own steps give, and Laws how it answers: for `rollmap`.
 pub mod Jobs
 pub mod Answers
@@ -15,6 +15,7 @@ pub mod Coming
 pub mod Stops
 pub mod Editions
 pub mod Turns
+pub mod Judged
 pub mod Steps
 pub mod Laws
 pub mod Lemmas

@@ -1,14 +1,15 @@
 -- Laws of pair values: they are symmetric fractions with positive denominators, at least the touching value and both popup values, and without
 -- popups the touching values. Assumes nothing.
 use Prim.Native.Nat.{ℕ, zero, suc, _*_, _<_, _≤_}
-use mathlib.Core.Path.{_≡_, refl}
+use mathlib.Core.Path.{_≡_, refl, sym}
 use mathlib.Core.Bool.{false}
-use mathlib.Core.List.{List, []}
+use mathlib.Core.List.{List, [], _∷_}
 use mathlib.Core.Logic.{inl, inr}
 use native.Mathlib.Nat.{mul-le-mul}
 use native.Mathlib.Omega.{arith}
 use borrow.Author.Tests.{ltb-true, ltb-false, leb-true, leb-false}
 use lib.Dec.{leb, ltb}
+use lib.ListN.{length}
 use Rattle.lists.specs.TestLaws.{by-cases}
 use Rattle.numbers.specs.Little.{leAt, Bytes}
 use Rattle.fractions.specs.declared.Fraction.{Fraction}
@@ -118,6 +119,11 @@ module _ (s q : List ℕ) (a b : ℕ) where
 
 pub without-popups : (s : List ℕ) (a b : ℕ) → pairValue s [] a b ≡ touching s a b
 without-popups s a b = pairs-none s [] a b (popup-none a) (popup-none b)
+
+-- as the code sees that there are none: the body is empty
+pub unpopped : (s q : List ℕ) (a b : ℕ) → length q ≡ 0 → touching s a b ≡ pairValue s q a b
+unpopped s [] a b e = sym (without-popups s a b)
+unpopped s (x ∷ q) a b e = absurd (omega arith)
 
 -- each popup of good ones
 pub good-popup : {q : List ℕ} {n m : ℕ} → GoodPopups q n → m < n → GoodPopup q m

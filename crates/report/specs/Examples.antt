@@ -23,6 +23,7 @@ use Rattle.contents.specs.Questions.{question1, codesRight, question3, contents
 use Rattle.rows.specs.Rows as Rows
 use Rattle.changing.specs.Changing.{added, takenOut, addedPopup, takenOutPopup}
 use Rattle.bodies.specs.Questions.{question4, markQuestions, part1Questions, isEdition, isPopup, isPopups, question7, question19, question21, namesRight, recordRight, isSchedule, isSized, question8, question9, lastQuestions, bodyQuestions}
+use Rattle.judging.specs.Judge.{some, bothLater, firstRule, causes, secondRule, namesHighest, judge, judgeSchedule}
 use Rattle.filling.specs.Filling.{filledRadius, filled, fillQuestions}
 use Rattle.logs.specs.Packed.{magnitude, isMinus, withSign, areDigits, isLast, isPacked, isPlace, packedOf}
 use Rattle.logs.specs.Log.{marksOfLog, logOfMarks}
@@ -38,7 +39,7 @@ use Rattle.turns.specs.Turns.{unit, quarter, productAt, times, turn, applied, t
 use Rattle.view.specs.Shown.{gap, distanceSquared, diskReaches, reaches, poppedUp, lives, shown}
 use Rattle.bitmap.specs.Map.{mapByte, mapPart, mapBytes, countShown}
 use Rattle.view.specs.Questions as Viewing
-use Rattle.jobs.specs.Jobs.{outcome, checkJob, scheduled, schedulingQuestions, schedulingJob, addChecks, addJob, takeOutChecks, takeOutJob, assembleQuestions, assembleJob, fillJob, logToMarksJob, marksToLogJob, shownIn, viewJob}
+use Rattle.jobs.specs.Jobs.{outcome, checkJob, scheduled, schedulingQuestions, schedulingJob, addChecks, addJob, takeOutChecks, takeOutJob, question22, judgeQuestions, judgeJob, assembleQuestions, assembleJob, fillJob, logToMarksJob, marksToLogJob, shownIn, viewJob}
 use Rattle.text.specs.Text.{digits}
 use Rattle.report.specs.Text.{text, line, markLine, markLines, listing, refusalLine, printQuestions, printed}
 
@@ -106,6 +107,8 @@ pub data Asked : Type 0 where
   -- new sheet eliminator, numerator and denominator of a mark
   adds : List ℕ → Mark → ℕ → ℕ → ℕ → ℕ → Asked
   takesOut : List ℕ → ℕ → ℕ → ℕ → ℕ → Asked
+  -- the number that the judge answers
+  judges : List ℕ → Asked
 
 -- the numbers of two bytes each
 pairs : List ℕ → List ℕ
@@ -137,6 +140,7 @@ answers (turnsLog s room) = let o = logToMarksJob s room in o .number ∷ o .val
 answers (turnsMarks l room) = let o = marksToLogJob (marks l) room in o .number ∷ o .value ∷ o .written
 answers (adds s new k work room m) = let o = addJob s new k work room in o .number ∷ o .value ∷ recordOf (o .written) m
 answers (takesOut s out work room m) = let o = takeOutJob s out work room in o .number ∷ o .value ∷ recordOf (o .written) m
+answers (judges s) = (judgeJob s) .number ∷ []
 
 -- ---- the table
 
@@ -184,17 +188,33 @@ of radius kind = markOf (pos 0) (pos 0) radius 0 kind ∷ []
 abbrev patches : List Mark
 patches = markOf (pos 0) (pos 0) 0 9 100 ∷ markOf (pos 100) (pos 0) 0 5 149 ∷ []
 
+-- a record of part 2: a mark that removes at this value, and nobody
+by : ℕ → ℕ → ℕ → List ℕ
+by m num den = leBytes 2 m ++ (leBytes 8 num ++ leBytes 4 den)
+
+never : List ℕ
+never = by 65535 0 0
+
 oldSheet : List ℕ
-oldSheet =
-    let never = leBytes 2 65535 ++ (leBytes 8 0 ++ leBytes 4 0) in
-    let gone = leBytes 2 0 ++ (leBytes 8 10000 ++ leBytes 4 57600) in
-    join ((1 holds marks patches) ∷ (2 holds (never ++ gone)) ∷ (3 holds (leBytes 2 0 ++ leBytes 2 1)) ∷ [])
+oldSheet = join ((1 holds marks patches) ∷ (2 holds (never ++ by 0 10000 57600)) ∷ (3 holds (leBytes 2 0 ++ leBytes 2 1)) ∷ [])
 
 -- the patches with a schedule in which neither goes; of equal values the lower number is the root
 neverSheet : List ℕ
-neverSheet =
-    let never = leBytes 2 65535 ++ (leBytes 8 0 ++ leBytes 4 0) in
-    join ((1 holds marks patches) ∷ (2 holds (never ++ never)) ∷ (3 holds (leBytes 2 0 ++ leBytes 2 1)) ∷ [])
+neverSheet = join ((1 holds marks patches) ∷ (2 holds (never ++ never)) ∷ (3 holds (leBytes 2 0 ++ leBytes 2 1)) ∷ [])
+
+-- schedules that someone proposes: two marks that go together, though they touch each other before; and of two marks with one pair value, 16/4 and
+-- 64/16, the lower-ranked named
+together : List ℕ
+together =
+    join
+    ((1 holds marks (mark (pos 0) (pos 0) 1 9 ∷ mark (pos 50) (pos 0) 1 5 ∷ mark (pos 48) (pos 14) 1 4 ∷ []))
+    ∷ (2 holds (never ++ (by 0 2500 4 ++ by 0 2500 4))) ∷ (3 holds (leBytes 2 0 ++ (leBytes 2 2 ++ leBytes 2 1))) ∷ [])
+
+lowerNamed : List ℕ
+lowerNamed =
+    join
+    ((1 holds marks (mark (pos 0) (pos 0) 1 0 ∷ mark (negsuc 3) (pos 0) 1 5 ∷ mark (pos 8) (pos 0) 3 7 ∷ []))
+    ∷ (2 holds (by 1 16 4 ++ (by 2 144 16 ++ never))) ∷ (3 holds (leBytes 2 2 ++ (leBytes 2 1 ++ leBytes 2 0))) ∷ [])
 
 -- a log of one record, its x and y by their bytes; radius 300, priority 5, kind 0, tag 0
 abbrev log : ℕ → ℕ → ℕ → ℕ → ℕ → ℕ → List ℕ
@@ -359,16 +379,30 @@ table =
     ∷ (adds (scheduled (sheet ends)) (mark (pos 200) (pos 0) 10 5) 0 0 0 0 gives (13 ∷ 0 ∷ 0 ∷ 0 ∷ 0 ∷ []))
     -- the first of three taken out: its popup goes, and the second's stays
     ∷ (takesOut (scheduled (sheetWith (0 ∷ 640 ∷ 0 ∷ []) (take 3 p1))) 0 1088 104 1 gives (0 ∷ 104 ∷ 0 ∷ 409600 ∷ 4096 ∷ []))
+    -- 02, request 10: ours is accepted, by either edition, with popups, and of no marks
+    ∷ (judges (scheduled (sheet p1)) gives (0 ∷ []))
+    ∷ (judges (scheduled (sheetIn 2 two)) gives (0 ∷ []))
+    ∷ (judges (scheduled (sheetWith (640 ∷ 0 ∷ []) ends)) gives (0 ∷ []))
+    ∷ (judges (scheduled (sheet [])) gives (0 ∷ []))
+    -- others pass 8 and 9, and get 22
+    ∷ (judges neverSheet gives (22 ∷ []))
+    ∷ (checks together gives (0 ∷ []))
+    ∷ (judges together gives (22 ∷ []))
+    ∷ (checks lowerNamed gives (0 ∷ []))
+    ∷ (judges lowerNamed gives (22 ∷ []))
+    -- before it, a sheet's own number
+    ∷ (judges (sheet p1) gives (10 ∷ []))
+    ∷ (judges oldSheet gives (8 ∷ []))
     ∷ []
 
 -- No row is lost.
-pub table-length : length table ≡ 101
+pub table-length : length table ≡ 112
 unfolding table
 table-length = refl
 
 -- Every answer is the expected one.
 pub examples : map (λ (r : Row). answers (r .asked)) table ≡ map (λ (r : Row). r .expected) table
-unfolding table answers recordOf pairs sheet sheetIn popups sheetWith marks oldSheet neverSheet ofBits
+unfolding table answers recordOf pairs sheet sheetIn popups sheetWith marks by never oldSheet neverSheet together lowerNamed ofBits
     leAt leBytes less same later level kindGroup houseRadius oldRadius houseOf isKind isRadius usedRadius distance touchingOf touching pairOf pairValue rankRadius outranks rankKey
     least put before pair next run process isNever valueAt records scheduleOf treeOf beats coordinate axisKey indexOf indexBytes sameBytes isIndex
     startAt split entries contentsOf chain join answer inTurn every question1 codesRight question3 contentsQuestions question4
@@ -377,5 +411,5 @@ unfolding table answers recordOf pairs sheet sheetIn popups sheetWith marks oldS
     Rows.rows filledRadius filled fillQuestions markQuestions part1Questions isSized isEdition isPopup isPopups question7 question19 question21 namesRight recordRight isSchedule question8
     question9 lastQuestions bodyQuestions checkQuestions check partsQuestions assembleQuestions stopScale wheelScale scaleOf livesAt gap distanceSquared diskReaches unit quarter productAt times turn applied turnedPlace reaches
     poppedUp lives shown mapByte mapPart mapBytes countShown question10 indexedQuestions Viewing.isEdge Viewing.question20 Viewing.question11 Viewing.viewQuestions outcome checkJob scheduled
-    added Rows.without takenOut addedPopup takenOutPopup addChecks takeOutChecks schedulingQuestions schedulingJob assembleJob fillJob shownIn viewJob digits line rootStep root nearestFrom nearest markLine markLines listing refusalLine printQuestions printed
+    added Rows.without takenOut addedPopup takenOutPopup addChecks takeOutChecks some bothLater firstRule causes secondRule namesHighest judge judgeSchedule question22 judgeQuestions judgeJob schedulingQuestions schedulingJob assembleJob fillJob shownIn viewJob digits line rootStep root nearestFrom nearest markLine markLines listing refusalLine printQuestions printed
 examples = refl

@@ -1,5 +1,6 @@
 // The public library, for C and Rust.
 use contents::Extent;
+use contents::Layout;
 use jobs::Answer;
 use logs::LOG_RECORD_SIZE;
 use marks::MARK_SIZE;
@@ -16,11 +17,13 @@ ghost use lib.ListN.{length};
 ghost use Rattle.changing.specs.Changing.{added, takenOut, addedPopup, takenOutPopup};
 ghost use Rattle.contents.specs.Contents.{split, marksPart};
 ghost use Rattle.contents.specs.Questions.{isCount};
-ghost use Rattle.contents.specs.Places.{placeOf, Located};
+ghost use Rattle.contents.specs.Asking.{answer};
+ghost use Rattle.contents.specs.Places.{layoutOf, placeOf, Located};
+ghost use Rattle.sheet.specs.Questions.{indexedQuestions};
 ghost use Rattle.sheet.specs.Opened.{opened, openParts};
 ghost use Rattle.zoom.specs.declared.Zoom.the-variants.{Stop, Wheel};
 ghost use Rattle.view.specs.Questions.{isMap};
-ghost use Rattle.jobs.specs.Jobs.{checkJob, carried, keptParts, isNewPopup, scheduleJob, addJob, takeOutJob, assembleJob, fillJob, logToMarksJob, marksToLogJob, viewJob, walkJob, isShownJob};
+ghost use Rattle.jobs.specs.Jobs.{checkJob, carried, keptParts, isNewPopup, scheduleJob, addJob, takeOutJob, question22, judgeJob, assembleJob, fillJob, logToMarksJob, marksToLogJob, viewJob, walkJob, isShownJob};
 ghost use Rattle.jobs.specs.Answers.{answerOf, window, fields, Gives, Lent};
 ghost use Rattle.jobs.specs.Parts.{Joins};
 ghost use Rattle.jobs.specs.Demand3.{Meets, MeetsView};
@@ -29,6 +32,7 @@ ghost use Rattle.jobs.specs.Filled.{MeetsFilling};
 ghost use Rattle.jobs.specs.Logs.{MeetsLog, MeetsMarks};
 ghost use Rattle.jobs.specs.Stops.{MeetsStop};
 ghost use Rattle.jobs.specs.Turns.{MeetsTurn};
+ghost use Rattle.jobs.specs.Judged.{MeetsJudging};
 
 // The most marks that a sheet holds.
 const MOST_MARKS: usize = 4096;
@@ -236,6 +240,42 @@ pub extern "C" fn rollmap_take_out(sheet: &[u8], m: u32, work: &mut [u8], out: &
         out,
         n - 1,
     )
+}
+
+// ---- judging
+
+// 22, of an accepted sheet with parts 2 and 3: is its schedule ours?
+fn is_ours(sheet: &[u8], layout: Layout) -> bool
+    requires { ⌜ (answer (indexedQuestions (now sheet)) ≡ 0) × (layout ≡ layoutOf (now sheet)) ⌝ }
+    ensures { λ r. ⌜ r ≡ question22 (split (now (sheet .entry))) ⌝ }
+{
+    let marks = contents::part(sheet, layout, 1);
+    let schedule = contents::part(sheet, layout, 2);
+    let index = contents::part(sheet, layout, 3);
+    let edition = bodies::edition_of(contents::part(sheet, layout, 4));
+    let popups = contents::part(sheet, layout, 5);
+    let n = marks.len() / MARK_SIZE;
+    judging::judge(marks, edition, popups, schedule, index, n)
+}
+
+// Judges the schedule of a sheet, whoever made it: questions 1 to 10, and 22. It answers 0 exactly where the sheet is scheduled here, and then
+// the sheet meets demand 3.
+#[no_mangle]
+pub extern "C" fn rollmap_judge(sheet: &[u8]) -> Answer
+    ensures { λ r. ⌜ (r ≡ answerOf (judgeJob (now (sheet .entry)))) × MeetsJudging (now (sheet .entry)) r ⌝ }
+{
+    let found = sheet::indexed(sheet);
+    let number = found.number;
+    if number != 0 {
+        return steps::refused(number);
+    }
+    if is_ours(sheet, found.layout) {
+        return Answer {
+            number: 0,
+            value: 0,
+        };
+    }
+    steps::refused(22)
 }
 
 // ---- filling

@@ -39,6 +39,17 @@ const CHANGED: [(&str, Shape); 3] = [
     ("reel", Shape::Reel),
 ];
 
+/// The data that judging is timed on.
+const JUDGED: [(&str, Shape); 7] = [
+    ("uniform", Shape::Uniform),
+    ("clustered", Shape::Clustered),
+    ("reel", Shape::Reel),
+    ("line", Shape::Line),
+    ("one place", Shape::OnePlace),
+    ("huge radius", Shape::HugeRadius),
+    ("1 % huge radius", Shape::FewHuge),
+];
+
 /// The data that viewing is timed on.
 const VIEWED: [(&str, Shape); 4] = [
     ("uniform", Shape::Uniform),
@@ -47,7 +58,8 @@ const VIEWED: [(&str, Shape); 4] = [
     ("1 % huge radius", Shape::FewHuge),
 ];
 
-/// The popups that scheduling and checking are timed with, beside the same marks without.
+/// The popups that scheduling, judging and checking are timed with, beside the same marks
+/// without.
 const POPPING_UP: [(&str, Popups); 4] = [
     ("all 0", Popups::Zero),
     ("one in four", Popups::Few),
@@ -70,7 +82,7 @@ const SMALL: [usize; 2] = [16, 64];
 /// The largest of them.
 const MOST: usize = 4_096;
 
-/// Rounds of scheduling that the least time is taken of.
+/// Rounds of scheduling and judging that the least time is taken of.
 const ROUNDS: usize = 15;
 
 /// Rounds of sorting all pairs, which is slow.
@@ -89,6 +101,8 @@ fn main() {
     popping_up();
     growth();
     changing();
+    judging();
+    judging_popups();
     checking();
     checking_popups();
     viewing();
@@ -100,11 +114,11 @@ fn main() {
 fn introduction() -> String {
     format!(
         "# Times of the proved library against plain Rust\n\n\
-         Each time is the processor's, the least of {ROUNDS} rounds of scheduling \
-         ({PAIR_ROUNDS} by all pairs), {CHANGE_ROUNDS} of changes and {QUICK_ROUNDS} of the \
-         rest, in which the contenders take turns. Buffers and arrays are allocated before \
-         and not cleared between rounds: they hold what the round before left. A ratio above \
-         1 says that the proved library takes longer."
+         Each time is the processor's, the least of {ROUNDS} rounds of scheduling and judging \
+         ({PAIR_ROUNDS} where all pairs are sorted, and as worded), {CHANGE_ROUNDS} of changes and \
+         {QUICK_ROUNDS} of the rest, in which the contenders take turns. Buffers and arrays \
+         are allocated before and not cleared between rounds: they hold what the round before \
+         left. A ratio above 1 says that the proved library takes longer."
     )
 }
 
@@ -427,6 +441,100 @@ fn changing() {
                     ours.over(bare),
                 );
             }
+        }
+    }
+}
+
+/// The least times of judging a scheduled sheet: proved; of scheduling it again, proved; and
+/// of judging it in plain Rust by a scan and by all pairs. All are seen to accept it.
+fn time_judging(sheet: &[u8]) -> [Micros; 4] {
+    let mut work = vec![0; work_bytes(MOST)];
+    let mut out = vec![0; sheet.len()];
+    let [mut scan, mut pairs] = [(); 2].map(|()| Desk::default());
+    assert!(rollmap::judge(sheet).is_ok());
+    assert!(scan.judge_by_scan(sheet).is_ok() && pairs.judge_by_pairs(sheet).is_ok());
+    let times = race(
+        ROUNDS,
+        1,
+        [
+            &mut || _ = black_box(rollmap::judge(black_box(sheet))),
+            &mut || _ = black_box(rollmap::schedule(sheet, Work(&mut work), &mut out)),
+            &mut || _ = black_box(scan.judge_by_scan(black_box(sheet))),
+            &mut || _ = black_box(pairs.judge_by_pairs(black_box(sheet))),
+        ],
+    );
+    assert!(out == sheet, "scheduling writes the sheet again");
+    times
+}
+
+/// The least time of judging a sheet by all pairs as 02 words it, with nothing laid out for
+/// speed.
+fn time_wording(sheet: &[u8]) -> Micros {
+    let [wording] = race(
+        PAIR_ROUNDS,
+        1,
+        [&mut || _ = black_box(oracle::judge::judge(black_box(sheet)))],
+    );
+    wording
+}
+
+/// The cells of a row for the times of judging.
+fn judging_cells([judging, scheduling, scan, pairs]: [Micros; 4]) -> String {
+    format!(
+        "{:.2} | {:.2} | {:.2} | {:.2} | {:.1} | {:.2} | {:.1}",
+        judging.millis(),
+        scheduling.millis(),
+        judging.over(scheduling),
+        scan.millis(),
+        scan.over(judging),
+        pairs.millis(),
+        pairs.over(judging),
+    )
+}
+
+/// The cells of the judge as it is worded, against the proved one.
+fn worded_cells(judging: Micros, sheet: &[u8]) -> String {
+    let wording = time_wording(sheet);
+    format!("{:.0} | {:.0}", wording.millis(), wording.over(judging))
+}
+
+/// The columns of these cells.
+const AS_WORDED: [&str; 2] = ["by all pairs as worded, ms", "times faster than that"];
+
+/// The columns of the others.
+const JUDGING_COLUMNS: [&str; 7] = [
+    "judging, proved, ms",
+    "scheduling, proved, ms",
+    "judging over scheduling",
+    "judging in plain Rust by a scan, ms",
+    "times faster than the scan",
+    "judging in plain Rust by all pairs, ms",
+    "times faster than all pairs",
+];
+
+fn judging() {
+    table(
+        "Judging 4,096 marks, against scheduling them and against all pairs; all check the sheet \
+         in each call",
+        &[&["data"], &JUDGING_COLUMNS[..], &AS_WORDED].concat(),
+    );
+    for (name, shape) in JUDGED {
+        let sheet = scheduled(shape, MOST);
+        let times = time_judging(&sheet);
+        let [cells, wording] = [judging_cells(times), worded_cells(times[0], &sheet)];
+        println!("| {name} | {cells} | {wording} |");
+    }
+}
+
+fn judging_popups() {
+    table(
+        "Judging 4,096 marks with popups, against scheduling them and against all pairs",
+        &[&["data", "popups"], &JUDGING_COLUMNS[..]].concat(),
+    );
+    for (name, shape) in JUDGED {
+        for (popups, how) in POPPING_UP {
+            let cells = judging_cells(time_judging(&scheduled_popping_up(how, shape)));
+            println!("| {name} | {popups} | {cells} |");
         }
     }
 }

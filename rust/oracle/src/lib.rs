@@ -24,6 +24,7 @@ pub mod change;
 pub mod contents;
 pub mod fill;
 pub mod fraction;
+pub mod judge;
 pub mod label;
 pub mod log;
 pub mod map;

@@ -67,7 +67,13 @@ fn second_rule_breach(reel: Reel, list: &[Removal]) -> Option<usize> {
 
 /// Whether `other` ranks higher than `mark`, has this pair value with it, and is
 /// removed later.
-fn accounts_for(reel: Reel, list: &[Removal], mark: usize, value: Fraction, other: usize) -> bool {
+pub(crate) fn accounts_for(
+    reel: Reel,
+    list: &[Removal],
+    mark: usize,
+    value: Fraction,
+    other: usize,
+) -> bool {
     let pair = reel.pair_value(other, mark);
     reel.outranks(other, mark) && pair.compare(value).is_eq() && list[other].later_than(value)
 }

@@ -1,7 +1,8 @@
 //! What tests and benchmarks are made of: marks and popups made up from a seed, the same
 //! ones on every machine, all of which 01 and 02 take; the marks of some of 01's examples,
-//! and those with ties in the tree; worked examples of popups; sheets that are refused; and
-//! what a test tries whole.
+//! and those with ties in the tree; worked examples of popups and of schedules that are
+//! judged; sheets that are refused; the schedules that question 8 takes; and what a test
+//! tries whole.
 
 use crate::fraction::Fraction;
 use crate::mark::{touching_value, write_marks, Mark, LARGEST_RADIUS};
@@ -9,6 +10,7 @@ use crate::popup::{write_popups, LARGEST_POPUP};
 use crate::process::schedule_by_process;
 use crate::rank::Edition;
 use crate::record::{write_records, Record};
+use crate::reel::Reel;
 use crate::sheet::{join, join_parts};
 use crate::zoom::{removal_zoom_in_64ths, zoom_squared};
 use crate::Refusal;
@@ -194,6 +196,260 @@ pub const POPUP_EXAMPLES: [PopupExample; 11] = [
         records: &[Record::NEVER, Record::new(0, 8_589_672_450, 4)],
         shown: &[(65_534, 0x00), (65_535, 0x02), (65_536, 0x03)],
     },
+];
+
+/// Marks with what else decides their schedule, records of them that question 8 takes, and
+/// whether the judge accepts these (02, request 10).
+#[derive(Clone, Copy, Debug)]
+pub struct JudgedExample {
+    pub edition: Edition,
+    pub marks: &'static [Mark],
+    pub popups: Option<&'static [u32]>,
+    pub records: &'static [Record],
+    pub accepted: bool,
+}
+
+impl JudgedExample {
+    /// Records of the first edition without popups that are accepted.
+    const fn ours(marks: &'static [Mark], records: &'static [Record]) -> Self {
+        Self {
+            edition: Edition::First,
+            marks,
+            popups: None,
+            records,
+            accepted: true,
+        }
+    }
+
+    /// Such records that are not accepted.
+    const fn foreign(marks: &'static [Mark], records: &'static [Record]) -> Self {
+        Self {
+            accepted: false,
+            ..Self::ours(marks, records)
+        }
+    }
+
+    /// The same by the second edition.
+    const fn by_the_second(self) -> Self {
+        Self {
+            edition: Edition::Second,
+            ..self
+        }
+    }
+
+    /// The same with popups.
+    const fn with_popups(self, popups: &'static [u32]) -> Self {
+        Self {
+            popups: Some(popups),
+            ..self
+        }
+    }
+
+    /// What decides the schedule of the marks.
+    pub fn reel(&self) -> Reel<'static> {
+        Reel {
+            marks: self.marks,
+            edition: self.edition,
+            popups: self.popups,
+        }
+    }
+}
+
+/// Marks of which 1 and 2 would be removed together by 0 if they did not touch each other
+/// before.
+pub const TOGETHER: [Mark; 3] = [
+    Mark::plain(0, 0, 1, 9),
+    Mark::plain(50, 0, 1, 5),
+    Mark::plain(48, 14, 1, 4),
+];
+
+/// Marks of which 0, the lowest-ranked, has one touching value with both others, by other
+/// numbers: 16/4 and 64/16. These touch later, at 144/16.
+const EQUAL_VALUES: [Mark; 3] = [
+    Mark::plain(0, 0, 1, 0),
+    Mark::plain(-4, 0, 1, 5),
+    Mark::plain(8, 0, 3, 7),
+];
+
+/// The same with one priority for both others, of which the second has the larger radius; and
+/// a mark that removes both before they touch.
+const EQUAL_PRIORITIES: [Mark; 4] = [
+    EQUAL_VALUES[0],
+    EQUAL_VALUES[1],
+    Mark::plain(8, 0, 3, 5),
+    Mark::plain(-2, 5, 1, 9),
+];
+
+/// Their records where 0 goes by 1, the lower number.
+const BY_THE_LOWER_NUMBER: [Record; 4] = [
+    Record::new(1, 16, 4),
+    Record::new(3, 29, 4),
+    Record::new(3, 125, 16),
+    Record::NEVER,
+];
+
+/// And where it goes by 2, the larger label.
+const BY_THE_LARGER_LABEL: [Record; 4] = [
+    Record::new(2, 64, 16),
+    Record::new(3, 29, 4),
+    Record::new(3, 125, 16),
+    Record::NEVER,
+];
+
+/// Marks on a line. Neighbours touch at 400/400, where the second one goes.
+const FOUR_IN_LINE: [Mark; 4] = [
+    Mark::plain(0, 0, 10, 9),
+    Mark::plain(20, 0, 10, 7),
+    Mark::plain(40, 0, 10, 5),
+    Mark::plain(60, 0, 10, 6),
+];
+
+/// Marks of which 0, the lowest-ranked, touches both others at 22500/400, and these each
+/// other at 90000/400.
+const FAR_APART: [Mark; 3] = [
+    Mark::plain(0, 0, 10, 0),
+    Mark::plain(-150, 0, 10, 5),
+    Mark::plain(150, 0, 10, 7),
+];
+
+/// The same with the second one nearer: 0 touches it at 10000/400, and it touches the third at
+/// 62500/400.
+const ONE_NEARER: [Mark; 3] = [FAR_APART[0], Mark::plain(-100, 0, 10, 5), FAR_APART[2]];
+
+/// Worked examples of schedules that are judged.
+pub const JUDGED_EXAMPLES: [JudgedExample; 26] = [
+    // No marks, and one.
+    JudgedExample::ours(&[], &[]),
+    JudgedExample::ours(&[P1[0]], &[Record::NEVER]),
+    // P1 as it is scheduled, and without removing 3, or anybody.
+    JudgedExample::ours(&P1, POPUP_EXAMPLES[0].records),
+    JudgedExample::foreign(
+        &P1,
+        &[
+            Record::NEVER,
+            Record::new(0, 10_000, 400),
+            Record::new(0, 40_000, 400),
+            Record::NEVER,
+        ],
+    ),
+    JudgedExample::foreign(&P1, &[Record::NEVER; 4]),
+    // 1 stays, and 2 goes by it where 1 should.
+    JudgedExample::foreign(
+        &P1,
+        &[
+            Record::NEVER,
+            Record::NEVER,
+            Record::new(1, 10_000, 400),
+            Record::new(0, 9, 225),
+        ],
+    ),
+    // Two at one place: one of them goes at 0.
+    JudgedExample::ours(&P5, &[Record::NEVER, Record::new(0, 0, 4)]),
+    JudgedExample::foreign(&P5, &[Record::NEVER; 2]),
+    // Two as far apart as there are places touch, too.
+    JudgedExample::ours(&P6, &[Record::NEVER, Record::new(0, 8_589_672_450, 4)]),
+    JudgedExample::foreign(&P6, &[Record::NEVER; 2]),
+    // 2 goes by 1, before 1 goes. Not together with it: then both would outlive their value.
+    JudgedExample::ours(
+        &TOGETHER,
+        &[
+            Record::NEVER,
+            Record::new(0, 2_500, 4),
+            Record::new(1, 200, 4),
+        ],
+    ),
+    JudgedExample::foreign(
+        &TOGETHER,
+        &[
+            Record::NEVER,
+            Record::new(0, 2_500, 4),
+            Record::new(0, 2_500, 4),
+        ],
+    ),
+    // Of equal values, however they are written, the highest-ranked mark is named.
+    JudgedExample::ours(
+        &EQUAL_VALUES,
+        &[
+            Record::new(2, 64, 16),
+            Record::new(2, 144, 16),
+            Record::NEVER,
+        ],
+    ),
+    JudgedExample::foreign(
+        &EQUAL_VALUES,
+        &[
+            Record::new(1, 16, 4),
+            Record::new(2, 144, 16),
+            Record::NEVER,
+        ],
+    ),
+    // Of equal priorities that is the lower number, and in the second edition the larger
+    // label.
+    JudgedExample::ours(&EQUAL_PRIORITIES, &BY_THE_LOWER_NUMBER),
+    JudgedExample::foreign(&EQUAL_PRIORITIES, &BY_THE_LARGER_LABEL),
+    JudgedExample::ours(&EQUAL_PRIORITIES, &BY_THE_LARGER_LABEL).by_the_second(),
+    JudgedExample::foreign(&EQUAL_PRIORITIES, &BY_THE_LOWER_NUMBER).by_the_second(),
+    // 1 outranks 3 and has the same value with 2, but goes there itself.
+    JudgedExample::ours(
+        &FOUR_IN_LINE,
+        &[
+            Record::NEVER,
+            Record::new(0, 400, 400),
+            Record::new(3, 400, 400),
+            Record::new(0, 3_600, 400),
+        ],
+    ),
+    // Where 1 stays, 2 would have to name it.
+    JudgedExample::foreign(
+        &FOUR_IN_LINE,
+        &[
+            Record::NEVER,
+            Record::NEVER,
+            Record::new(3, 400, 400),
+            Record::new(0, 3_600, 400),
+        ],
+    ),
+    // All pop up at once, and the highest-ranked removes all others there.
+    JudgedExample::ours(&P1, POPUP_EXAMPLES[6].records).with_popups(POPUP_EXAMPLES[6].popups),
+    JudgedExample::foreign(&P1, &[Record::NEVER; 4]).with_popups(POPUP_EXAMPLES[6].popups),
+    // 0 pops up after it would touch both others, with which it has one value then.
+    JudgedExample::ours(
+        &FAR_APART,
+        &[
+            Record::new(2, 409_600, 4_096),
+            Record::new(2, 90_000, 400),
+            Record::NEVER,
+        ],
+    )
+    .with_popups(&[640, 0, 0]),
+    JudgedExample::foreign(
+        &FAR_APART,
+        &[
+            Record::new(1, 409_600, 4_096),
+            Record::new(2, 90_000, 400),
+            Record::NEVER,
+        ],
+    )
+    .with_popups(&[640, 0, 0]),
+    // A popup value ties with a touching value that equals it: 22500/400 is 480²/4096.
+    JudgedExample::ours(
+        &ONE_NEARER,
+        &[
+            Record::new(2, 22_500, 400),
+            Record::new(2, 62_500, 400),
+            Record::NEVER,
+        ],
+    )
+    .with_popups(&[0, 480, 0]),
+    JudgedExample::foreign(
+        &ONE_NEARER,
+        &[
+            Record::new(1, 230_400, 4_096),
+            Record::new(2, 62_500, 400),
+            Record::NEVER,
+        ],
+    )
+    .with_popups(&[0, 480, 0]),
 ];
 
 /// The lists of codes that question 2 takes (01, and 02, requests 6 and 9).
@@ -449,6 +705,42 @@ pub fn refused_sheets() -> Vec<(Refusal, Vec<u8>)> {
         (10, join_parts(&[(1, &[]), (5, &[])])),
         (10, join(&[&[]])),
     ]
+}
+
+/// The records that question 8 takes of mark m, by those of the marks that outrank it:
+/// 'never', and one by each of these that is removed later than its pair value with m.
+pub fn fitting_records(reel: Reel, records: &[Record], m: usize) -> Vec<Record> {
+    let by = |other: usize| {
+        let value = reel.pair_value(other, m);
+        let later = records[other].removal().later_than(value);
+        later.then(|| Record::removed(other, value))
+    };
+    let higher = (0..records.len()).filter(|&other| reel.outranks(other, m));
+    let never = [Record::NEVER].into_iter();
+    never.chain(higher.filter_map(by)).collect()
+}
+
+/// Calls `visit` with every schedule of a reel that question 8 takes.
+pub fn each_schedule(reel: Reel, visit: &mut impl FnMut(&[Record])) {
+    let mut records = vec![Record::NEVER; reel.marks.len()];
+    settle_in_every_way(reel, &reel.ranked(), &mut records, visit);
+}
+
+/// Calls `visit` with the records in which these marks have each record that fits, the
+/// highest-ranked mark first.
+fn settle_in_every_way(
+    reel: Reel,
+    ranked: &[usize],
+    records: &mut [Record],
+    visit: &mut impl FnMut(&[Record]),
+) {
+    let Some((&m, lower)) = ranked.split_first() else {
+        return visit(records);
+    };
+    for record in fitting_records(reel, records, m) {
+        records[m] = record;
+        settle_in_every_way(reel, lower, records, visit);
+    }
 }
 
 /// Calls `visit` with every list of so many entries from the choice.

@@ -82,6 +82,8 @@ extern "C" {
         out_length: usize,
     ) -> Answer;
 
+    fn rollmap_judge(sheet: *const u8, sheet_length: usize) -> Answer;
+
     fn rollmap_assemble(
         codes: *const u16,
         codes_length: usize,
@@ -198,6 +200,11 @@ pub(crate) fn take_out(sheet: &[u8], m: u32, work: &mut [u8], out: &mut [u8]) ->
             out.len(),
         )
     }
+}
+
+pub(crate) fn judge(sheet: &[u8]) -> Answer {
+    // SAFETY: pointer and length are a slice's (see the top of this file).
+    unsafe { rollmap_judge(sheet.as_ptr(), sheet.len()) }
 }
 
 /// Rows for one more part than a sheet has: so many are refused as any more would be.

@@ -12,8 +12,8 @@
 //! view asks [20](Refusal::Window) after 10.
 //!
 //! ```
-//! use rollmap::{assemble_to_vec, marks_to_vec, popups_to_vec, records, schedule_to_vec};
-//! use rollmap::{view_to_map, Code, Mark, Record, Turn, View, Zoom, NO_POPUP};
+//! use rollmap::{assemble_to_vec, judge, marks_to_vec, popups_to_vec, records, schedule_to_vec};
+//! use rollmap::{view_to_map, Code, Mark, Record, Refusal, Turn, View, Zoom, NO_POPUP};
 //!
 //! // Two marks at (0, 0) and (100, 0); the first has the higher priority. They touch at
 //! // zoom 5.
@@ -37,6 +37,10 @@
 //! let gone = Record::Removed { eliminator: 0, numerator: 10_000, denominator: 400 };
 //! assert!(records(&scheduled).unwrap().eq([Record::Never, gone]));
 //!
+//! // Whoever made a schedule, the judge tells whether it is the one that scheduling writes.
+//! assert_eq!(judge(&scheduled), Ok(()));
+//! assert_eq!(judge(&sheet), Err(Refusal::Unscheduled));
+//!
 //! // The first mark is for the overview: it pops up at zoom 8, and until then the other one
 //! // lives.
 //! let popups = popups_to_vec(&[8 * 64, NO_POPUP]);
@@ -54,6 +58,7 @@ mod change;
 mod edition;
 mod ffi;
 mod fill;
+mod judge;
 mod log;
 mod mark;
 mod part;
@@ -68,6 +73,7 @@ mod walk;
 pub use change::{add, add_to_vec, take_out, take_out_to_vec};
 pub use edition::{edition, Edition, EDITION_BYTES};
 pub use fill::{fill, fill_to_vec, rescue};
+pub use judge::judge;
 pub use log::{log_to_marks, log_to_marks_vec, marks_to_log, marks_to_log_vec, LOG_RECORD_BYTES};
 pub use mark::{marks, marks_to_vec, Mark, MARK_BYTES};
 pub use part::{part, Code};

@@ -29,7 +29,7 @@ pub enum Refusal {
     Schedule = 8,
     /// 9: the index in part 3.
     Index = 9,
-    /// 10: parts 2 and 3, which a view needs, and a change of the marks.
+    /// 10: parts 2 and 3, which a view needs, a change of the marks, and the judge.
     Unscheduled = 10,
     /// 11: the edges of a view, whether they are in order.
     Edges = 11,
@@ -53,6 +53,8 @@ pub enum Refusal {
     Window = 20,
     /// 21: the popups in part 5, or that of a mark to be added.
     Popups = 21,
+    /// 22: the schedule in part 2, of which the judge says that it is not ours.
+    Judgement = 22,
 }
 
 impl Refusal {
@@ -79,6 +81,7 @@ impl Refusal {
         Self::Edition,
         Self::Window,
         Self::Popups,
+        Self::Judgement,
     ];
 
     /// The question's number.
@@ -142,6 +145,11 @@ impl Refusal {
                 "is part 5, if present, 4n bytes, with no popup above 65,536; and is the popup \
                  of a new mark at most that, and 0 where part 5 is not there?"
             }
+            Self::Judgement => {
+                "does no pair of marks have both removed later than its pair value, is each \
+                 removal value the pair value with some higher-ranked mark that is removed \
+                 later, and is the highest-ranked such mark named?"
+            }
         }
     }
 }
@@ -176,14 +184,14 @@ mod tests {
     use super::*;
 
     #[test]
-    fn numbers_are_1_to_21_in_order() {
+    fn numbers_are_1_to_22_in_order() {
         let numbers = Refusal::ALL.iter().map(|refusal| refusal.number());
-        assert!(numbers.eq(1..=21));
+        assert!(numbers.eq(1..=22));
         for &refusal in Refusal::ALL {
             assert_eq!(Refusal::from_number(refusal.number()), Some(refusal));
         }
         assert_eq!(Refusal::from_number(0), None);
-        assert_eq!(Refusal::from_number(22), None);
+        assert_eq!(Refusal::from_number(23), None);
     }
 
     #[test]

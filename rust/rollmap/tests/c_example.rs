@@ -54,6 +54,9 @@ take it out: 0 140, the same 1, then ee
 take out 4 of 4: 17 0
 take out 65536: 17 0, the same 1
 take out 0: 0 113, 1: 0 10000 400
+judge: 0 0
+judge marks alone: 10 0
+nobody goes: 0 86, check 0 0, judge 22 0, schedule 0 86, judge that 0 0
 part 1 of three: 0 56
 parts 1, 2 and 4: 0 133
 two rows for three codes: 1 0
@@ -202,7 +205,12 @@ fn the_header_has_the_sizes_and_the_version_of_this_crate() {
 }
 
 /// The most bytes of stack that the header says a call takes.
-const STACK: usize = 8 * 1024;
+fn most_stack(call: &str) -> usize {
+    match call {
+        "judge" => 16 * 1024,
+        _ => 8 * 1024,
+    }
+}
 
 #[test]
 fn every_call_takes_less_stack_than_the_header_says() {
@@ -214,9 +222,9 @@ fn every_call_takes_less_stack_than_the_header_says() {
         (name, bytes.parse::<usize>().expect("a number"))
     });
     let calls: Vec<(&str, usize)> = calls.collect();
-    assert_eq!(calls.len(), 13);
+    assert_eq!(calls.len(), 14);
     for (name, bytes) in calls {
-        assert!(bytes < STACK, "{name} takes {bytes}");
+        assert!(bytes < most_stack(name), "{name} takes {bytes}");
     }
 }
 

@@ -124,6 +124,42 @@ static void print_changes(const uint8_t *sheet, size_t length)
            (unsigned long)number_at(record + 10, 4));
 }
 
+/* The schedule is ours; the marks alone have none; and one in which no mark of two goes is
+   accepted by a check and not by the judge. */
+static void print_judgements(const uint8_t *sheet, size_t length)
+{
+    static const uint16_t codes[3] = {ROLLMAP_CODE_MARKS, ROLLMAP_CODE_SCHEDULE, ROLLMAP_CODE_INDEX};
+    static const uint8_t never[2 * ROLLMAP_RECORD_BYTES] = {
+        255, 255, 0, 0, 0, 0, 0, 0, 0, 0, 0, 0, 0, 0, 255, 255};
+    static const uint8_t index[2 * ROLLMAP_INDEX_BYTES] = {0, 0, 1, 0};
+    uint8_t foreign[ROLLMAP_SCHEDULED_BYTES(2)], ours[ROLLMAP_SCHEDULED_BYTES(2)];
+    uint8_t work[ROLLMAP_WORK_BYTES(2)];
+    struct rollmap_body rows[3];
+    struct rollmap_answer answer;
+
+    answer = rollmap_judge(sheet, length);
+    printf("judge: %u %u\n", answer.number, answer.value);
+    rows[0].bytes = marks;
+    rows[0].length = 2 * ROLLMAP_MARK_BYTES;
+    rows[1].bytes = never;
+    rows[1].length = sizeof never;
+    rows[2].bytes = index;
+    rows[2].length = sizeof index;
+    answer = rollmap_assemble(codes, 1, rows, 3, foreign, sizeof foreign);
+    answer = rollmap_judge(foreign, answer.value);
+    printf("judge marks alone: %u %u\n", answer.number, answer.value);
+    answer = rollmap_assemble(codes, 3, rows, 3, foreign, sizeof foreign);
+    printf("nobody goes: %u %u", answer.number, answer.value);
+    answer = rollmap_check(foreign, sizeof foreign);
+    printf(", check %u %u", answer.number, answer.value);
+    answer = rollmap_judge(foreign, sizeof foreign);
+    printf(", judge %u %u", answer.number, answer.value);
+    answer = rollmap_schedule(foreign, sizeof foreign, work, sizeof work, ours, sizeof ours);
+    printf(", schedule %u %u", answer.number, answer.value);
+    answer = rollmap_judge(ours, sizeof ours);
+    printf(", judge that %u %u\n", answer.number, answer.value);
+}
+
 /* Further rows than codes are ignored, and fewer are refused. */
 static void print_rows(const uint8_t *sheet)
 {
@@ -324,6 +360,7 @@ int main(void)
     print_turned_views(out, sizeof out - 1);
     print_refusals(out, sizeof out - 1);
     print_changes(out, sizeof out - 1);
+    print_judgements(out, sizeof out - 1);
     print_rows(out);
     print_edition(ROLLMAP_EDITION_FIRST);
     print_edition(ROLLMAP_EDITION_SECOND);

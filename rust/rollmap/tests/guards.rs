@@ -5,7 +5,9 @@ mod common;
 use std::io::Write;
 use std::process::{Command, Stdio};
 
-use common::{bound, one_part, rivals, three_parts, with_part_4, with_popups, Beyond, PROGRAM};
+use common::{
+    bound, one_part, rivals, some_records, three_parts, with_part_4, with_popups, Beyond, PROGRAM,
+};
 use oracle::mark::{read_marks, touching_value, Mark};
 use oracle::record::{read_records, removals, Record};
 use oracle::sample::{marks, popups, Generator, Popups, Shape, P1};
@@ -97,7 +99,7 @@ fn every_test_that_the_page_names_is_here() {
     let sentences = GUARDS.lines().filter_map(|line| line.split_once("Test: "));
     let named = cells.chain(sentences.map(|(_, name)| name.trim_end_matches('.')));
     let names: Vec<&str> = named.flat_map(|names| names.split(", ")).collect();
-    assert_eq!(names.len(), 33);
+    assert_eq!(names.len(), 35);
     for name in names {
         let test = format!("#[test]\nfn {}()", name.trim_matches('`'));
         assert!(own.contains(&test), "{name}");
@@ -109,12 +111,42 @@ fn a_foreign_schedule_is_accepted_and_scheduling_mends_it() {
     let pair = [Mark::plain(0, 0, 10, 9), Mark::plain(100, 0, 10, 5)];
     let foreign = three_parts(&pair, &[Record::NEVER; 2]);
     assert_eq!(rollmap::check(&foreign), Ok(()));
+    assert_eq!(rollmap::judge(&foreign), Err(Refusal::Judgement));
     assert!(touch(&pair[0], &pair[1], 320));
     assert_eq!(shown(&foreign, wheel(320)), [0, 1]);
 
     let mended = schedule_to_vec(&foreign).unwrap();
     assert_eq!(shown(&mended, wheel(320)), [0]);
     assert_eq!(schedule_to_vec(&mended), Ok(mended));
+}
+
+#[test]
+fn a_schedule_from_elsewhere_is_judged_and_not_worked_out_again() {
+    let mut generator = Generator::new(91);
+    let (mut accepted, mut refused) = (0, 0);
+    for round in 0..400 {
+        let marks = rivals(&mut generator, 1 + round % 12);
+        let beyond = Beyond::draw(&mut generator, &marks);
+        let records = some_records(&mut generator, beyond.reel(&marks));
+        let proposed = beyond.with_records(&marks, &records);
+        assert_eq!(rollmap::check(&proposed), Ok(()));
+        let ours = schedule_to_vec(&proposed).unwrap();
+        match rollmap::judge(&proposed) {
+            Ok(()) => {
+                assert_eq!(proposed, ours);
+                accepted += 1;
+            }
+            Err(refusal) => {
+                assert_eq!(refusal, Refusal::Judgement);
+                assert_ne!(proposed, ours);
+                refused += 1;
+            }
+        }
+        assert_eq!(rollmap::judge(&ours), Ok(()));
+    }
+    assert!(accepted > 100 && refused > 100, "{accepted} {refused}");
+    // Part 1 alone has no schedule to be judged.
+    assert_eq!(rollmap::judge(&one_part(&P1)), Err(Refusal::Unscheduled));
 }
 
 // ---- the cut list

@@ -476,6 +476,7 @@ fn the_popup_of_either_mark_counts_in_a_record() {
 /// nothing.
 fn refused_by_every_job(sheet: &[u8], refused: u32) {
     assert_eq!(check(sheet), refused);
+    assert_eq!(number(&rollmap::judge(sheet)), refused);
     let answer = &Err::<Vec<u8>, _>(refused);
     for lengths in [[0, 0], longest()] {
         schedule_in(sheet, lengths, rollmap::schedule, answer);

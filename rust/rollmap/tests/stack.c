@@ -55,6 +55,11 @@ static uint32_t check(void)
     return rollmap_check(out, sizeof out).number;
 }
 
+static uint32_t judge(void)
+{
+    return rollmap_judge(out, sizeof out).number;
+}
+
 static uint32_t view_stop(void)
 {
     return rollmap_view_stop(out, sizeof out, -32768, 32768, -32768, 32768, 3, 0, map, sizeof map).number;
@@ -101,8 +106,8 @@ static const struct call {
     uint32_t (*make)(void);
 } calls[] = {
     {"assemble", assemble},     {"schedule", schedule}, {"take_out", take_out}, {"add", add},
-    {"check", check},           {"view_stop", view_stop}, {"view_wheel", view_wheel}, {"walk", walk},
-    {"is_shown", is_shown},     {"part", part},         {"fill", fill},
+    {"check", check},           {"judge", judge},       {"view_stop", view_stop}, {"view_wheel", view_wheel},
+    {"walk", walk},             {"is_shown", is_shown}, {"part", part},         {"fill", fill},
     {"marks_to_log", marks_to_log}, {"log_to_marks", log_to_marks},
 };
 

@@ -1,19 +1,19 @@
 -- Codes that are right: what question 2 says of them.
 use Prim.Native.Nat.{ℕ, zero, suc, _+_, _<_, _≤_}
-use mathlib.Core.Path.{_≡_, refl, sym, ap, _∙_}
+use mathlib.Core.Path.{_≡_, refl, sym, ap, ap₂, _∙_}
 use mathlib.Core.Bool.{Bool, true, false, cond, _&&_, false≢true}
 use mathlib.Core.List.{List, [], _∷_, _++_, map}
 use mathlib.Core.List.{List·Memᴰ, List·Memᴰ·head, List·Memᴰ·tail, List·Memᴰ·not-nil, List·Memᴰ·cases-cons}
 use mathlib.Core.List.{Memᴰ·cast, Memᴰ·append-left, Memᴰ·append-right, Memᴰ·map}
 use mathlib.Core.Logic.{_↔_, _⊎_, inl, inr}
-use native.Mathlib.Decide.{decLt}
+use native.Mathlib.Decide.{decLt, ℕ-discrete}
 use native.Mathlib.Numerals.{add-one}
 use native.Mathlib.Omega.{arith}
 use lib.Dec.{ltb, leb}
 use lib.ListN.{length, getD, drop, length-map, drop-of-length-le}
 use lib.Seq.{drop-cons}
 use borrow.Author.Tests.{ltb-true, leb-true, lt-ltb, le-ltb, le-leb, lt-leb, eq-eqb, ne-eqb}
-use Rattle.contents.specs.Contents.{Part, codesOf, bodiesOf, names, find}
+use Rattle.contents.specs.Contents.{Part, _holds_, codesOf, bodiesOf, names, has, find}
 use Rattle.contents.specs.Questions.{topCode, rising, codesRight}
 use Rattle.lists.specs.TestLaws.{both-iff}
 
@@ -176,3 +176,47 @@ codes-iff codes = (
   (λ right. passing-of codesRight codes (climbs 0 topCode) (climbs-all 0 topCode codes (omega arith) (is-rising codes right)) right),
   passing-at codesRight codes (climbs 0 topCode),
 )
+
+-- ---- the parts of right codes, code by code
+
+abbrev pub thereOf : ℕ → List Part → List Part
+thereOf code parts = cond (has parts code) ((code holds find parts code) ∷ []) []
+
+-- those of k codes from this one on
+abbrev pub inOrder : ℕ → ℕ → List Part → List Part
+inOrder code zero parts = []
+inOrder code (suc k) parts = thereOf code parts ++ inOrder (suc code) k parts
+
+order-none : (code k : ℕ) → inOrder code k [] ≡ []
+order-none code zero = refl
+order-none code (suc k) = order-none (suc code) k
+
+-- a part of a lower code is none of them
+order-past : (p : Part) (parts : List Part) (code k : ℕ) → p .code < code → inOrder code k (p ∷ parts) ≡ inOrder code k parts
+order-past p parts code zero h = refl
+order-past p parts code (suc k) h = rw (ne-eqb (p .code) code (λ e. omega arith), order-past p parts (suc code) k (omega arith))
+
+-- rising codes name none below them
+rising-unnamed : (low code : ℕ) (codes : List ℕ) → code ≤ low → rising low codes ≡ true → names codes code ≡ false
+rising-unnamed low code [] h e = refl
+rising-unnamed low code (c ∷ codes) h e =
+    let r = rises low c codes e in
+    rw (ne-eqb c code (λ x. omega (arith, r .above)), rising-unnamed c code codes (omega (arith, r .above)) (r .rest))
+
+rising-order-all : (low k : ℕ) (parts : List Part) → low + k ≡ topCode → rising low (codesOf parts) ≡ true → parts ≡ inOrder (suc low) k parts
+rising-order-all low k [] t e = sym (order-none (suc low) k)
+rising-order-all low zero (p ∷ parts) t e = let r = rises low (p .code) (codesOf parts) e in absurd (omega (arith, r .above, r .within))
+rising-order-all low (suc k) (p ∷ parts) t e =
+    let r = rises low (p .code) (codesOf parts) e in
+    elim (ℕ-discrete (p .code) (suc low)) [
+      | yes x ↦
+          rw (eq-eqb (p .code) (suc low) x, order-past p parts (suc (suc low)) k (omega arith))
+          (ap₂ (λ (c : ℕ) (l : List Part). (c holds p .body) ∷ l) x (rising-order-all (suc low) k parts (omega arith) (rw x at (r .rest))))
+      | no x ↦
+          (let above : suc low < p .code = omega (arith, r .above) in
+          let rest : rising (suc low) (codesOf (p ∷ parts)) ≡ true = rw (lt-ltb (suc low) (p .code) above, le-leb (p .code) topCode (r .within)) (r .rest) in
+          rw (rising-unnamed (suc low) (suc low) (codesOf (p ∷ parts)) (omega arith) rest) (rising-order-all (suc low) k (p ∷ parts) (omega arith) rest))
+    ]
+
+pub in-order : (parts : List Part) → codesRight (codesOf parts) ≡ true → parts ≡ inOrder 1 topCode parts
+in-order parts right = rising-order-all 0 topCode parts (omega arith) (is-rising (codesOf parts) right)

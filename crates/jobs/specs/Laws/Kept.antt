@@ -2,16 +2,16 @@
 use Prim.Native.Nat.{ℕ, zero, suc, _+_, _*_, _<_, _≤_}
 use mathlib.Core.Path.{_≡_, refl, sym, ap, _∙_}
 use mathlib.Core.Bool.{Bool, true, false, cond, true≢false, false≢true}
-use mathlib.Core.List.{List, [], _∷_}
+use mathlib.Core.List.{List, [], _∷_, append-nil}
 use native.Mathlib.Omega.{arith}
 use lib.ListN.{length, getD, length-append}
 use Rattle.lists.specs.TestLaws.{by-cases}
 use Rattle.numbers.specs.Little.{Bytes}
 use Rattle.marks.specs.Good.{GoodMarks}
 use Rattle.marks.specs.PairLaws.{none-good}
-use Rattle.contents.specs.Contents.{Part, _holds_, codesOf, bodiesOf, has, split, chain, editionPart, popupsPart}
+use Rattle.contents.specs.Contents.{Part, _holds_, codesOf, bodiesOf, has, split, chain, marksPart, schedulePart, indexPart, editionPart, popupsPart}
 use Rattle.contents.specs.Questions.{codesRight}
-use Rattle.contents.specs.Laws.{find-none, find-bytes}
+use Rattle.contents.specs.Laws.{find-none, find-bytes, one-there, in-order}
 use Rattle.bodies.specs.Questions.{markCount, countOf, editionOf, isEdition, isPopups}
 use Rattle.bodies.specs.Fitting.{Fitting}
 use Rattle.bodies.specs.Laws.{edition-long, popups-iff}
@@ -195,3 +195,11 @@ alone-fits marks kept good long right =
       schedule-right = λ e. absurd (true≢false (sym e ∙ right .no-schedule));
       index-right = λ e. absurd (true≢false (sym e ∙ right .no-index));
     }
+
+-- ---- a whole sheet: parts 1 to 3, and what is kept
+
+pub kept-whole : (parts : List Part) → codesRight (codesOf parts) ≡ true → has parts 2 ≡ true → has parts 3 ≡ true
+    → parts ≡ (1 holds marksPart parts) ∷ (2 holds schedulePart parts) ∷ (3 holds indexPart parts) ∷ keptParts parts
+kept-whole parts right two three =
+    in-order parts right
+    ∙ rw (one-there (codesOf parts) right, two, three, append-nil (keep 5 parts))

@@ -1,21 +1,12 @@
 -- `marks::pair` meets its contract: the larger popup and the touching value make the pair value, and without popups it is the touching value.
 -- Assumes nothing.
-use Prim.Native.Nat.{ℕ}
-use mathlib.Core.Path.{_≡_, sym, ap₂, _∙_}
-use mathlib.Core.List.{List, [], _∷_}
-use native.Mathlib.Omega.{arith}
+use mathlib.Core.Path.{ap₂, _∙_}
 use borrow.Author.Needs.{needs}
 use denote.Ref.{now}
-use lib.ListN.{length}
-use Rattle.marks.specs.Marks.{touching}
 use Rattle.marks.specs.Pairs.{larger, pairOf, pairValue}
-use Rattle.marks.specs.PairLaws.{larger-most, without-popups}
+use Rattle.marks.specs.PairLaws.{larger-most, unpopped}
 use Rattle.marks.proofs.pair.Statement.{statement}
 use Rattle.marks.proofs.pair.Tie as tie
-
-unpopped : (s q : List ℕ) (a b : ℕ) → length q ≡ 0 → touching s a b ≡ pairValue s q a b
-unpopped s [] a b e = sym (without-popups s a b)
-unpopped s (x ∷ q) a b e = absurd (omega arith)
 
 touching-requires : tie.Need-touching-requires
 touching-requires c κs = search needs

@@ -7,6 +7,7 @@
 
 pub mod grid;
 pub mod index;
+pub mod judge;
 pub mod schedule;
 pub mod sheet;
 pub mod value;

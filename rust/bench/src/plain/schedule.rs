@@ -20,20 +20,20 @@ use super::value::Value;
 /// A mark in rank order: its label, removal value, and who removes it. Its popup stands in
 /// an array of its own: the inner loop seldom reads one.
 #[derive(Clone, Copy)]
-struct Row {
-    label: Label,
-    eliminator: u32,
-    value: Value,
+pub(super) struct Row {
+    pub(super) label: Label,
+    pub(super) eliminator: u32,
+    pub(super) value: Value,
 }
 
 /// The popups of the rows, none of them where there is no part 5.
 #[derive(Default)]
-struct RowPopups(Vec<u32>);
+pub(super) struct RowPopups(Vec<u32>);
 
 impl RowPopups {
     /// The pair value of two rows with this touching value.
     #[inline]
-    fn pair_value(&self, p: usize, q: usize, touching: Fraction) -> Fraction {
+    pub(super) fn pair_value(&self, p: usize, q: usize, touching: Fraction) -> Fraction {
         match self.0.as_slice() {
             [] => touching,
             popups => pair_value(touching, popups[p].max(popups[q])),
@@ -105,12 +105,12 @@ impl Candidate {
 const MANY: usize = 256;
 const FEW: usize = 192;
 
-/// The arrays that scheduling borrows, kept from run to run.
+/// The arrays that scheduling and judging borrow, kept from run to run.
 #[derive(Default)]
 pub struct Desk {
-    order: Vec<RankKey>,
-    rows: Vec<Row>,
-    popups: RowPopups,
+    pub(super) order: Vec<RankKey>,
+    pub(super) rows: Vec<Row>,
+    pub(super) popups: RowPopups,
     grid: Grid,
     pairs: Vec<Pair>,
     ordered: Vec<Ordered>,
@@ -175,7 +175,7 @@ impl Desk {
     }
 
     /// Sorts the marks by rank and lays out their rows.
-    fn lay_out(&mut self, rows: &Rows) {
+    pub(super) fn lay_out(&mut self, rows: &Rows) {
         let mark = |m: usize| Mark::read(&rows.marks[m]);
         let rank = |m| RankKey::of(rows.edition(), &mark(m), m);
         self.order.clear();

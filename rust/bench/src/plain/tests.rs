@@ -1,15 +1,16 @@
 //! What is raced against the library does the same jobs: all it answers and writes is
 //! the oracle's.
 
+use oracle::judge::judge;
 use oracle::label::Label;
 use oracle::map::map_bytes;
 use oracle::mark::{write_marks, Mark};
 use oracle::popup::write_popups;
 use oracle::process::schedule_in_rank_order;
 use oracle::rank::Edition;
-use oracle::record::write_records;
+use oracle::record::{write_records, Record};
 use oracle::reel::Reel;
-use oracle::sample::{marks, popups, Generator, Popups, Shape};
+use oracle::sample::{each_schedule, fitting_records, marks, popups, Generator, Popups, Shape};
 use oracle::sheet::{check, join, join_parts, split};
 use oracle::tree;
 use oracle::view::{Edges, Window};
@@ -27,20 +28,28 @@ fn sheets(marks: &[Mark]) -> [Vec<u8>; 2] {
 /// The sheets of a reel's marks without parts beyond 3.
 fn sheets_of(reel: Reel) -> [Vec<u8>; 2] {
     let records = schedule_in_rank_order(reel);
-    let (part_1, part_2) = (write_marks(reel.marks), write_records(&records));
-    let part_3 = tree::write_tree(&tree::build(reel.marks, &records));
-    [join(&[&part_1]), join(&[&part_1, &part_2, &part_3])]
+    let bare = join(&[&write_marks(reel.marks)]);
+    [bare, three_parts(reel.marks, &records)]
+}
+
+/// The sheet of three parts with these marks and records.
+fn three_parts(marks: &[Mark], records: &[Record]) -> Vec<u8> {
+    let part_3 = tree::write_tree(&tree::build(marks, records));
+    join(&[&write_marks(marks), &write_records(records), &part_3])
 }
 
 /// The same with a part 4 that names the edition, and a part 5 where the reel has popups.
 fn whole_sheets(reel: Reel) -> [Vec<u8>; 2] {
+    sheets_of(reel).map(|sheet| with_kept(&sheet, reel))
+}
+
+/// The sheet with a part 4 that names the reel's edition, and a part 5 where it has popups.
+fn with_kept(sheet: &[u8], reel: Reel) -> Vec<u8> {
     let (part_4, part_5) = (reel.edition.write(), reel.popups.map(write_popups));
-    sheets_of(reel).map(|sheet| {
-        let mut parts = split(&sheet).unwrap().present();
-        parts.push((4, &part_4));
-        parts.extend(part_5.as_ref().map(|part_5| (5, part_5.as_slice())));
-        join_parts(&parts)
-    })
+    let mut parts = split(sheet).unwrap().present();
+    parts.push((4, &part_4));
+    parts.extend(part_5.as_ref().map(|part_5| (5, part_5.as_slice())));
+    join_parts(&parts)
 }
 
 #[test]
@@ -121,6 +130,62 @@ fn trees_with_two_numbers_exchanged_are_refused() {
                 sheet.swap(start + 2 * a, start + 2 * b);
                 assert_eq!(opened(&sheet), 9);
                 sheet.swap(start + 2 * a, start + 2 * b);
+            }
+        }
+    }
+}
+
+/// The number of a judged sheet, once the oracle is seen to give it too.
+fn judged(desk: &mut Desk, sheet: &[u8]) -> u32 {
+    let answer = desk.judge_by_scan(sheet);
+    assert_eq!(answer, judge(sheet), "{sheet:02x?}");
+    assert_eq!(answer, desk.judge_by_pairs(sheet), "{sheet:02x?}");
+    answer.err().unwrap_or(0)
+}
+
+#[test]
+fn the_judges_are_the_oracles() {
+    let mut desk = Desk::default();
+    let mut numbers = [0; 23];
+    for (shape, n) in Shape::ALL
+        .into_iter()
+        .flat_map(|shape| [0, 1, 2, 3, 4].map(|n| (shape, n)))
+    {
+        let mut sample = marks(shape, n, 7);
+        sample.iter_mut().for_each(|mark| mark.priority &= 1);
+        let drawn = Popups::ALL.map(|how| popups(how, &sample, 7));
+        for reel in Edition::ALL.map(|edition| edition.reel(&sample)) {
+            let popping_up = drawn.iter().map(|popups| reel.with_popups(popups));
+            for reel in std::iter::once(reel).chain(popping_up) {
+                each_schedule(reel, &mut |records| {
+                    let sheet = with_kept(&three_parts(&sample, records), reel);
+                    numbers[judged(&mut desk, &sheet) as usize] += 1;
+                });
+            }
+        }
+        let [bare, _] = sheets(&sample);
+        assert_eq!(judged(&mut desk, &bare), 10);
+    }
+    assert!(numbers[0] > 500 && numbers[22] > 500, "{numbers:?}");
+}
+
+#[test]
+fn the_judges_see_one_record_that_is_not_ours() {
+    let mut desk = Desk::default();
+    let mut generator = Generator::new(8);
+    for shape in Shape::ALL {
+        let sample = marks(shape, 90, 9);
+        let drawn = popups(generator.choose(&Popups::ALL), &sample, 9);
+        let bare = Edition::Second.reel(&sample);
+        for reel in [bare, bare.with_popups(&drawn)] {
+            let ours = schedule_in_rank_order(reel);
+            for _ in 0..20 {
+                let m = generator.below(90) as usize;
+                let mut records = ours.clone();
+                records[m] = generator.choose(&fitting_records(reel, &ours, m));
+                let sheet = with_kept(&three_parts(&sample, &records), reel);
+                let accepted = judged(&mut desk, &sheet) == 0;
+                assert_eq!(accepted, records == ours, "{shape:?} {m}");
             }
         }
     }
