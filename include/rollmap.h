@@ -69,8 +69,8 @@
  *   17  of a mark to be taken out: its number is below n
  *   18  of a mark to be added: the sheet has fewer than 4,096 marks
  *
- * Of a log, 4 is: it is a multiple of 13 and has at most 4,096 records. 14 is asked by
- * the program alone.
+ * Of marks by columns, 4 is as of part 1. Of a log, it is: a multiple of 13, and at most
+ * 4,096 records. 14 is asked by the program alone.
  */
 #ifndef ROLLMAP_H
 #define ROLLMAP_H
@@ -274,6 +274,21 @@ struct rollmap_answer rollmap_fill(const uint8_t *marks, size_t marks_length,
 struct rollmap_answer rollmap_log_to_marks(const uint8_t *log, size_t log_length,
                                            uint8_t *out, size_t out_length);
 struct rollmap_answer rollmap_marks_to_log(const uint8_t *marks, size_t marks_length,
+                                           uint8_t *out, size_t out_length);
+
+/* Rearranges marks (11 bytes each, as in part 1) by columns, as an archive stores them, and
+   back: all x, then all y, radii, priorities, kinds and tags, each as many bytes wide as in
+   a mark. So the columns of n marks start at 0, 2n, 4n, 6n, 8n and 9n. Each x after the
+   first is replaced by its difference from the x before, modulo 65,536, and each y likewise.
+   The value is the number of bytes written to out, as many as are given; what follows there
+   stays as it is. Kinds and radii are not looked at: marks that 5 or 6 would refuse are
+   rearranged like any others. Each call undoes the other, both ways round: whatever bytes
+   one takes, the other gives them back from what it wrote.
+
+   Both ask 4 of what is given, and 13 of out. */
+struct rollmap_answer rollmap_to_columns(const uint8_t *marks, size_t marks_length,
+                                         uint8_t *out, size_t out_length);
+struct rollmap_answer rollmap_from_columns(const uint8_t *columns, size_t columns_length,
                                            uint8_t *out, size_t out_length);
 
 /* Answers a view of a sheet of n marks: those that live at the zoom and whose disk there,

@@ -28,7 +28,7 @@ const MOST_POPUP: u32 = 65536;
 // ---- questions 4 to 6, of part 1
 
 // 4. Is part 1 a multiple of 11 and at most 45,056 bytes?
-fn is_marks(s: &[u8]) -> bool
+pub fn is_marks(s: &[u8]) -> bool
     ensures { λ r. ⌜ r ≡ question4 (now (s .entry)) ⌝ }
 {
     s.len() % MARK_SIZE == 0 && s.len() <= 45056

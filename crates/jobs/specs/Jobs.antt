@@ -15,7 +15,8 @@ use Rattle.index.specs.Index.{indexOf, indexBytes}
 use Rattle.contents.specs.Contents.{Part, _holds_, bodiesOf, find, has, split, chain, join, together, marksPart, schedulePart, popupsPart}
 use Rattle.contents.specs.Questions.{isCount, codesRight}
 use Rattle.contents.specs.Asking.{Question, _asks_, answer}
-use Rattle.bodies.specs.Questions.{markCount, editionOf, reelFrom, reelOf, fieldQuestions, isPopup}
+use Rattle.columns.specs.Columns.{toColumns, fromColumns}
+use Rattle.bodies.specs.Questions.{question4, markCount, editionOf, reelFrom, reelOf, fieldQuestions, isPopup}
 use Rattle.judging.specs.Judge.{judgeSchedule}
 use Rattle.changing.specs.Changing.{added, takenOut, addedPopup, takenOutPopup}
 use Rattle.filling.specs.Filling.{filled, fillQuestions}
@@ -200,6 +201,23 @@ logToMarksJob s room = outcome (logQuestions s room) (markSize * recordCount s) 
 -- 13 bytes a mark
 unfoldable pub marksToLogJob : List ℕ → ℕ → Outcome
 marksToLogJob s room = outcome (marksQuestions s room) (logRecordSize * markCount s) (logOfMarks s)
+
+-- ---- columns: 02, request 11, "Archive by columns"
+
+-- "Checks: only 4, then 13." As many bytes are written as are given.
+abbrev pub columnChecks : List ℕ → List Question
+columnChecks s = (4 asks question4 s) ∷ []
+
+unfoldable pub columnQuestions : List ℕ → ℕ → List Question
+columnQuestions s room = columnChecks s ++ ((13 asks leb (markSize * markCount s) room) ∷ [])
+
+-- "Rearrange part 1"
+unfoldable pub toColumnsJob : List ℕ → ℕ → Outcome
+toColumnsJob s room = outcome (columnQuestions s room) (markSize * markCount s) (toColumns s (markCount s))
+
+-- "The inverse"
+unfoldable pub fromColumnsJob : List ℕ → ℕ → Outcome
+fromColumnsJob c room = outcome (columnQuestions c room) (markSize * markCount c) (fromColumns c (markCount c))
 
 -- ---- viewing
 

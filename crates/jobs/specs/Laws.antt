@@ -10,3 +10,4 @@ pub mod Scheduling
 pub mod Changing
 pub mod Viewing
 pub mod Judging
+pub mod Archiving

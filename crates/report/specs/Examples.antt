@@ -21,6 +21,7 @@ use Rattle.contents.specs.Contents.{_holds_, codesOf, startAt, split, entries, 
 use Rattle.contents.specs.Asking.{answer, inTurn}
 use Rattle.contents.specs.Questions.{question1, codesRight, question3, contentsQuestions}
 use Rattle.rows.specs.Rows as Rows
+use Rattle.columns.specs.Columns.{asColumns, asMarks, differences, sums, toColumns, fromColumns}
 use Rattle.changing.specs.Changing.{added, takenOut, addedPopup, takenOutPopup}
 use Rattle.bodies.specs.Questions.{question4, markQuestions, part1Questions, isEdition, isPopup, isPopups, question7, question19, question21, namesRight, recordRight, isSchedule, isSized, question8, question9, lastQuestions, bodyQuestions}
 use Rattle.judging.specs.Judge.{some, bothLater, firstRule, causes, secondRule, namesHighest, judge, judgeSchedule}
@@ -39,7 +40,7 @@ use Rattle.turns.specs.Turns.{unit, quarter, productAt, times, turn, applied, t
 use Rattle.view.specs.Shown.{gap, distanceSquared, diskReaches, reaches, poppedUp, lives, shown}
 use Rattle.bitmap.specs.Map.{mapByte, mapPart, mapBytes, countShown}
 use Rattle.view.specs.Questions as Viewing
-use Rattle.jobs.specs.Jobs.{outcome, checkJob, scheduled, schedulingQuestions, schedulingJob, addChecks, addJob, takeOutChecks, takeOutJob, question22, judgeQuestions, judgeJob, assembleQuestions, assembleJob, fillJob, logToMarksJob, marksToLogJob, shownIn, viewJob}
+use Rattle.jobs.specs.Jobs.{outcome, checkJob, scheduled, schedulingQuestions, schedulingJob, addChecks, addJob, takeOutChecks, takeOutJob, question22, judgeQuestions, judgeJob, columnQuestions, toColumnsJob, fromColumnsJob, assembleQuestions, assembleJob, fillJob, logToMarksJob, marksToLogJob, shownIn, viewJob}
 use Rattle.text.specs.Text.{digits}
 use Rattle.report.specs.Text.{text, line, markLine, markLines, listing, refusalLine, printQuestions, printed}
 
@@ -109,6 +110,9 @@ pub data Asked : Type 0 where
   takesOut : List ℕ → ℕ → ℕ → ℕ → ℕ → Asked
   -- the number that the judge answers
   judges : List ℕ → Asked
+  -- marks rearranged by columns, and columns into marks, in a buffer of so many bytes: number, length, and the bytes written
+  arranges : List ℕ → ℕ → Asked
+  restores : List ℕ → ℕ → Asked
 
 -- the numbers of two bytes each
 pairs : List ℕ → List ℕ
@@ -141,6 +145,8 @@ answers (turnsMarks l room) = let o = marksToLogJob (marks l) room in o .number 
 answers (adds s new k work room m) = let o = addJob s new k work room in o .number ∷ o .value ∷ recordOf (o .written) m
 answers (takesOut s out work room m) = let o = takeOutJob s out work room in o .number ∷ o .value ∷ recordOf (o .written) m
 answers (judges s) = (judgeJob s) .number ∷ []
+answers (arranges s room) = let o = toColumnsJob s room in o .number ∷ o .value ∷ o .written
+answers (restores c room) = let o = fromColumnsJob c room in o .number ∷ o .value ∷ o .written
 
 -- ---- the table
 
@@ -219,6 +225,13 @@ lowerNamed =
 -- a log of one record, its x and y by their bytes; radius 300, priority 5, kind 0, tag 0
 abbrev log : ℕ → ℕ → ℕ → ℕ → ℕ → ℕ → List ℕ
 log a b c d e f = a ∷ b ∷ c ∷ d ∷ e ∷ f ∷ 44 ∷ 1 ∷ 5 ∷ 0 ∷ 0 ∷ 0 ∷ 0 ∷ []
+
+-- two marks, of which the first has a kind and a radius that no sheet takes, and the second a lower x; and their columns
+abbrev archived : List ℕ
+archived = 5 ∷ 0 ∷ 2 ∷ 0 ∷ 255 ∷ 255 ∷ 7 ∷ 0 ∷ 250 ∷ 1 ∷ 2 ∷ 3 ∷ 0 ∷ 2 ∷ 1 ∷ 10 ∷ 0 ∷ 8 ∷ 0 ∷ 4 ∷ 3 ∷ 4 ∷ []
+
+abbrev inColumns : List ℕ
+inColumns = 5 ∷ 0 ∷ 254 ∷ 255 ∷ 2 ∷ 0 ∷ 0 ∷ 1 ∷ 255 ∷ 255 ∷ 10 ∷ 0 ∷ 7 ∷ 0 ∷ 8 ∷ 0 ∷ 250 ∷ 4 ∷ 1 ∷ 2 ∷ 3 ∷ 4 ∷ []
 
 -- the window of these edges and this turn
 abbrev window : ℤ → ℤ → ℤ → ℤ → ℕ → Window
@@ -393,10 +406,19 @@ table =
     -- before it, a sheet's own number
     ∷ (judges (sheet p1) gives (10 ∷ []))
     ∷ (judges oldSheet gives (8 ∷ []))
+    -- 02, request 11: x 5 and then -2, y 2 and then 256; and back
+    ∷ (arranges archived 22 gives (0 ∷ 22 ∷ inColumns))
+    ∷ (restores inColumns 22 gives (0 ∷ 22 ∷ archived))
+    ∷ (arranges [] 0 gives (0 ∷ 0 ∷ []))
+    -- 4 before 13
+    ∷ (arranges (take 21 archived) 0 gives (4 ∷ 0 ∷ []))
+    ∷ (arranges archived 21 gives (13 ∷ 0 ∷ []))
+    ∷ (restores (take 21 inColumns) 0 gives (4 ∷ 0 ∷ []))
+    ∷ (restores inColumns 21 gives (13 ∷ 0 ∷ []))
     ∷ []
 
 -- No row is lost.
-pub table-length : length table ≡ 112
+pub table-length : length table ≡ 119
 unfolding table
 table-length = refl
 
@@ -411,5 +433,5 @@ unfolding table answers recordOf pairs sheet sheetIn popups sheetWith marks by n
     Rows.rows filledRadius filled fillQuestions markQuestions part1Questions isSized isEdition isPopup isPopups question7 question19 question21 namesRight recordRight isSchedule question8
     question9 lastQuestions bodyQuestions checkQuestions check partsQuestions assembleQuestions stopScale wheelScale scaleOf livesAt gap distanceSquared diskReaches unit quarter productAt times turn applied turnedPlace reaches
     poppedUp lives shown mapByte mapPart mapBytes countShown question10 indexedQuestions Viewing.isEdge Viewing.question20 Viewing.question11 Viewing.viewQuestions outcome checkJob scheduled
-    added Rows.without takenOut addedPopup takenOutPopup addChecks takeOutChecks some bothLater firstRule causes secondRule namesHighest judge judgeSchedule question22 judgeQuestions judgeJob schedulingQuestions schedulingJob assembleJob fillJob shownIn viewJob digits line rootStep root nearestFrom nearest markLine markLines listing refusalLine printQuestions printed
+    added Rows.without takenOut addedPopup takenOutPopup addChecks takeOutChecks some bothLater firstRule causes secondRule namesHighest judge judgeSchedule question22 judgeQuestions judgeJob columnQuestions toColumnsJob fromColumnsJob toColumns fromColumns asColumns asMarks differences sums schedulingQuestions schedulingJob assembleJob fillJob shownIn viewJob digits line rootStep root nearestFrom nearest markLine markLines listing refusalLine printQuestions printed
 examples = refl

@@ -4,14 +4,12 @@ use contents::Layout;
 use jobs::Answer;
 use logs::LOG_RECORD_SIZE;
 use marks::MARK_SIZE;
-use marks::Mark;
-use marks::POPUP_SIZE;
 use sheet::Assembled;
 use view::Window;
 use zoom::Zoom;
 ghost use mathlib.Core.Path.{_≡_};
-ghost use mathlib.Core.Bool.{cond, _&&_};
-ghost use mathlib.Core.List.{[], map};
+ghost use mathlib.Core.Bool.{_&&_};
+ghost use mathlib.Core.List.{map};
 ghost use lib.Dec.{leb};
 ghost use lib.ListN.{length};
 ghost use Rattle.changing.specs.Changing.{added, takenOut, addedPopup, takenOutPopup};
@@ -23,13 +21,14 @@ ghost use Rattle.sheet.specs.Questions.{indexedQuestions};
 ghost use Rattle.sheet.specs.Opened.{opened, openParts};
 ghost use Rattle.zoom.specs.declared.Zoom.the-variants.{Stop, Wheel};
 ghost use Rattle.view.specs.Questions.{isMap};
-ghost use Rattle.jobs.specs.Jobs.{checkJob, carried, keptParts, isNewPopup, scheduleJob, addJob, takeOutJob, question22, judgeJob, assembleJob, fillJob, logToMarksJob, marksToLogJob, viewJob, walkJob, isShownJob};
+ghost use Rattle.jobs.specs.Jobs.{checkJob, carried, keptParts, scheduleJob, addJob, takeOutJob, question22, judgeJob, assembleJob, fillJob, logToMarksJob, marksToLogJob, toColumnsJob, fromColumnsJob, viewJob, walkJob, isShownJob};
 ghost use Rattle.jobs.specs.Answers.{answerOf, window, fields, Gives, Lent};
 ghost use Rattle.jobs.specs.Parts.{Joins};
 ghost use Rattle.jobs.specs.Demand3.{Meets, MeetsView};
 ghost use Rattle.jobs.specs.Changed.{MeetsAdding};
 ghost use Rattle.jobs.specs.Filled.{MeetsFilling};
 ghost use Rattle.jobs.specs.Logs.{MeetsLog, MeetsMarks};
+ghost use Rattle.jobs.specs.Archived.{MeetsColumns, MeetsRows};
 ghost use Rattle.jobs.specs.Stops.{MeetsStop};
 ghost use Rattle.jobs.specs.Turns.{MeetsTurn};
 ghost use Rattle.jobs.specs.Judged.{MeetsJudging};
@@ -128,23 +127,6 @@ pub extern "C" fn rollmap_schedule(sheet: &[u8], work: &mut [u8], out: &mut [u8]
 
 // ---- marks that come and go
 
-// 21, of a new mark's k: it is at most 65,536, and 0 on a sheet without part 5.
-fn is_new_popup(there: bool, k: u32) -> bool
-    ensures { λ r. ⌜ r ≡ isNewPopup there k ⌝ }
-{
-    bodies::is_popup(k) && (there || k == 0)
-}
-
-// A new mark's row of part 5, where that is there, and else nothing.
-fn row_if<'a>(there: bool, row: &'a [u8]) -> &'a [u8]
-    ensures { λ r. ⌜ now r ≡ cond there (now (row .entry)) [] ⌝ }
-{
-    if there {
-        return row;
-    }
-    &row[..0]
-}
-
 // Schedules a sheet's marks and one more, given by its fields and its popup, behind them, and keeps parts 4 and 5: questions 1 to 10, 18, then 5,
 // 6 and 21 of the new mark, and 13. It is the sheet that scheduling writes for the new marks; the sheet's own schedule plays no part.
 #[no_mangle]
@@ -164,47 +146,7 @@ pub extern "C" fn rollmap_add(
     ensures { λ r. ⌜ Lent r (now (work .entry)) (now (work .exit)) × Meets (added (marksPart (split (now (sheet .entry)))) (fields x y radius priority kind tag)) (carried (split (now (sheet .entry))) (λ q. addedPopup q popup)) r (now (out .exit)) ⌝ }
     ensures { λ r. ⌜ MeetsAdding (now (sheet .entry)) (fields x y radius priority kind tag) popup r (now (out .exit)) ⌝ }
 {
-    let found = sheet::indexed(sheet);
-    let number = found.number;
-    if number != 0 {
-        return steps::refused(number);
-    }
-    let layout = found.layout;
-    let marks = contents::part(sheet, layout, 1);
-    let n = marks.len() / MARK_SIZE;
-    if MOST_MARKS <= n {
-        return steps::refused(18);
-    }
-    let wrong = bodies::fields_answer(kind, radius);
-    if wrong != 0 {
-        return steps::refused(wrong);
-    }
-    let there = contents::is_there(layout, 5);
-    if !is_new_popup(there, popup) {
-        return steps::refused(21);
-    }
-    let last = marks::mark_bytes(Mark {
-        x,
-        y,
-        radius,
-        priority,
-        kind,
-        tag,
-    });
-    let row = marks::popup_bytes(popup);
-    let edition = contents::part(sheet, layout, 4);
-    let popups = contents::part(sheet, layout, 5);
-    steps::schedule_marks(
-        marks,
-        &last,
-        edition,
-        there,
-        popups,
-        row_if(there, &row),
-        work,
-        out,
-        n + 1,
-    )
+    changes::add(sheet, x, y, radius, priority, kind, tag, popup, work, out)
 }
 
 // Schedules a sheet's marks without mark m, whereupon higher numbers drop by one, and keeps part 4, and part 5 without m's row: questions 1 to
@@ -214,32 +156,7 @@ pub extern "C" fn rollmap_take_out(sheet: &[u8], m: u32, work: &mut [u8], out: &
     ensures { λ r. ⌜ Gives (takeOutJob (now (sheet .entry)) m (length (now (work .entry))) (length (now (out .entry)))) (now (out .entry)) r (now (out .exit)) ⌝ }
     ensures { λ r. ⌜ Lent r (now (work .entry)) (now (work .exit)) × Meets (takenOut (marksPart (split (now (sheet .entry)))) m) (carried (split (now (sheet .entry))) (λ q. takenOutPopup q m)) r (now (out .exit)) ⌝ }
 {
-    let found = sheet::indexed(sheet);
-    let number = found.number;
-    if number != 0 {
-        return steps::refused(number);
-    }
-    let layout = found.layout;
-    let marks = contents::part(sheet, layout, 1);
-    let n = marks.len() / MARK_SIZE;
-    let gone = m as usize;
-    if n <= gone {
-        return steps::refused(17);
-    }
-    let edition = contents::part(sheet, layout, 4);
-    let there = contents::is_there(layout, 5);
-    let popups = contents::part(sheet, layout, 5);
-    steps::schedule_marks(
-        rows::before(marks, MARK_SIZE, gone),
-        rows::behind(marks, MARK_SIZE, gone),
-        edition,
-        there,
-        rows::before(popups, POPUP_SIZE, gone),
-        rows::behind(popups, POPUP_SIZE, gone),
-        work,
-        out,
-        n - 1,
-    )
+    changes::take_out(sheet, m, work, out)
 }
 
 // ---- judging
@@ -348,6 +265,52 @@ pub extern "C" fn rollmap_marks_to_log(marks: &[u8], out: &mut [u8]) -> Answer
     Answer {
         number: 0,
         value: log_size as u32,
+    }
+}
+
+// ---- columns
+
+// Rearranges marks by columns at the start of `out`: all x, then all y, radii, priorities, kinds and tags, and each x and each y after the first
+// as its difference from the one before. Answers how many bytes these are: questions 4 and 13. Rearranged into marks again they are the same.
+#[no_mangle]
+pub extern "C" fn rollmap_to_columns(marks: &[u8], out: &mut [u8]) -> Answer
+    ensures { λ r. ⌜ Gives (toColumnsJob (now (marks .entry)) (length (now (out .entry)))) (now (out .entry)) r (now (out .exit)) ⌝ }
+    ensures { λ r. ⌜ MeetsColumns (now (marks .entry)) r (now (out .exit)) ⌝ }
+{
+    if !bodies::is_marks(marks) {
+        return steps::refused(4);
+    }
+    let n = marks.len() / MARK_SIZE;
+    let columns_size = MARK_SIZE * n;
+    if out.len() < columns_size {
+        return steps::refused(13);
+    }
+    columns::put_columns(out, marks, n);
+    Answer {
+        number: 0,
+        value: columns_size as u32,
+    }
+}
+
+// Rearranges columns into marks at the start of `out`, and answers how many bytes these are: questions 4 and 13. Rearranged by columns again they
+// are the same.
+#[no_mangle]
+pub extern "C" fn rollmap_from_columns(columns: &[u8], out: &mut [u8]) -> Answer
+    ensures { λ r. ⌜ Gives (fromColumnsJob (now (columns .entry)) (length (now (out .entry)))) (now (out .entry)) r (now (out .exit)) ⌝ }
+    ensures { λ r. ⌜ MeetsRows (now (columns .entry)) r (now (out .exit)) ⌝ }
+{
+    if !bodies::is_marks(columns) {
+        return steps::refused(4);
+    }
+    let n = columns.len() / MARK_SIZE;
+    let rows_size = MARK_SIZE * n;
+    if out.len() < rows_size {
+        return steps::refused(13);
+    }
+    columns::put_marks(out, columns, n);
+    Answer {
+        number: 0,
+        value: rows_size as u32,
     }
 }
 

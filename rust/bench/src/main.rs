@@ -94,6 +94,10 @@ const CHANGE_ROUNDS: usize = 60;
 /// Rounds of what takes well under a millisecond.
 const QUICK_ROUNDS: usize = 100;
 
+/// The marks that are rearranged in a turn, in as many calls as it takes: of the most marks a
+/// call takes microseconds.
+const REARRANGED: usize = 10 * MOST;
+
 fn main() {
     println!("{}", introduction());
     scheduling();
@@ -108,6 +112,7 @@ fn main() {
     viewing();
     viewing_popups();
     walking();
+    rearranging();
 }
 
 /// What the tables hold.
@@ -849,5 +854,67 @@ fn walking() {
             theirs.0,
             ours.over(theirs)
         );
+    }
+}
+
+/// The least times of rearranging bytes: proved, and plain. Both are seen to write the same.
+fn time_rearranging(
+    given: &[u8],
+    calls: u32,
+    proved: fn(&[u8], &mut [u8]) -> Result<usize, Refusal>,
+    plain: fn(&[u8], &mut [u8]) -> Result<usize, oracle::Refusal>,
+) -> [Micros; 2] {
+    let mut outs = [(); 2].map(|()| vec![0; given.len()]);
+    let [ours, theirs] = &mut outs;
+    let times = race(
+        QUICK_ROUNDS,
+        calls,
+        [
+            &mut || _ = black_box(proved(black_box(given), black_box(ours))),
+            &mut || _ = black_box(plain(black_box(given), black_box(theirs))),
+        ],
+    );
+    assert!(ours == theirs && ours != given, "both write the same bytes");
+    times
+}
+
+fn rearranging() {
+    table(
+        "Rearranging marks by columns, and back",
+        &[
+            "direction",
+            "marks",
+            "proved, µs",
+            "plain Rust, µs",
+            "ratio",
+        ],
+    );
+    for n in SIZES {
+        // What the marks hold plays no part.
+        let part_1 = write_marks(&marks(Shape::Reel, n, 1));
+        let columns = rollmap::to_columns_vec(&part_1).expect("the marks are taken");
+        let calls = (REARRANGED / n) as u32;
+        let [to, from] = [
+            time_rearranging(
+                &part_1,
+                calls,
+                rollmap::to_columns,
+                plain::columns::to_columns,
+            ),
+            time_rearranging(
+                &columns,
+                calls,
+                rollmap::from_columns,
+                plain::columns::from_columns,
+            ),
+        ];
+        for (direction, [ours, theirs]) in [("to columns", to), ("from columns", from)] {
+            println!(
+                "| {direction} | {n} | {:.2} | {:.2} | {:.2} |",
+                ours.0,
+                theirs.0,
+                ours.over(theirs)
+            );
+        }
     }
 }

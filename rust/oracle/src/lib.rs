@@ -21,6 +21,7 @@
 #![forbid(unsafe_code)]
 
 pub mod change;
+pub mod columns;
 pub mod contents;
 pub mod fill;
 pub mod fraction;

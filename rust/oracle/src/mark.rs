@@ -9,12 +9,12 @@ use crate::label::Label;
 pub const MARK_BYTES: usize = 11;
 
 /// Where the fields of a mark stand in its bytes.
-const X_AT: usize = 0;
-const Y_AT: usize = 2;
+pub(crate) const X_AT: usize = 0;
+pub(crate) const Y_AT: usize = 2;
 pub(crate) const RADIUS_AT: usize = 4;
-const PRIORITY_AT: usize = 6;
-const KIND_AT: usize = 8;
-const TAG_AT: usize = 9;
+pub(crate) const PRIORITY_AT: usize = 6;
+pub(crate) const KIND_AT: usize = 8;
+pub(crate) const TAG_AT: usize = 9;
 
 /// The most marks a sheet has.
 pub const MOST_MARKS: usize = 4_096;

@@ -82,9 +82,16 @@ impl<'a> Rows<'a> {
 /// The marks of a part 1. Asks 4, then 5 and 6 mark by mark.
 #[inline]
 pub fn mark_rows(part_1: &[u8]) -> Result<&[[u8; MARK_BYTES]], Refusal> {
+    let marks = unread_rows(part_1)?;
+    marks.iter().map(Mark::read).try_for_each(ask_mark)?;
+    Ok(marks)
+}
+
+/// The marks of a part 1, whatever their fields hold. Asks 4.
+#[inline]
+pub fn unread_rows(part_1: &[u8]) -> Result<&[[u8; MARK_BYTES]], Refusal> {
     let (marks, rest) = part_1.as_chunks();
     ask(4, rest.is_empty() && marks.len() <= MOST_MARKS)?;
-    marks.iter().map(Mark::read).try_for_each(ask_mark)?;
     Ok(marks)
 }
 

@@ -114,6 +114,20 @@ extern "C" {
         out_length: usize,
     ) -> Answer;
 
+    fn rollmap_to_columns(
+        marks: *const u8,
+        marks_length: usize,
+        out: *mut u8,
+        out_length: usize,
+    ) -> Answer;
+
+    fn rollmap_from_columns(
+        columns: *const u8,
+        columns_length: usize,
+        out: *mut u8,
+        out_length: usize,
+    ) -> Answer;
+
     fn rollmap_view_stop(
         sheet: *const u8,
         sheet_length: usize,
@@ -245,6 +259,16 @@ pub(crate) fn log_to_marks(log: &[u8], out: &mut [u8]) -> Answer {
 pub(crate) fn marks_to_log(marks: &[u8], out: &mut [u8]) -> Answer {
     // SAFETY: pointers and lengths are slices' (see the top of this file).
     unsafe { rollmap_marks_to_log(marks.as_ptr(), marks.len(), out.as_mut_ptr(), out.len()) }
+}
+
+pub(crate) fn to_columns(marks: &[u8], out: &mut [u8]) -> Answer {
+    // SAFETY: pointers and lengths are slices' (see the top of this file).
+    unsafe { rollmap_to_columns(marks.as_ptr(), marks.len(), out.as_mut_ptr(), out.len()) }
+}
+
+pub(crate) fn from_columns(columns: &[u8], out: &mut [u8]) -> Answer {
+    // SAFETY: pointers and lengths are slices' (see the top of this file).
+    unsafe { rollmap_from_columns(columns.as_ptr(), columns.len(), out.as_mut_ptr(), out.len()) }
 }
 
 pub(crate) fn view(sheet: &[u8], view: View, map: &mut [u8]) -> Answer {

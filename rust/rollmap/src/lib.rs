@@ -55,6 +55,7 @@
 #![deny(unsafe_code, missing_docs)]
 
 mod change;
+mod columns;
 mod edition;
 mod ffi;
 mod fill;
@@ -71,6 +72,7 @@ mod view;
 mod walk;
 
 pub use change::{add, add_to_vec, take_out, take_out_to_vec};
+pub use columns::{from_columns, from_columns_vec, to_columns, to_columns_vec};
 pub use edition::{edition, Edition, EDITION_BYTES};
 pub use fill::{fill, fill_to_vec, rescue};
 pub use judge::judge;

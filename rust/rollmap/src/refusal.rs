@@ -17,7 +17,7 @@ pub enum Refusal {
     Codes = 2,
     /// 3: where its bodies start and end.
     Bodies = 3,
-    /// 4: the length of part 1, or of a log.
+    /// 4: the length of part 1, as it is or by columns, or of a log.
     Marks = 4,
     /// 5: the kind of a mark.
     Kind = 5,
@@ -107,8 +107,8 @@ impl Refusal {
                  last ended, and does the last end with the sheet?"
             }
             Self::Marks => {
-                "is part 1 a multiple of 11 and at most 45,056 bytes, a log a multiple of 13 \
-                 and at most 4,096 records?"
+                "is part 1, as it is or by columns, a multiple of 11 and at most 45,056 bytes, a \
+                 log a multiple of 13 and at most 4,096 records?"
             }
             Self::Kind => "is the kind of each mark below 200?",
             Self::Radius => "is the radius of each mark at most 16,383?",

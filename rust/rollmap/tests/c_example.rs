@@ -79,6 +79,12 @@ fill: 0 11, radius 120, tag 7, then ee
 marks to log: 0 13, x 12 34 5d, then ee
 log to marks: 0 11, the same 1, then ee
 minus zero: 15 0
+short columns: 13 0, then ee
+no whole mark: 4 0, then ee
+to columns: 0 22, 05 00 fe ff 02 00 00 01 ff ff 0a 00 07 00 08 00 04 fa 01 02 03 04 ee
+short marks: 13 0, then ee
+no whole column: 4 0, then ee
+from columns: 0 22, the same 1, then ee
 ";
 
 const HEADER: &str = include_str!("../../../include/rollmap.h");
@@ -222,7 +228,7 @@ fn every_call_takes_less_stack_than_the_header_says() {
         (name, bytes.parse::<usize>().expect("a number"))
     });
     let calls: Vec<(&str, usize)> = calls.collect();
-    assert_eq!(calls.len(), 14);
+    assert_eq!(calls.len(), 16);
     for (name, bytes) in calls {
         assert!(bytes < most_stack(name), "{name} takes {bytes}");
     }

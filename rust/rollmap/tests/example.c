@@ -337,6 +337,36 @@ static void print_logs(void)
     printf("minus zero: %u %u\n", answer.number, answer.value);
 }
 
+/* Two marks, of which a sheet would have the first refused by 6, and the second by 5. */
+static void print_columns(void)
+{
+    static const uint8_t two[22] = {
+        5, 0, 2, 0, 255, 255, 7, 0, 4,   1, 2, /* (5, 2), 65535, 7 */
+        3, 0, 2, 1, 10,  0,   8, 0, 250, 3, 4, /* (3, 258), 10, 8 */
+    };
+    uint8_t columns[23], back[23];
+    struct rollmap_answer answer;
+    unsigned at;
+
+    memset(columns, 0xee, sizeof columns);
+    memset(back, 0xee, sizeof back);
+    answer = rollmap_to_columns(two, sizeof two, columns, 21);
+    printf("short columns: %u %u, then %02x\n", answer.number, answer.value, columns[0]);
+    answer = rollmap_to_columns(two, 21, columns, sizeof columns);
+    printf("no whole mark: %u %u, then %02x\n", answer.number, answer.value, columns[0]);
+    answer = rollmap_to_columns(two, sizeof two, columns, sizeof columns);
+    printf("to columns: %u %u,", answer.number, answer.value);
+    for (at = 0; at < sizeof columns; at++)
+        printf(" %02x", columns[at]);
+    answer = rollmap_from_columns(columns, 22, back, 21);
+    printf("\nshort marks: %u %u, then %02x\n", answer.number, answer.value, back[0]);
+    answer = rollmap_from_columns(columns, 23, back, sizeof back);
+    printf("no whole column: %u %u, then %02x\n", answer.number, answer.value, back[0]);
+    answer = rollmap_from_columns(columns, 22, back, sizeof back);
+    printf("from columns: %u %u, the same %d, then %02x\n", answer.number, answer.value,
+           memcmp(back, two, sizeof two) == 0, back[22]);
+}
+
 int main(void)
 {
     uint8_t sheet[ROLLMAP_CONTENTS_BYTES(1) + sizeof marks];
@@ -368,5 +398,6 @@ int main(void)
     print_popups();
     print_marks();
     print_logs();
+    print_columns();
     return 0;
 }

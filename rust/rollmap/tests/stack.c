@@ -24,6 +24,7 @@ static uint8_t fewer[WHOLE_BYTES(N - 1)];
 static uint8_t map[ROLLMAP_MAP_BYTES(N)];
 static uint8_t filled[sizeof marks];
 static uint8_t winder_log[N * ROLLMAP_LOG_RECORD_BYTES];
+static uint8_t columns[sizeof marks];
 
 static uint32_t assemble(void)
 {
@@ -100,6 +101,16 @@ static uint32_t log_to_marks(void)
     return rollmap_log_to_marks(winder_log, sizeof winder_log, filled, sizeof filled).number;
 }
 
+static uint32_t to_columns(void)
+{
+    return rollmap_to_columns(marks, sizeof marks, columns, sizeof columns).number;
+}
+
+static uint32_t from_columns(void)
+{
+    return rollmap_from_columns(columns, sizeof columns, filled, sizeof filled).number;
+}
+
 /* In an order in which each finds what it works on. */
 static const struct call {
     const char *name;
@@ -109,6 +120,7 @@ static const struct call {
     {"check", check},           {"judge", judge},       {"view_stop", view_stop}, {"view_wheel", view_wheel},
     {"walk", walk},             {"is_shown", is_shown}, {"part", part},         {"fill", fill},
     {"marks_to_log", marks_to_log}, {"log_to_marks", log_to_marks},
+    {"to_columns", to_columns}, {"from_columns", from_columns},
 };
 
 static uint8_t *stack;

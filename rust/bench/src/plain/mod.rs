@@ -5,6 +5,7 @@
 //! Here are the algorithms. What 01 and 02 say of marks, records, sheets and views is
 //! read once, by the oracle, and taken from there.
 
+pub mod columns;
 pub mod grid;
 pub mod index;
 pub mod judge;

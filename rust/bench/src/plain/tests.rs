@@ -15,7 +15,9 @@ use oracle::sheet::{check, join, join_parts, split};
 use oracle::tree;
 use oracle::view::{Edges, Window};
 use oracle::zoom::Zoom;
+use oracle::Refusal;
 
+use super::columns::{from_columns, to_columns};
 use super::schedule::Desk;
 use super::sheet::open;
 use super::view::{turned_back, view, walk};
@@ -281,6 +283,34 @@ fn walks_hand_out_the_set_bits() {
             let found = walk(&map, n as usize, start as usize);
             let number = found.map_or(oracle::map::NO_MARK, |mark| mark as u32);
             assert_eq!((0, number), oracle::map::walk(&map, n, start));
+        }
+    }
+}
+
+/// Sees that one of the two ways to rearrange answers and writes what the oracle's does.
+fn assert_rearranged(
+    way: fn(&[u8], &mut [u8]) -> Result<usize, Refusal>,
+    expected: fn(&[u8], usize) -> Result<Vec<u8>, Refusal>,
+    given: &[u8],
+    room: usize,
+) {
+    let mut out = vec![0xee; room];
+    let answer = way(given, &mut out);
+    let expected = expected(given, room);
+    let written = expected.as_deref().unwrap_or_default();
+    assert_eq!(answer, expected.as_ref().map(Vec::len).map_err(|no| *no));
+    assert!(out.starts_with(written), "{} {room}", given.len());
+    assert!(out[written.len()..].iter().all(|&byte| byte == 0xee));
+}
+
+#[test]
+fn columns_and_marks_are_the_oracles() {
+    let mut generator = Generator::new(9);
+    for length in (0..200_usize).chain([45_045, 45_055, 45_056, 45_057, 45_067]) {
+        let given: Vec<u8> = (0..length).map(|_| generator.draw() as u8).collect();
+        for room in [0, length.saturating_sub(1), length, length + 7] {
+            assert_rearranged(to_columns, oracle::columns::to_columns, &given, room);
+            assert_rearranged(from_columns, oracle::columns::from_columns, &given, room);
         }
     }
 }

@@ -1,8 +1,8 @@
--- `rollmap::is_new_popup` meets its contract. Assumes nothing.
+-- `changes::is_new_popup` meets its contract. Assumes nothing.
 use mathlib.Core.Path.{sym, _∙_}
 use borrow.Author.Needs.{needs}
-use Rattle.rollmap.proofs.is_new_popup.Statement.{statement}
-use Rattle.rollmap.proofs.is_new_popup.Tie as tie
+use Rattle.changes.proofs.is_new_popup.Statement.{statement}
+use Rattle.changes.proofs.is_new_popup.Tie as tie
 
 is-popup-requires : tie.Need-is-popup-requires
 is-popup-requires c κs = search needs

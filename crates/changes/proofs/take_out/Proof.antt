@@ -1,4 +1,4 @@
--- `rollmap::rollmap_take_out`: each way out by the question that ended it, or else what scheduling the marks that are left gives. Assumes nothing.
+-- `changes::take_out`: each way out by the question that ended it, or else what scheduling the marks that are left gives. Assumes nothing.
 use Prim.Native.Nat.{ℕ, _+_, _-_, _/_, _<_, _≤_}
 use mathlib.Core.Path.{_≡_, refl, sym, ap, _∙_}
 use mathlib.Core.List.{List, _++_}
@@ -20,8 +20,8 @@ use Rattle.jobs.specs.Coming.{take-out-numbered, take-out-iff, take-out-lent, t
 use Rattle.jobs.specs.Laws.Kept.{carried-lent, edition-short}
 use Rattle.jobs.specs.Laws.Scheduling.{stopped, once-passed}
 use Rattle.jobs.specs.Laws.Changing.{take-out-refused, take-out-none, lent-pieces}
-use Rattle.rollmap.proofs.rollmap_take_out.Statement.{statement}
-use Rattle.rollmap.proofs.rollmap_take_out.Tie as tie
+use Rattle.changes.proofs.take_out.Statement.{statement}
+use Rattle.changes.proofs.take_out.Tie as tie
 
 abbrev given : tie.Start → List ℕ
 given b = now (b .args .sheet)
@@ -150,8 +150,8 @@ returns-3 c =
     (carried-lent _ (accepted (c .before .before .before .before .before .before .before .before .before .before .before .before .before .before .before .before .before)) (λ q. takenOutPopup q m) (part4 (p .before .before .before .before .before .before)) (there5 (p .before .before .before .before .before)) (λ t. left-popups p))
     (c .before .before .before .before .schedule-marks .ensures .0)) (c .before .before .before .before .schedule-marks .ensures .1)
 
-pub rollmap-take-out-spec : {M : Type 1} → statement M
-rollmap-take-out-spec =
+pub take-out-spec : {M : Type 1} → statement M
+take-out-spec =
     tie.close
     (tie.spec
     indexed-requires
