@@ -15,9 +15,9 @@ use oracle::turn::turned_marks;
 use oracle::view::{map_and_count, Edges};
 use oracle::zoom::remains;
 use rollmap::{
-    add_to_vec, map_bytes, popups_bytes, schedule_to_vec, scheduled_bytes, take_out_to_vec,
-    view_to_map, work_bytes, Code, Edition, Refusal, Turn, View, Work, Zoom, EDITION_BYTES,
-    NO_POPUP,
+    add_to_vec, from_columns_vec, map_bytes, popups_bytes, schedule_to_vec, scheduled_bytes,
+    take_out_to_vec, to_columns_vec, view_to_map, work_bytes, Code, Edition, Refusal, Turn, View,
+    Work, Zoom, EDITION_BYTES, NO_POPUP,
 };
 
 const GUARDS: &str = include_str!("../../../docs/GUARDS.md");
@@ -738,6 +738,23 @@ fn an_unknown_edition_is_refused() {
             let view = View::whole(Zoom::Stop(0));
             assert_eq!(view_to_map(&damaged, view), Err(Refusal::Edition));
         }
+    }
+}
+
+// ---- marks by columns
+
+#[test]
+fn columns_need_no_copy_beside_them() {
+    for (sheet, sample) in sheets_of_every_kind(40, 3) {
+        let part_1 = rollmap::part(&sheet, Code::Marks).unwrap();
+        let stored = to_columns_vec(part_1).unwrap();
+        assert_eq!(from_columns_vec(&stored).unwrap(), part_1);
+        // Damaged columns are marks all the same, but not these, and a check sees what they hold.
+        let mut damaged = stored;
+        damaged[8 * sample.len()] = 200; // the first kind
+        let fetched = from_columns_vec(&damaged).unwrap();
+        let fetched_sheet = rollmap::assemble_to_vec(&[(Code::Marks, &fetched)]);
+        assert_eq!(fetched_sheet, Err(Refusal::Kind));
     }
 }
 
