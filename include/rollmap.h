@@ -6,7 +6,7 @@
  * any thread may call at any time. A call takes less than 8 KiB of stack, rollmap_judge
  * less than 16.
  *
- * A sheet is bytes: contents, then up to five parts, as docs/FORMAT.md has them. Part 1
+ * A sheet is bytes: contents, then up to six parts, as docs/FORMAT.md has them. Part 1
  * has 11 bytes a mark, so that the number n of a sheet's marks is the length of part 1
  * over 11 (rollmap_part tells it).
  *
@@ -25,6 +25,15 @@
  * unreduced. So no mark is removed before it pops up; one that is removed at its own popup
  * is never shown.
  *
+ * Part 6 has 85 counts of 2 bytes, little-endian: how many marks of each kind group live at
+ * each stop, over the whole reel. Stop 0 comes first and stop 16 last, and within a stop the
+ * five groups in the order of their kinds: notes (0 to 9), spots (10 to 49), streaks (50 to
+ * 99), moisture patches (100 to 149), breaks (150 to 199). So the count of stop s and group
+ * g, both from 0, stands at 2 * (5s + g) of part 6. A mark lives at stop s where 2 to the
+ * power s is at least its popup, and the squared zoom, 4 to the power s over 4,096, is below
+ * its removal value in the sheet's own part 2, or it has none. Without part 5 no count grows
+ * from one stop to the next.
+ *
  * A buffer is a pointer and its length in bytes. It needs no alignment. What the caller
  * answers for, since no call can see it:
  *   - There are that many bytes at the pointer, and those of a buffer that is only read
@@ -38,8 +47,8 @@
  * Every call puts its questions in turn. The first that is answered with no gives its
  * number, and then the call has written nothing: look at the number before the value.
  *
- *    1  there are 2 bytes, 1 to 5 parts, and the whole contents
- *    2  the codes rise within 1 to 5, part 1 is there, and part 3 only with part 2
+ *    1  there are 2 bytes, 1 to 6 parts, and the whole contents
+ *    2  the codes rise within 1 to 6, part 1 is there, and parts 3 and 6 only with part 2
  *    3  the first body starts right after the contents, each next one where the last
  *       ended, and the last ends with the sheet
  *    4  part 1 is a multiple of 11 and at most 45,056 bytes (4,096 marks)
@@ -53,8 +62,10 @@
  *       65,536, and is 0 where the sheet has no part 5
  *    8  each schedule record is the 'never' record, or names a higher-ranked mark with
  *       their pair value as its two unreduced numbers, and that one is removed later
- *    9  part 3 is the tree that parts 1 and 2 give
- *   10  parts 2 and 3 are there
+ *    9  part 3, if present, is the tree that parts 1 and 2 give
+ *   23  part 6, if present, is 170 bytes with the counts that parts 1, 2 and 5 give; this is
+ *       asked right after 9, wherever that is, also where part 3 is not there
+ *   10  parts 2 and 3 are there; of a sheet to be counted: part 2 is
  *   22  of a schedule that is judged: no pair of marks has both removed later than its pair
  *       value, each removal value is the pair value with some higher-ranked mark that is
  *       removed later, and the highest-ranked such mark is named; this is asked after 10
@@ -109,6 +120,7 @@ extern "C" {
 #define ROLLMAP_REFUSED_WINDOW 20u
 #define ROLLMAP_REFUSED_POPUPS 21u
 #define ROLLMAP_REFUSED_JUDGEMENT 22u
+#define ROLLMAP_REFUSED_COUNTS 23u
 
 /* The codes of a sheet's parts. More may come. */
 #define ROLLMAP_CODE_MARKS 1u
@@ -116,6 +128,7 @@ extern "C" {
 #define ROLLMAP_CODE_INDEX 3u
 #define ROLLMAP_CODE_EDITION 4u
 #define ROLLMAP_CODE_POPUPS 5u
+#define ROLLMAP_CODE_COUNTS 6u
 
 /* What the one byte of part 4 says. */
 #define ROLLMAP_EDITION_FIRST 1u
@@ -135,6 +148,12 @@ extern "C" {
 #define ROLLMAP_INDEX_BYTES 2u
 #define ROLLMAP_POPUP_BYTES 4u
 
+/* The number of stops and of kind groups, and the bytes of part 6, which has 2 for each stop
+   and group. */
+#define ROLLMAP_STOPS 17u
+#define ROLLMAP_GROUPS 5u
+#define ROLLMAP_COUNTS_BYTES 170u
+
 /* Bytes of a record in a log. */
 #define ROLLMAP_LOG_RECORD_BYTES 13u
 
@@ -146,15 +165,16 @@ extern "C" {
 #define ROLLMAP_NO_MARK 65535u
 
 /* Bytes that scheduling n marks needs: of work, and of out, which has more where the sheet
-   has a part 4 or 5. Adding a mark and taking one out need those of the new number of
+   has a part 4, 5 or 6. Adding a mark and taking one out need those of the new number of
    marks. */
 #define ROLLMAP_WORK_BYTES(n) ((size_t)32 * (n) + 1024)
 #define ROLLMAP_SCHEDULED_BYTES(n) ((size_t)27 * (n) + 32)
 
-/* Bytes that part 4 adds to a sheet, and part 5 to one of n marks: 10 of contents, and the
-   body. */
+/* Bytes that part 4 adds to a sheet, part 5 to one of n marks, and part 6 to any that is
+   counted: 10 of contents, and the body. */
 #define ROLLMAP_EDITION_BYTES 11u
 #define ROLLMAP_POPUPS_BYTES(n) ((size_t)4 * (n) + 10)
+#define ROLLMAP_COUNTED_BYTES 180u
 
 /* Bytes of the map of n marks. */
 #define ROLLMAP_MAP_BYTES(n) (((size_t)(n) + 7) / 8)
@@ -184,13 +204,15 @@ struct rollmap_body {
     size_t length;
 };
 
-/* Checks a sheet. The value is 0. Asks 1 to 9. */
+/* Checks a sheet. The value is 0. Asks 1 to 9, with 19 and 21 after 7 and 23 after 9, as
+   wherever 4 to 9 are asked below. */
 struct rollmap_answer rollmap_check(const uint8_t *sheet, size_t sheet_length);
 
 /* Schedules a sheet of n marks afresh by its own edition and popups, whatever schedule it
-   has: writes the sheet of parts 1 to 3, and of parts 4 and 5 as they were where they are
-   there, to out, and leaves what follows there as it is. The value is the number of bytes
-   written, 32 + 27n, 11 more with part 4, and 10 + 4n more with part 5. work has at least
+   has: writes the sheet of parts 1 to 3, of parts 4 and 5 as they were where they are
+   there, and of a part 6 with the counts of the new schedule where there is one, to out, and
+   leaves what follows there as it is. The value is the number of bytes written, 32 + 27n, 11
+   more with part 4, 10 + 4n more with part 5, and 180 more with part 6. work has at least
    32n + 1,024 bytes, which hold anything before the call and anything after a success. Asks
    1 to 9, and 13 of work and out. */
 struct rollmap_answer rollmap_schedule(const uint8_t *sheet, size_t sheet_length,
@@ -204,12 +226,13 @@ struct rollmap_answer rollmap_schedule(const uint8_t *sheet, size_t sheet_length
    go, too. What is written to out is the sheet that rollmap_schedule writes for the new
    marks and the old parts 4 and 5, where they are there, and what follows there stays as it
    is. A part 5 has the new mark's popup at its end, or no longer that of mark m; where there
-   is none, the new mark's popup is 0 (ROLLMAP_NO_POPUP), and none is written. The value is
-   the number of bytes written, 32 + 27n for the new number n of marks, 11 more with part 4,
-   and 10 + 4n more with part 5. work has at least 32n + 1,024 bytes for that n, which hold
-   anything before the call and anything after a success. Where a mark is added to a sheet
-   that rollmap_schedule or one of these calls wrote, and that mark is taken out again, the
-   old bytes come back.
+   is none, the new mark's popup is 0 (ROLLMAP_NO_POPUP), and none is written. Where there is
+   a part 6, one with the counts of the new schedule is written. The value is the number of
+   bytes written, 32 + 27n for the new number n of marks, 11 more with part 4, 10 + 4n more
+   with part 5, and 180 more with part 6. work has at least 32n + 1,024 bytes for that n,
+   which hold anything before the call and anything after a success. Where a mark is added to
+   a sheet that rollmap_schedule or one of these calls wrote, and that mark is taken out
+   again, the old bytes come back.
 
    Adding asks 1 to 10 of the sheet, 18, 5, 6 and 21 of the new mark, and 13 of work and
    out. Taking out asks 1 to 10 of the sheet, 17 of m, of which all 32 bits count, and 13 of
@@ -232,6 +255,17 @@ struct rollmap_answer rollmap_take_out(const uint8_t *sheet, size_t sheet_length
    rollmap_schedule replaces them. Asks 1 to 10, and 22. */
 struct rollmap_answer rollmap_judge(const uint8_t *sheet, size_t sheet_length);
 
+/* Counts the marks of a sheet with part 2, by the schedule that it has, whoever made it: how
+   many of each kind group live at each stop. Writes the same sheet with part 6 to out, its
+   parts in the order of their codes, and leaves what follows there as it is; no index is
+   needed, and none is added. The value is the number of bytes written, as many as the sheet
+   has, and 180 more where it has no part 6. Where it has one, that has these counts already,
+   or 23 refuses it, and the sheet's own bytes are written. A count is read at
+   2 * (ROLLMAP_GROUPS * s + g) of part 6, 2 bytes little-endian, for stop s and group g.
+   Asks 1 to 9; 10, of part 2 alone; and 13 of out. */
+struct rollmap_answer rollmap_count(const uint8_t *sheet, size_t sheet_length,
+                                    uint8_t *out, size_t out_length);
+
 /* Puts parts together into a sheet in out, and leaves what follows there as it is: the
    first row is the body of the part of the first code, and so on. Further rows than codes
    are ignored, whatever their bodies hold. Both lengths count elements. The value is the
@@ -241,7 +275,7 @@ struct rollmap_answer rollmap_judge(const uint8_t *sheet, size_t sheet_length);
    length is 0. out overlaps neither the bodies nor the rows nor the codes, and none of
    these changes while the call runs.
 
-   Asks 1 (there are 1 to 5 codes, and not fewer rows than codes), 2 of the codes, 4 to 9 of
+   Asks 1 (there are 1 to 6 codes, and not fewer rows than codes), 2 of the codes, 4 to 9 of
    the bodies, and 13 of out. */
 struct rollmap_answer rollmap_assemble(const uint16_t *codes, size_t codes_length,
                                        const struct rollmap_body *bodies, size_t bodies_length,
@@ -317,10 +351,10 @@ struct rollmap_answer rollmap_from_columns(const uint8_t *columns, size_t column
    map goes by the numbers of the marks, whatever the turn.
 
    One sheet serves screens of every turn. Take one that rollmap_schedule, rollmap_add or
-   rollmap_take_out wrote; move its marks to their turned places, where these fit 2 bytes
-   each, put them together with its parts beyond 3, and schedule that. A view of the new
-   sheet without a turn gives the same answer and the same map as the view of the old one
-   with the turn.
+   rollmap_take_out wrote, counted or not; move its marks to their turned places, where these
+   fit 2 bytes each, put them together with its parts 4 and 5, and schedule that. A view of
+   the new sheet without a turn gives the same answer and the same map as the view of the old
+   one with the turn.
 
    A stop s, 0 to 16, is the zoom of 2 to the power s, divided by 64, map units per pixel.
    A wheel value is the zoom itself, taken where 64 times it is a whole number from 1 to
@@ -347,7 +381,7 @@ struct rollmap_answer rollmap_is_shown(const uint8_t *map, size_t map_length,
                                        uint32_t n, uint32_t m);
 
 /* Where the part of that code (1 the marks, 2 the schedule, 3 the index, 4 the edition, 5
-   the popups) stands in an accepted sheet. Both numbers are 0 where there is no such part or
+   the popups, 6 the counts) stands in an accepted sheet. Both numbers are 0 where there is no such part or
    the sheet is refused; a part that is there has an offset above 0, and may be empty. */
 struct rollmap_extent rollmap_part(const uint8_t *sheet, size_t sheet_length, uint32_t code);
 

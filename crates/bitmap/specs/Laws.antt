@@ -7,6 +7,7 @@ use native.Mathlib.Omega.{arith}
 use lib.Dec.{eqb}
 use lib.ListN.{length, getD, drop}
 use Rattle.lists.specs.Tests.{bit}
+use Rattle.lists.specs.TestLaws.{many-same}
 use Rattle.numbers.specs.Little.{Bytes}
 use Rattle.bitmap.specs.Map.{mapSize, mapBytes, countShown, shownFrom, bitAt, isSet, nextSet, walk}
 use Rattle.bitmap.specs.Facts.{Shows, MapCleared, Walked, countBits}
@@ -32,8 +33,7 @@ map-same = Maps.map-same
 -- and the same count
 pub count-same : (p q : ℕ → Bool) (n : ℕ) → ((m : ℕ) → m < n → p m ≡ q m) → countShown p n ≡ countShown q n
 unfolding countShown
-count-same p q zero h = refl
-count-same p q (suc n) h = rw (count-same p q n (λ m k. h m (omega arith)), h n (omega arith))
+count-same = many-same
 
 -- A list of bytes that shows the marks, and is `before` from the map's end on, is the definition's.
 pub map-is : {shown : ℕ → Bool} {n : ℕ} {after : List ℕ} → Shows shown n after → Bytes after

@@ -4,7 +4,7 @@ use mathlib.Core.Bool.{Bool, cond, _&&_}
 use mathlib.Core.List.{List, [], _∷_, _++_}
 use lib.ListN.{getD}
 use lib.Dec.{ltb, eqb}
-use Rattle.lists.specs.Tests.{bit}
+use Rattle.lists.specs.Tests.{bit, howMany}
 
 -- ---- the bytes that a view writes; `shown m` says whether mark m is shown
 
@@ -28,8 +28,7 @@ mapBytes shown n = mapPart (λ m. ltb m n && shown m) (mapSize n)
 
 -- "The count is the number of shown marks."
 unfoldable pub countShown : (ℕ → Bool) → ℕ → ℕ
-countShown shown zero = 0
-countShown shown (suc n) = countShown shown n + bit (shown n)
+countShown shown n = howMany shown n
 
 -- the shown ones of the `left` numbers from m on, rising
 unfoldable pub shownFrom : (ℕ → Bool) → ℕ → ℕ → List ℕ

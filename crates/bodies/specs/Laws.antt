@@ -5,7 +5,7 @@ use lib.Dec.{eqb}
 use lib.ListN.{length}
 use mathlib.Core.Bool.{true}
 use mathlib.Core.List.{List, [], _∷_}
-use mathlib.Core.Logic.{_↔_}
+use mathlib.Core.Logic.{_↔_, _⊎_}
 use Rattle.fractions.specs.Order.{Small}
 use Rattle.elimination.specs.Records.{fractionAt}
 use Rattle.elimination.specs.Reel.{Reel, GoodReel}
@@ -59,6 +59,10 @@ popups-iff = Fits.popups-iff
 
 pub popups-good : (parts : List Part) (n : ℕ) → (has parts 5 ≡ true → isPopups (popupsPart parts) n ≡ true) → GoodPopups (popupsPart parts) n
 popups-good = Fits.popups-good
+
+-- There are enough bytes to be read, or none.
+pub popups-enough : {q : List ℕ} {n : ℕ} → GoodPopups q n → (length q ≡ 0) ⊎ (popupSize * n ≤ length q)
+popups-enough = Fits.popups-enough
 
 -- Part 4 is one byte.
 pub edition-long : (body : List ℕ) → isEdition body ≡ true → length body ≡ 1

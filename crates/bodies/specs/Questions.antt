@@ -1,4 +1,4 @@
--- Questions 4 to 9, 19 and 21, each by its number: those of the bodies. Checking a sheet and putting parts together ask the same.
+-- Questions 4 to 9, 19, 21 and 23, each by its number: those of the bodies. Checking a sheet and putting parts together ask the same.
 use Prim.Native.Nat.{ℕ, _*_, _/_, _%_}
 use mathlib.Core.Bool.{Bool, _&&_, _||_}
 use mathlib.Core.List.{List, [], _∷_, _++_}
@@ -13,7 +13,8 @@ use Rattle.elimination.specs.declared.Record.{Record}
 use Rattle.elimination.specs.Records.{recordSize, fractionOf, isNever, markRecord, valueAt}
 use Rattle.elimination.specs.Reel.{Reel}
 use Rattle.index.specs.Index.{indexEntrySize, isIndex}
-use Rattle.contents.specs.Contents.{Part, has, marksPart, schedulePart, indexPart, editionPart, popupsPart}
+use Rattle.counting.specs.Counts.{isCounts}
+use Rattle.contents.specs.Contents.{Part, has, marksPart, schedulePart, indexPart, editionPart, popupsPart, countsPart}
 use Rattle.contents.specs.Asking.{Question, _asks_, inTurn, ifThere}
 
 -- ---- of part 1, `s`
@@ -127,13 +128,17 @@ question8 parts = ifThere (has parts 2) (isSchedule (reelOf parts) (schedulePart
 unfoldable pub question9 : List Part → Bool
 question9 parts = ifThere (has parts 3) (isIndex (marksPart parts) (schedulePart parts) (indexPart parts) (countOf parts))
 
+-- 23. "after 9, wherever that is asked, 23 where part 6 isn't 170 bytes with those counts"
+unfoldable pub question23 : List Part → Bool
+question23 parts = ifThere (has parts 6) (isCounts (countsPart parts) (marksPart parts) (schedulePart parts) (popupsPart parts) (countOf parts))
+
 -- ---- in their order
 
--- 7, 19, 21, 8 and 9: the edition and the popups are asked about before the ranks and the pair values that go by them
+-- 7, 19, 21, 8, 9 and 23: the edition and the popups are asked about before the ranks and the pair values that go by them
 unfoldable pub lastQuestions : List Part → List Question
 lastQuestions parts =
-    (7 asks question7 parts) ∷ (19 asks question19 parts) ∷ (21 asks question21 parts) ∷ (8 asks question8 parts) ∷ (9 asks question9 parts) ∷ []
+    (7 asks question7 parts) ∷ (19 asks question19 parts) ∷ (21 asks question21 parts) ∷ (8 asks question8 parts) ∷ (9 asks question9 parts) ∷ (23 asks question23 parts) ∷ []
 
--- 4 to 9, with 19 "after 7" and 21 "after 19"
+-- 4 to 9, with 19 "after 7" and 21 "after 19", and 23 "after 9"
 unfoldable pub bodyQuestions : List Part → List Question
 bodyQuestions parts = part1Questions (marksPart parts) ++ lastQuestions parts

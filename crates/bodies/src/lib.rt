@@ -1,4 +1,4 @@
-// The bodies of a sheet: questions 4 to 9, with 19 and then 21 after 7.
+// The bodies of a sheet: questions 4 to 9, with 19 and then 21 after 7, and 23.
 use elimination::RECORD_SIZE;
 use elimination::Record;
 use fractions::Fraction;
@@ -19,7 +19,7 @@ ghost use Rattle.contents.specs.Contents.{together};
 ghost use Rattle.contents.specs.Asking.{answer};
 ghost use Rattle.contents.specs.Questions.{codesRight};
 ghost use Rattle.bodies.specs.Questions.{question4, fieldQuestions, oneMark, markQuestions, part1Questions, exactly, namesRight, recordRight};
-ghost use Rattle.bodies.specs.Questions.{isSchedule, editionIn, isEdition, isPopup, isPopups, isSized, question7, question19, question21, question8, question9, lastQuestions, bodyQuestions};
+ghost use Rattle.bodies.specs.Questions.{isSchedule, editionIn, isEdition, isPopup, isPopups, isSized, question7, question19, question21, question8, question9, question23, lastQuestions, bodyQuestions};
 ghost use Rattle.bodies.specs.Fitting.{Marked};
 
 // "a k exceeds 65,536"
@@ -200,7 +200,7 @@ fn is_popups(body: &[u8], n: usize) -> bool
     true
 }
 
-// ---- questions 7 to 9, 19 and 21, and 4 to 9, of the bodies under these codes
+// ---- questions 7 to 9, 19, 21 and 23, and all from 4 on, of the bodies under these codes
 
 // Has a part that is there this size?
 fn is_sized(there: bool, size: usize, wanted: usize) -> bool
@@ -280,7 +280,25 @@ fn has_index(codes: &[u16], bodies: &[&[u8]], n: usize) -> bool
     )
 }
 
-// 7, 19, 21, 8 and 9: the first 'no', or 0.
+// 23. Does part 6, if present, hold the counts of parts 1, 2 and 5? It is there only with part 2.
+fn has_counts(codes: &[u16], bodies: &[&[u8]], n: usize) -> bool
+    requires { ⌜ (length (now codes) ≡ length (now bodies)) × (0 < length (now bodies)) × Marked (together (now codes) (map now (now bodies))) n ⌝ }
+    requires { ⌜ (question7 (together (now codes) (map now (now bodies))) ≡ true) × (question21 (together (now codes) (map now (now bodies))) ≡ true) × (codesRight (now codes) ≡ true) ⌝ }
+    ensures { λ r. ⌜ r ≡ question23 (together (now (codes .entry)) (map now (now (bodies .entry)))) ⌝ }
+{
+    if !contents::names(codes, 6) {
+        return true;
+    }
+    counting::is_counts(
+        contents::find(codes, bodies, 6),
+        contents::find(codes, bodies, 1),
+        contents::find(codes, bodies, 2),
+        contents::find(codes, bodies, 5),
+        n,
+    )
+}
+
+// 7, 19, 21, 8, 9 and 23: the first 'no', or 0.
 fn last_answer(codes: &[u16], bodies: &[&[u8]], n: usize) -> u32
     requires { ⌜ (length (now codes) ≡ length (now bodies)) × (0 < length (now bodies)) × Marked (together (now codes) (map now (now bodies))) n ⌝ }
     requires { ⌜ codesRight (now codes) ≡ true ⌝ }
@@ -298,10 +316,13 @@ fn last_answer(codes: &[u16], bodies: &[&[u8]], n: usize) -> u32
     if !has_schedule(codes, bodies, n) {
         return 8;
     }
-    if has_index(codes, bodies, n) { 0 } else { 9 }
+    if !has_index(codes, bodies, n) {
+        return 9;
+    }
+    if has_counts(codes, bodies, n) { 0 } else { 23 }
 }
 
-// 4 to 9: the first 'no', or 0. The codes are right.
+// 4 to 9, with 19, 21 and 23: the first 'no', or 0. The codes are right.
 pub fn bodies_answer(codes: &[u16], bodies: &[&[u8]]) -> u32
     requires { ⌜ (length (now codes) ≡ length (now bodies)) × (0 < length (now bodies)) × (codesRight (now codes) ≡ true) ⌝ }
     ensures { λ r. ⌜ r ≡ answer (bodyQuestions (together (now (codes .entry)) (map now (now (bodies .entry))))) ⌝ }

@@ -8,7 +8,7 @@ ghost use mathlib.Core.Bool.{cond};
 ghost use mathlib.Core.List.{[]};
 ghost use lib.ListN.{length};
 ghost use Rattle.changing.specs.Changing.{added, takenOut, addedPopup, takenOutPopup};
-ghost use Rattle.contents.specs.Contents.{split, marksPart};
+ghost use Rattle.contents.specs.Contents.{has, split, marksPart};
 ghost use Rattle.jobs.specs.Jobs.{carried, isNewPopup, addJob, takeOutJob};
 ghost use Rattle.jobs.specs.Answers.{fields, Gives, Lent};
 ghost use Rattle.jobs.specs.Demand3.{Meets};
@@ -34,8 +34,8 @@ fn row_if<'a>(there: bool, row: &'a [u8]) -> &'a [u8]
     &row[..0]
 }
 
-// Schedules a sheet's marks and one more, given by its fields and its popup, behind them, and keeps parts 4 and 5: questions 1 to 10, 18, then 5,
-// 6 and 21 of the new mark, and 13. It is the sheet that scheduling writes for the new marks; the sheet's own schedule plays no part.
+// Schedules a sheet's marks and one more, given by its fields and its popup, behind them, keeps parts 4 and 5 and renews part 6: questions 1 to 10,
+// 18, then 5, 6 and 21 of the new mark, and 13. It is the sheet that scheduling writes for the new marks; the sheet's own schedule plays no part.
 pub fn add(
     sheet: &[u8],
     x: i16,
@@ -49,7 +49,7 @@ pub fn add(
     out: &mut [u8],
 ) -> Answer
     ensures { λ r. ⌜ Gives (addJob (now (sheet .entry)) (fields x y radius priority kind tag) popup (length (now (work .entry))) (length (now (out .entry)))) (now (out .entry)) r (now (out .exit)) ⌝ }
-    ensures { λ r. ⌜ Lent r (now (work .entry)) (now (work .exit)) × Meets (added (marksPart (split (now (sheet .entry)))) (fields x y radius priority kind tag)) (carried (split (now (sheet .entry))) (λ q. addedPopup q popup)) r (now (out .exit)) ⌝ }
+    ensures { λ r. ⌜ Lent r (now (work .entry)) (now (work .exit)) × Meets (added (marksPart (split (now (sheet .entry)))) (fields x y radius priority kind tag)) (carried (split (now (sheet .entry))) (λ q. addedPopup q popup)) (has (split (now (sheet .entry))) 6) r (now (out .exit)) ⌝ }
     ensures { λ r. ⌜ MeetsAdding (now (sheet .entry)) (fields x y radius priority kind tag) popup r (now (out .exit)) ⌝ }
 {
     let found = sheet::indexed(sheet);
@@ -89,17 +89,18 @@ pub fn add(
         there,
         popups,
         row_if(there, &row),
+        contents::is_there(layout, 6),
         work,
         out,
         n + 1,
     )
 }
 
-// Schedules a sheet's marks without mark m, whereupon higher numbers drop by one, and keeps part 4, and part 5 without m's row: questions 1 to
-// 10, 17 and 13. It is the sheet that scheduling writes for the new marks.
+// Schedules a sheet's marks without mark m, whereupon higher numbers drop by one, keeps part 4, and part 5 without m's row, and renews part 6:
+// questions 1 to 10, 17 and 13. It is the sheet that scheduling writes for the new marks.
 pub fn take_out(sheet: &[u8], m: u32, work: &mut [u8], out: &mut [u8]) -> Answer
     ensures { λ r. ⌜ Gives (takeOutJob (now (sheet .entry)) m (length (now (work .entry))) (length (now (out .entry)))) (now (out .entry)) r (now (out .exit)) ⌝ }
-    ensures { λ r. ⌜ Lent r (now (work .entry)) (now (work .exit)) × Meets (takenOut (marksPart (split (now (sheet .entry)))) m) (carried (split (now (sheet .entry))) (λ q. takenOutPopup q m)) r (now (out .exit)) ⌝ }
+    ensures { λ r. ⌜ Lent r (now (work .entry)) (now (work .exit)) × Meets (takenOut (marksPart (split (now (sheet .entry)))) m) (carried (split (now (sheet .entry))) (λ q. takenOutPopup q m)) (has (split (now (sheet .entry))) 6) r (now (out .exit)) ⌝ }
 {
     let found = sheet::indexed(sheet);
     let number = found.number;
@@ -123,6 +124,7 @@ pub fn take_out(sheet: &[u8], m: u32, work: &mut [u8], out: &mut [u8]) -> Answer
         there,
         rows::before(popups, POPUP_SIZE, gone),
         rows::behind(popups, POPUP_SIZE, gone),
+        contents::is_there(layout, 6),
         work,
         out,
         n - 1,

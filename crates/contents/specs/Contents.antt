@@ -3,7 +3,7 @@ use Prim.Native.Nat.{ℕ, zero, suc, _+_, _*_, _^_, _<_}
 use mathlib.Core.Bool.{Bool, false, cond, _||_}
 use mathlib.Core.List.{List, [], _∷_, _++_, map}
 use lib.ListN.{length, getD, take, drop}
-use lib.Dec.{eqb}
+use lib.Dec.{ltb, eqb}
 use Rattle.numbers.specs.Little.{leAt, leBytes}
 
 pub record Part : Type 0 where
@@ -57,9 +57,19 @@ editionPart parts = find parts 4
 abbrev pub popupsPart : List Part → List ℕ
 popupsPart parts = find parts 5
 
+-- 02: "Part 6 holds 85 counts of 2 bytes"
+abbrev pub countsPart : List Part → List ℕ
+countsPart parts = find parts 6
+
+-- the same parts with this body under this code: in its place where there is such a part, and else where its code belongs
+abbrev pub withPart : ℕ → List ℕ → List Part → List Part
+withPart code body [] = (code holds body) ∷ []
+withPart code body (p ∷ parts) =
+    cond (ltb (p .code) code) (p ∷ withPart code body parts) ((code holds body) ∷ cond (eqb (p .code) code) parts (p ∷ parts))
+
 -- ---- reading
 
--- "Contents: number of parts (2 bytes, 1 to 3), then per part 10 bytes: code (2), offset (4), length (4)." By 02 there are up to 5 parts.
+-- "Contents: number of parts (2 bytes, 1 to 3), then per part 10 bytes: code (2), offset (4), length (4)." By 02 there are up to 6 parts.
 -- Entries are counted from 0.
 abbrev pub countSize : ℕ
 countSize = 2

@@ -1,16 +1,17 @@
 -- What the project cites of questions put in turn, of a sheet's contents and of writing a sheet. The proofs are in Lemmas. Assumes nothing.
-use Prim.Native.Nat.{ℕ, _+_, _*_, _<_, _≤_}
+use Prim.Native.Nat.{ℕ, suc, _+_, _*_, _<_, _≤_}
 use mathlib.Core.Path.{_≡_, refl}
 use mathlib.Core.Bool.{true, false}
 use mathlib.Core.List.{List, [], _∷_, List·Memᴰ}
 use mathlib.Core.Logic.{_↔_}
 use borrow.Author.Tests.{ltb-true, lt-ltb}
-use Rattle.lists.specs.TestLaws.{same-test}
+use Rattle.lists.specs.TestLaws.{same-test, both-iff}
+use lib.Dec.{eqb}
 use lib.ListN.{length, getD}
 use Rattle.numbers.specs.Little.{Bytes}
-use Rattle.contents.specs.Contents.{Part, codesOf, bodiesOf, names, has, find, countAt, contentsSize, split, contentsOf, chain, join, Writable, together}
+use Rattle.contents.specs.Contents.{Part, codesOf, bodiesOf, names, has, find, withPart, countAt, contentsSize, split, contentsOf, chain, join, Writable, together}
 use Rattle.contents.specs.Asking.{answer}
-use Rattle.contents.specs.Questions.{topCode, isCount, codesRight, contentsQuestions}
+use Rattle.contents.specs.Questions.{topCode, isCount, rising, codesRight, contentsQuestions}
 use Rattle.contents.specs.Laid.{Laid}
 use Rattle.contents.specs.Places.{layoutOf, noParts, placeOf, isThere, cutOf, Located}
 use Rattle.contents.specs.Lemmas.Asked as Asked
@@ -24,6 +25,7 @@ use Rattle.contents.specs.Lemmas.Joined as Joined
 use Rattle.contents.specs.Lemmas.Places as Places
 use Rattle.contents.specs.Lemmas.Writing as Writing
 use Rattle.contents.specs.Lemmas.Written as Written
+use Rattle.contents.specs.Lemmas.With as With
 -- ---- answers: one question, one list after another, and questions put to one thing after another
 
 pub use Rattle.contents.specs.Lemmas.Asked.{Numbered, numbered-append, none-asked, asked-yes, asked-no, asked-iff}
@@ -45,7 +47,7 @@ count-iff = Laying.count-iff
 
 -- Question 2 takes these lists of codes and no other.
 pub codes-iff : (codes : List ℕ) → (codesRight codes ≡ true)
-    ↔ List·Memᴰ codes ((1 ∷ []) ∷ (1 ∷ 5 ∷ []) ∷ (1 ∷ 4 ∷ []) ∷ (1 ∷ 4 ∷ 5 ∷ []) ∷ (1 ∷ 2 ∷ []) ∷ (1 ∷ 2 ∷ 5 ∷ []) ∷ (1 ∷ 2 ∷ 4 ∷ []) ∷ (1 ∷ 2 ∷ 4 ∷ 5 ∷ []) ∷ (1 ∷ 2 ∷ 3 ∷ []) ∷ (1 ∷ 2 ∷ 3 ∷ 5 ∷ []) ∷ (1 ∷ 2 ∷ 3 ∷ 4 ∷ []) ∷ (1 ∷ 2 ∷ 3 ∷ 4 ∷ 5 ∷ []) ∷ [])
+    ↔ List·Memᴰ codes ((1 ∷ []) ∷ (1 ∷ 5 ∷ []) ∷ (1 ∷ 4 ∷ []) ∷ (1 ∷ 4 ∷ 5 ∷ []) ∷ (1 ∷ 2 ∷ []) ∷ (1 ∷ 2 ∷ 6 ∷ []) ∷ (1 ∷ 2 ∷ 5 ∷ []) ∷ (1 ∷ 2 ∷ 5 ∷ 6 ∷ []) ∷ (1 ∷ 2 ∷ 4 ∷ []) ∷ (1 ∷ 2 ∷ 4 ∷ 6 ∷ []) ∷ (1 ∷ 2 ∷ 4 ∷ 5 ∷ []) ∷ (1 ∷ 2 ∷ 4 ∷ 5 ∷ 6 ∷ []) ∷ (1 ∷ 2 ∷ 3 ∷ []) ∷ (1 ∷ 2 ∷ 3 ∷ 6 ∷ []) ∷ (1 ∷ 2 ∷ 3 ∷ 5 ∷ []) ∷ (1 ∷ 2 ∷ 3 ∷ 5 ∷ 6 ∷ []) ∷ (1 ∷ 2 ∷ 3 ∷ 4 ∷ []) ∷ (1 ∷ 2 ∷ 3 ∷ 4 ∷ 6 ∷ []) ∷ (1 ∷ 2 ∷ 3 ∷ 4 ∷ 5 ∷ []) ∷ (1 ∷ 2 ∷ 3 ∷ 4 ∷ 5 ∷ 6 ∷ []) ∷ [])
 unfolding codesRight
 codes-iff = Codes.codes-iff
 
@@ -63,6 +65,10 @@ module _ (codes : List ℕ) (right : codesRight codes ≡ true) where
   -- part 3 is there only with part 2
   pub two-there : names codes 3 ≡ true → names codes 2 ≡ true
   two-there = Codes.two-there codes right
+
+  -- and so is part 6
+  pub six-with-two : names codes 6 ≡ true → names codes 2 ≡ true
+  six-with-two = Codes.six-with-two codes right
 
   pub codes-positive : (i : ℕ) → i < length codes → 0 < getD codes i 0
   codes-positive = Codes.codes-positive codes right
@@ -84,6 +90,42 @@ split-length = Parts.split-length
 
 pub find-none : (parts : List Part) (code : ℕ) → has parts code ≡ false → find parts code ≡ []
 find-none = Parts.find-none
+
+-- Parts of any codes, with a body under a code: that body stands under it, and under every other code what stood there.
+module _ (code : ℕ) (body : List ℕ) (parts : List Part) where
+  pub with-found : find (withPart code body parts) code ≡ body
+  with-found = Parts.with-found code body parts
+
+  pub with-there : has (withPart code body parts) code ≡ true
+  with-there = Parts.with-there code body parts
+
+  pub with-other-found : (other : ℕ) → eqb code other ≡ false → find (withPart code body parts) other ≡ find parts other
+  with-other-found other e = Parts.with-other-found code body other e parts
+
+  pub with-other-there : (other : ℕ) → eqb code other ≡ false → has (withPart code body parts) other ≡ has parts other
+  with-other-there other e = Parts.with-other-there code body other e parts
+
+  -- Beside part 2 any of the codes may stand.
+  pub with-right : 0 < code → code ≤ topCode → has parts 2 ≡ true → codesRight (codesOf parts) ≡ true
+      → codesRight (codesOf (withPart code body parts)) ≡ true
+  with-right some within = Codes.with-right code body within parts some
+
+  -- Putting it there again changes nothing, and neither does a part's own body.
+  pub with-twice : withPart code body (withPart code body parts) ≡ withPart code body parts
+  with-twice = With.with-twice code body parts
+
+  -- Where there was none, there is one part more, and its bytes.
+  pub with-more : has parts code ≡ false
+      → (length (withPart code body parts) ≡ suc (length parts))
+      × (length (chain (bodiesOf (withPart code body parts))) ≡ length (chain (bodiesOf parts)) + length body)
+  with-more = With.with-more code body parts
+
+  pub with-bytes : Bytes body → ((i : ℕ) → Bytes (getD (bodiesOf parts) i [])) → (i : ℕ) → Bytes (getD (bodiesOf (withPart code body parts)) i [])
+  with-bytes b = With.with-bytes code body b parts
+
+pub with-own : (code : ℕ) (parts : List Part) → codesRight (codesOf parts) ≡ true → has parts code ≡ true → withPart code (find parts code) parts ≡ parts
+unfolding codesRight
+with-own code parts right = With.with-own code 0 parts (both-iff (rising 0 (codesOf parts)) _ .0 right .0)
 
 -- The parts of a list of bytes are lists of bytes.
 pub find-bytes : (s : List ℕ) → Bytes s → (code : ℕ) → Bytes (find (split s) code)

@@ -9,3 +9,4 @@ pub mod Joined
 pub mod Places
 pub mod Writing
 pub mod Written
+pub mod With

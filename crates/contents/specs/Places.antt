@@ -34,11 +34,12 @@ layoutOf s =
       index = placeBefore s k 3;
       edition = placeBefore s k 4;
       popups = placeBefore s k 5;
+      counts = placeBefore s k 6;
     }
 
 -- 01: "A refused sheet opens with no parts."
 abbrev pub noParts : Layout
-noParts = record { count = 0; marks = nowhere; schedule = nowhere; index = nowhere; edition = nowhere; popups = nowhere }
+noParts = record { count = 0; marks = nowhere; schedule = nowhere; index = nowhere; edition = nowhere; popups = nowhere; counts = nowhere }
 
 -- where the part of this code lies, by a layout
 abbrev pub placeOf : Layout → ℕ → Extent
@@ -47,7 +48,8 @@ placeOf l code =
     (cond (eqb code 2) (l .schedule)
     (cond (eqb code 3) (l .index)
     (cond (eqb code 4) (l .edition)
-    (cond (eqb code 5) (l .popups) nowhere))))
+    (cond (eqb code 5) (l .popups)
+    (cond (eqb code 6) (l .counts) nowhere)))))
 
 -- Is the part of this code there, by a layout? No body starts at 0, where the contents stand.
 abbrev pub isThere : Layout → ℕ → Bool
@@ -63,6 +65,7 @@ withPlace l code place =
       index = cond (eqb code 3) place (l .index);
       edition = cond (eqb code 4) place (l .edition);
       popups = cond (eqb code 5) place (l .popups);
+      counts = cond (eqb code 6) place (l .counts);
     }
 
 -- the bytes there; none where the extent does not lie in the sheet

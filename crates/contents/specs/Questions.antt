@@ -10,13 +10,13 @@ use Rattle.contents.specs.Asking.{Question, _asks_, ifThere}
 
 -- the greatest code, and so the most parts that a sheet has: "one part and code more with each code added later"
 abbrev pub topCode : ℕ
-topCode = 5
+topCode = 6
 
--- 1 to 5 parts: 01 has "1 to 3 parts", and by 02 "questions 1 and 2 allow four parts .. (one part and code more with each code added later)"
+-- 1 to 6 parts: 01 has "1 to 3 parts", and by 02 "questions 1 and 2 allow four parts .. (one part and code more with each code added later)"
 abbrev pub isCount : ℕ → Bool
 isCount k = leb 1 k && leb k topCode
 
--- 1. "Are there 2 bytes, 1 to 3 parts, and the whole contents?", by 02 with 1 to 5 parts
+-- 1. "Are there 2 bytes, 1 to 3 parts, and the whole contents?", by 02 with 1 to 6 parts
 unfoldable pub question1 : List ℕ → Bool
 question1 s = leb 2 (length s) && (isCount (countAt s) && leb (contentsSize (countAt s)) (length s))
 
@@ -25,9 +25,10 @@ abbrev pub rising : ℕ → List ℕ → Bool
 rising low [] = true
 rising low (code ∷ codes) = (ltb low code && leb code topCode) && rising code codes
 
--- 2. 02: "codes rising within 1 to 4 (one part and code more with each code added later), part 1 present and part 3 only with part 2". `codes-iff` of Laws names every list that is right.
+-- 2. 02, request 6: "codes rising within 1 to 4 (one part and code more with each code added later), part 1 present and part 3 only with part 2";
+-- request 12: "contents may hold code 6, only with part 2". `codes-iff` of Laws names every list that is right.
 unfoldable pub codesRight : List ℕ → Bool
-codesRight codes = rising 0 codes && (names codes 1 && ifThere (names codes 3) (names codes 2))
+codesRight codes = rising 0 codes && (names codes 1 && (ifThere (names codes 3) (names codes 2) && ifThere (names codes 6) (names codes 2)))
 
 abbrev pub question2 : List ℕ → Bool
 question2 s = codesRight (codesOf (split s))

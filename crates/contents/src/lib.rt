@@ -14,7 +14,7 @@ ghost use Rattle.contents.specs.Laid.{Whole, Laid};
 ghost use Rattle.contents.specs.Places.{nowhere, extentAt, layoutOf, noParts, placeOf, withPlace, isThere, cutOf};
 
 // The greatest code of a part, and so the most parts that a sheet has.
-const TOP: usize = 5;
+const TOP: usize = 6;
 
 // The sizes of the number of parts and of an entry, whose fields are code (2 bytes), offset (4) and length (4).
 const COUNT_SIZE: usize = 2;
@@ -65,7 +65,7 @@ pub fn is_count(k: usize) -> bool
     1 <= k && k <= TOP
 }
 
-// 1. Are there 2 bytes, 1 to 5 parts, and the whole contents?
+// 1. Are there 2 bytes, 1 to 6 parts, and the whole contents?
 fn has_contents(s: &[u8]) -> bool
     ensures { λ r. ⌜ r ≡ question1 (now (s .entry)) ⌝ }
 {
@@ -110,7 +110,7 @@ pub fn names(codes: &[u16], code: u16) -> bool
     false
 }
 
-// 2, of codes: do they rise within 1 to the top code, is part 1 there, and part 3 only with part 2?
+// 2, of codes: do they rise within 1 to the top code, is part 1 there, and are parts 3 and 6 only with part 2?
 pub fn codes_right(codes: &[u16]) -> bool
     ensures { λ r. ⌜ r ≡ codesRight (now (codes .entry)) ⌝ }
 {
@@ -120,10 +120,13 @@ pub fn codes_right(codes: &[u16]) -> bool
     if !names(codes, 1) {
         return false;
     }
-    if names(codes, 3) {
-        return names(codes, 2);
+    if names(codes, 2) {
+        return true;
     }
-    true
+    if names(codes, 3) {
+        return false;
+    }
+    !names(codes, 6)
 }
 
 // The codes of the parts, in the order of their entries; 0 behind the last.
@@ -200,6 +203,7 @@ pub struct Layout {
     pub index: Extent,
     pub edition: Extent,
     pub popups: Extent,
+    pub counts: Extent,
 }
 
 // The place of a part that is not there.
@@ -238,6 +242,7 @@ pub fn no_parts() -> Layout
         index: none,
         edition: none,
         popups: none,
+        counts: none,
     }
 }
 
@@ -251,6 +256,7 @@ fn with_place(l: Layout, code: u16, place: Extent) -> Layout
     let index = l.index;
     let edition = l.edition;
     let popups = l.popups;
+    let counts = l.counts;
     match code {
         1 => Layout {
             count,
@@ -259,6 +265,7 @@ fn with_place(l: Layout, code: u16, place: Extent) -> Layout
             index,
             edition,
             popups,
+            counts,
         },
         2 => Layout {
             count,
@@ -267,6 +274,7 @@ fn with_place(l: Layout, code: u16, place: Extent) -> Layout
             index,
             edition,
             popups,
+            counts,
         },
         3 => Layout {
             count,
@@ -275,6 +283,7 @@ fn with_place(l: Layout, code: u16, place: Extent) -> Layout
             index: place,
             edition,
             popups,
+            counts,
         },
         4 => Layout {
             count,
@@ -283,6 +292,7 @@ fn with_place(l: Layout, code: u16, place: Extent) -> Layout
             index,
             edition: place,
             popups,
+            counts,
         },
         5 => Layout {
             count,
@@ -291,6 +301,16 @@ fn with_place(l: Layout, code: u16, place: Extent) -> Layout
             index,
             edition,
             popups: place,
+            counts,
+        },
+        6 => Layout {
+            count,
+            marks,
+            schedule,
+            index,
+            edition,
+            popups,
+            counts: place,
         },
         _ => l,
     }
@@ -310,6 +330,7 @@ pub fn layout_of(s: &[u8]) -> Layout
         index: none,
         edition: none,
         popups: none,
+        counts: none,
     };
     let mut i = 0;
     while i < count {
@@ -329,6 +350,7 @@ pub fn place_of(l: Layout, code: u32) -> Extent
         3 => l.index,
         4 => l.edition,
         5 => l.popups,
+        6 => l.counts,
         _ => nowhere(),
     }
 }

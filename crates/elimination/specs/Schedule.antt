@@ -1,9 +1,11 @@
 -- What the schedule of a reel says, read back from its bytes: demand 3's first half, over part 2. Assumes nothing.
-use Prim.Native.Nat.{ℕ, _*_, _<_}
+use Prim.Native.Nat.{ℕ, zero, suc, _*_, _<_}
 use mathlib.Core.Path.{_≡_, refl, sym, subst, ap}
 use mathlib.Core.Logic.{_↔_}
 use native.Mathlib.Omega.{arith}
 use lib.ListN.{length}
+use Rattle.numbers.specs.Little.{leBytes, Bytes}
+use Rattle.numbers.specs.Laws.{le-bytes, bytes-append}
 use Rattle.fractions.specs.declared.Fraction.{Fraction}
 use Rattle.fractions.specs.declared.Value.{Value}
 use Rattle.fractions.specs.declared.Value.the-variants.{At}
@@ -13,7 +15,7 @@ use Rattle.marks.specs.Pairs.{popupAt, popupValue}
 use Rattle.marks.specs.PairLaws.{larger-least, popup-grows, pairs-positive, pairs-small, pairs-popup}
 use Rattle.elimination.specs.declared.Record.{Record}
 use Rattle.elimination.specs.Process.{Removal, stays, gone, when, process}
-use Rattle.elimination.specs.Records.{recordSize, recordBytes, valueAt, Reads, removalRecord}
+use Rattle.elimination.specs.Records.{recordSize, recordBytes, valueAt, Reads, removalRecord, records}
 use Rattle.elimination.specs.Reel.{Reel, marksOf, GoodReel, scheduleOf}
 use Rattle.elimination.specs.Rules.{FirstRule, SecondRule, AllSound}
 use Rattle.elimination.specs.Sheet.{sheet-proper}
@@ -27,6 +29,18 @@ record-length = Records.record-length
 pub schedule-length : (r : Reel) → length (scheduleOf r) ≡ recordSize * r .count
 unfolding scheduleOf
 schedule-length r = records-length (process (marksOf r)) (r .count)
+
+-- It is made of bytes.
+pub schedule-bytes : (r : Reel) → Bytes (scheduleOf r)
+unfolding scheduleOf records
+schedule-bytes r = all (process (marksOf r)) (r .count)
+  where
+    one : (d : Record) → Bytes (recordBytes d)
+    one d = bytes-append (leBytes 2 (d .eliminator)) _ (le-bytes 2 (d .eliminator)) (bytes-append (leBytes 8 (d .num)) (leBytes 4 (d .den)) (le-bytes 8 (d .num)) (le-bytes 4 (d .den)))
+
+    all : (s : ℕ → Removal) (n : ℕ) → Bytes (records s n)
+    all s zero = λ i. omega arith
+    all s (suc n) = bytes-append (records s n) (recordBytes (removalRecord (s n))) (all s n) (one (removalRecord (s n)))
 
 module _ (r : Reel) (right : GoodReel r) where
   open Reel r using (marks as s, count as n, popups as q)

@@ -4,14 +4,15 @@ use native.Mathlib.Omega.{arith}
 use mathlib.Core.Path.{_≡_, _∙_}
 use mathlib.Core.Bool.{Bool, true, false, not}
 use mathlib.Core.Logic.{_↔_, _≢_}
-use mathlib.Core.List.{List, _∷_, _++_}
+use mathlib.Core.List.{List, [], _∷_, _++_}
 use lib.ListN.{length, take, drop}
 use lib.Dec.{eqb}
 use Rattle.lists.specs.Counting.{count, _≈_, times, non, below, keyed}
 use Rattle.lists.specs.Blocks.{upTo, block}
 use Rattle.lists.specs.BlockLaws.{upTo-times}
 use Rattle.lists.specs.Sorting.{Rising}
-use Rattle.numbers.specs.Little.{Bytes}
+use Rattle.numbers.specs.Little.{leBytes, Bytes}
+use Rattle.numbers.specs.Laws.{le-bytes, bytes-append}
 use Rattle.fractions.specs.declared.Fraction.{Fraction}
 use Rattle.fractions.specs.declared.Value.the-variants.{At}
 use Rattle.fractions.specs.Order.{later}
@@ -28,6 +29,12 @@ use Rattle.index.specs.Lemmas.TreeOf as TreeOf
 use Rattle.index.specs.Lemmas.Entries as Entries
 use Rattle.index.specs.Lemmas.Question9 as Question9
 use Rattle.index.specs.Lemmas.Search as Search
+
+-- The bytes of a list of numbers are bytes.
+pub index-bytes : (l : List ℕ) → Bytes (indexBytes l)
+unfolding indexBytes
+index-bytes [] = λ i. omega arith
+index-bytes (m ∷ l) = bytes-append (leBytes 2 m) (indexBytes l) (le-bytes 2 m) (index-bytes l)
 
 -- ---- the tree of n marks
 

@@ -1,7 +1,7 @@
 -- 02, request 5, "Marks come and go": what adding a mark and taking one out give, over the jobs, and so of what the calls answer and leave.
 -- Assumes nothing.
 use Prim.Native.Nat.{ℕ, suc, _+_, _-_, _*_, _<_, _≤_}
-use mathlib.Core.Path.{_≡_, sym, ap, ap₂, _∙_}
+use mathlib.Core.Path.{_≡_, refl, sym, ap, _∙_}
 use mathlib.Core.Bool.{Bool, true, false, cond, _||_}
 use mathlib.Core.List.{List, [], _++_}
 use mathlib.Core.Logic.{_↔_}
@@ -31,14 +31,14 @@ use Rattle.changing.specs.Laws.{added-length, added-bytes, added-fields, added-
 use Rattle.sheet.specs.Questions.{sheetCount, check, question10, indexedQuestions}
 use Rattle.sheet.specs.Laws.{indexed-numbered, indexed-iff, accepted-iff}
 use Rattle.jobs.specs.declared.Answer.{Answer}
-use Rattle.jobs.specs.Jobs.{wrote, carried, keptParts, newParts, scheduledFrom, scheduled, scheduledSize, hasRoom, schedulingQuestions, schedulingJob, ScheduledHere, isNewPopup, addChecks, addJob, takeOutChecks, takeOutJob}
+use Rattle.jobs.specs.Jobs.{wrote, carried, keptParts, newCounts, newParts, scheduledFrom, scheduled, scheduledSize, hasRoom, schedulingQuestions, schedulingJob, ScheduledHere, isNewPopup, addChecks, addJob, takeOutChecks, takeOutJob}
 use Rattle.jobs.specs.Answers.{Gives, Lent}
 use Rattle.jobs.specs.Steps.{PopupsLent}
 use Rattle.jobs.specs.Demand3.{Meets}
 use Rattle.jobs.specs.Changed.{MeetsAdding}
-use Rattle.jobs.specs.Theorems.{Pass, good, marks-bytes, scheduled-length, part1-kept, others-kept, from-here, from-parts, here-accepted, scheduling-meets}
+use Rattle.jobs.specs.Theorems.{Pass, good, marks-bytes, scheduled-length, part1-kept, others-kept, counts-kept, from-here, from-parts, from-counted, here-accepted, scheduling-meets}
 use Rattle.jobs.specs.Laws.Outcomes.{outcome-yes, all-yes, kept-bytes}
-use Rattle.jobs.specs.Laws.Kept.{carried-from, carried-is, carried-right, carried-popups, popups-lent}
+use Rattle.jobs.specs.Laws.Kept.{carried-from, carried-is, carried-right, carried-popups, carried-beside, beside-found, popups-lent}
 use Rattle.jobs.specs.Lemmas.Scheduled.{marks-long}
 use Rattle.jobs.specs.Laws.Scheduling.{there-room, room-asked, checks-passed, passed}
 
@@ -234,8 +234,12 @@ module _ (s : List ℕ) (mark : Mark) (k : ℕ) (bytes : Bytes s) (fit : FieldsF
   abbrev others : List Part
   others = keptParts (split s)
 
+  -- are there counts?
+  abbrev counted : Bool
+  counted = has (split s) 6
+
   abbrev new : List ℕ
-  new = scheduledFrom (added held mark) (more s mark k)
+  new = scheduledFrom (added held mark) (more s mark k) counted
 
   held-long : length held ≡ 11 * n
   held-long = marks-long s bytes (add-yes s mark k asked .accepted)
@@ -243,8 +247,11 @@ module _ (s : List ℕ) (mark : Mark) (k : ℕ) (bytes : Bytes s) (fit : FieldsF
   pass : Pass (added held mark) (more s mark k)
   pass = add-pass s mark k bytes fit asked
 
-  new-parts : split new ≡ newParts (added held mark) (more s mark k)
-  new-parts = from-parts (added held mark) (more s mark k) pass
+  new-parts : split new ≡ newParts (added held mark) (more s mark k) counted
+  new-parts = from-parts (added held mark) (more s mark k) counted pass
+
+  new-counted : has (split new) 6 ≡ counted
+  new-counted = from-counted (added held mark) (more s mark k) counted pass
 
   new-marks : marksPart (split new) ≡ added held mark
   new-marks = ap marksPart new-parts
@@ -255,6 +262,7 @@ module _ (s : List ℕ) (mark : Mark) (k : ℕ) (bytes : Bytes s) (fit : FieldsF
       let p = popupsPart (split s) in
       let ok = add-yes s mark k asked .accepted in
       ap (λ (l : List Part). carried l (λ q. takenOutPopup q n)) new-parts
+      ∙ carried-beside (more s mark k) counted (newCounts (added held mark) (more s mark k)) (λ q. takenOutPopup q n)
       ∙ ap (λ (l : List Part). carried l (λ q. takenOutPopup q n)) (carried-is s ok (λ q. addedPopup q k))
       ∙ carried-from e (has (split s) 5) (addedPopup p k) (λ q. takenOutPopup q n)
       ∙ by-cases (has (split s) 5)
@@ -266,7 +274,7 @@ module _ (s : List ℕ) (mark : Mark) (k : ℕ) (bytes : Bytes s) (fit : FieldsF
   unfolding question10
   new-checks =
       let one-more : sheetCount new ≡ suc n = rw new-marks (omega (arith, added-length held n held-long mark)) in
-      take-out-iff new n .1 ((here-accepted new (from-here (added held mark) (more s mark k) pass), rw new-parts), omega arith)
+      take-out-iff new n .1 ((here-accepted new (from-here (added held mark) (more s mark k) counted pass), rw new-parts), omega arith)
 
   -- and the others are left.
   new-left : takenOut (marksPart (split new)) n ≡ held
@@ -275,43 +283,43 @@ module _ (s : List ℕ) (mark : Mark) (k : ℕ) (bytes : Bytes s) (fit : FieldsF
   module _ (here : ScheduledHere s) where
     open ScheduledHere here using (given-sheet as g, bytes as g-bytes, accepted as g-ok, written)
 
-    held-scheduled : scheduledFrom held others ≡ s
+    held-scheduled : scheduledFrom held others counted ≡ s
     unfolding scheduled
-    held-scheduled = ap₂ scheduledFrom (part1-kept s here) (others-kept s here) ∙ sym written
+    held-scheduled = rw (part1-kept s here, others-kept s here, counts-kept s here) (sym written)
 
-    s-long : length s ≡ scheduledSize n others
+    s-long : length s ≡ scheduledSize n others counted
     s-long =
         ap length written ∙ scheduled-length g g-bytes g-ok
-        ∙ ap₂ (λ (l : List ℕ) (p : List Part). scheduledSize (markCount l) p) (sym (part1-kept s here)) (sym (others-kept s here))
+        ∙ rw (part1-kept s here, others-kept s here, counts-kept s here)
 
     pub add-then-take-out : (work room : ℕ) → 32 * n + 1024 ≤ work → length s ≤ room → takeOutJob new n work room ≡ wrote s
     unfolding schedulingJob
     add-then-take-out work room p q =
-        let fits : hasRoom n others work room ≡ true = there-room n others work room p (omega (arith, s-long)) in
-        let last : answer (schedulingQuestions [] held others work room) ≡ 0 = room-asked [] tt held others work room none-asked ∙ rw fits in
-        passed (takeOutChecks new n) (take-out-numbered new n) (takenOut (marksPart (split new)) n) (carried (split new) (λ r. takenOutPopup r n)) work room new-checks
-        ∙ rw (new-left, new-others)
-        (outcome-yes (schedulingQuestions [] held others work room) (length (scheduledFrom held others)) (scheduledFrom held others) last ∙ rw held-scheduled)
+        let fits : hasRoom n others counted work room ≡ true = there-room n others counted work room p (omega (arith, s-long)) in
+        let last : answer (schedulingQuestions [] held others counted work room) ≡ 0 = room-asked [] tt held others counted work room none-asked ∙ rw fits in
+        passed (takeOutChecks new n) (take-out-numbered new n) (takenOut (marksPart (split new)) n) (carried (split new) (λ r. takenOutPopup r n)) (has (split new) 6) work room new-checks
+        ∙ rw (new-left, new-others, new-counted)
+        (outcome-yes (schedulingQuestions [] held others counted work room) (length (scheduledFrom held others counted)) (scheduledFrom held others counted) last ∙ rw held-scheduled)
 
 -- ---- and so of what the calls answer and leave
 
 module _ (s : List ℕ) (mark : Mark) (k : ℕ) (bytes : Bytes s) (fit : FieldsFit mark) (work : ℕ) (before : List ℕ) {r : Answer} {out : List ℕ}
     (gives : Gives (addJob s mark k work (length before)) before r out) where
-  pub add-meets : Meets (added (marksPart (split s)) mark) (more s mark k) r out
+  pub add-meets : Meets (added (marksPart (split s)) mark) (more s mark k) (has (split s) 6) r out
   add-meets =
-      scheduling-meets (addChecks s mark k) (add-numbered s mark k) (added (marksPart (split s)) mark) (more s mark k) (add-pass s mark k bytes fit) work before gives
+      scheduling-meets (addChecks s mark k) (add-numbered s mark k) (added (marksPart (split s)) mark) (more s mark k) (has (split s) 6) (add-pass s mark k bytes fit) work before gives
 
   passed-checks : r .number ≡ 0 → answer (addChecks s mark k) ≡ 0
   unfolding schedulingJob
   passed-checks z =
-      checks-passed (addChecks s mark k) (add-numbered s mark k) (added (marksPart (split s)) mark) (more s mark k) work (length before)
-      (all-yes (schedulingQuestions (addChecks s mark k) (added (marksPart (split s)) mark) (more s mark k) work (length before)) _ _ before gives z)
+      checks-passed (addChecks s mark k) (add-numbered s mark k) (added (marksPart (split s)) mark) (more s mark k) (has (split s) 6) work (length before)
+      (all-yes (schedulingQuestions (addChecks s mark k) (added (marksPart (split s)) mark) (more s mark k) (has (split s) 6) work (length before)) _ _ before gives z)
 
-  written-is : r .number ≡ 0 → take (r .value) out ≡ scheduledFrom (added (marksPart (split s)) mark) (more s mark k)
+  written-is : r .number ≡ 0 → take (r .value) out ≡ scheduledFrom (added (marksPart (split s)) mark) (more s mark k) (has (split s) 6)
   unfolding schedulingJob
   written-is z =
-      kept-bytes (schedulingQuestions (addChecks s mark k) (added (marksPart (split s)) mark) (more s mark k) work (length before))
-      (scheduledFrom (added (marksPart (split s)) mark) (more s mark k)) before gives z
+      kept-bytes (schedulingQuestions (addChecks s mark k) (added (marksPart (split s)) mark) (more s mark k) (has (split s) 6) work (length before))
+      (scheduledFrom (added (marksPart (split s)) mark) (more s mark k) (has (split s) 6)) before gives z
 
   pub adding-meets : MeetsAdding s mark k r out
   adding-meets =
@@ -321,16 +329,17 @@ module _ (s : List ℕ) (mark : Mark) (k : ℕ) (bytes : Bytes s) (fit : FieldsF
             rw (add-meets .part1 z) (added-fields (marksPart (split s)) (sheetCount s) (held-long s mark k bytes fit asked) mark fit));
         popup = λ z.
             (let asked = passed-checks z in
-            rw (written-is z, new-parts s mark k bytes fit asked) (new-popup-is s mark k bytes fit asked));
+            rw (written-is z, new-parts s mark k bytes fit asked, beside-found (more s mark k) (has (split s) 6) (newCounts (added (marksPart (split s)) mark) (more s mark k)) 5 refl)
+            (new-popup-is s mark k bytes fit asked));
         back = λ z here work′ room p q. rw (written-is z) (add-then-take-out s mark k bytes fit (passed-checks z) here work′ room p q);
       }
 
   -- what a way out gives, with all that is claimed of it
   pub add-whole : {w w′ : List ℕ} → Lent r w w′
-      → Gives (addJob s mark k work (length before)) before r out × ((Lent r w w′ × Meets (added (marksPart (split s)) mark) (more s mark k) r out) × MeetsAdding s mark k r out)
+      → Gives (addJob s mark k work (length before)) before r out × ((Lent r w w′ × Meets (added (marksPart (split s)) mark) (more s mark k) (has (split s) 6) r out) × MeetsAdding s mark k r out)
   add-whole lent = (gives, ((lent, add-meets), adding-meets))
 
 pub take-out-meets : (s : List ℕ) (m : ℕ) → Bytes s → (work : ℕ) (before : List ℕ) {r : Answer} {out : List ℕ}
-    → Gives (takeOutJob s m work (length before)) before r out → Meets (takenOut (marksPart (split s)) m) (left-kept s m) r out
+    → Gives (takeOutJob s m work (length before)) before r out → Meets (takenOut (marksPart (split s)) m) (left-kept s m) (has (split s) 6) r out
 take-out-meets s m bytes =
-    scheduling-meets (takeOutChecks s m) (take-out-numbered s m) (takenOut (marksPart (split s)) m) (left-kept s m) (take-out-pass s m bytes)
+    scheduling-meets (takeOutChecks s m) (take-out-numbered s m) (takenOut (marksPart (split s)) m) (left-kept s m) (has (split s) 6) (take-out-pass s m bytes)

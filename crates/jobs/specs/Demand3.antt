@@ -15,7 +15,7 @@ use Rattle.elimination.specs.Marks.{Marks}
 use Rattle.elimination.specs.Records.{valueAt}
 use Rattle.elimination.specs.Reel.{marksOf, scheduleOf}
 use Rattle.elimination.specs.Rules.{FirstRule, SecondRule, AllSound}
-use Rattle.contents.specs.Contents.{Part, split, marksPart, schedulePart, popupsPart}
+use Rattle.contents.specs.Contents.{Part, has, split, marksPart, schedulePart, popupsPart}
 use Rattle.contents.specs.Asking.{answer}
 use Rattle.bodies.specs.Questions.{markCount, editionOf, reelFrom, reelOf}
 use Rattle.sheet.specs.Questions.{sheetCount, check}
@@ -24,7 +24,8 @@ use Rattle.bitmap.specs.Facts.{Shows}
 use Rattle.zoom.specs.declared.Zoom.{Zoom}
 use Rattle.zoom.specs.Zoom.{scaleOf, scale}
 use Rattle.view.specs.declared.Window.{Window}
-use Rattle.view.specs.Shown.{lives, reaches}
+use Rattle.counting.specs.Lives.{lives}
+use Rattle.view.specs.Shown.{reaches}
 use Rattle.view.specs.Questions.{viewQuestions}
 use Rattle.jobs.specs.declared.Answer.{Answer}
 use Rattle.jobs.specs.Jobs.{after, keptParts, scheduled, ScheduledHere, viewJob}
@@ -71,15 +72,18 @@ pub record Demand3 (s : List ℕ) : Type 0 where
 
 -- ---- what the contracts cite
 
--- Of scheduling these marks with parts that are kept, which answered r and left `out`: a success has written a sheet that is accepted and
--- scheduled here, with these marks as its part 1, "so no mark handed in is missing", and with the kept parts, of which the demand holds. It is
--- the sheet that scheduling writes for any sheet of these. Viewing asks for no more: see `MeetsView`.
-pub record Meets (marks : List ℕ) (kept : List Part) (r : Answer) (out : List ℕ) : Type 0 where
+-- Of scheduling these marks with parts that are kept, and with counts or without, which answered r and left `out`: a success has written a sheet
+-- that is accepted and scheduled here, with these marks as its part 1, "so no mark handed in is missing", and with the kept parts, of which the
+-- demand holds. It is the sheet that scheduling writes for any sheet of these. Viewing asks for no more: see `MeetsView`. That its counts are
+-- right is said of every accepted sheet: see Counted.
+pub record Meets (marks : List ℕ) (kept : List Part) (counted : Bool) (r : Answer) (out : List ℕ) : Type 0 where
   pub accepted : r .number ≡ 0 → check (take (r .value) out) ≡ 0
   pub here : r .number ≡ 0 → ScheduledHere (take (r .value) out)
   pub part1 : r .number ≡ 0 → marksPart (split (take (r .value) out)) ≡ marks
   pub keeps : r .number ≡ 0 → keptParts (split (take (r .value) out)) ≡ kept
-  pub fresh : r .number ≡ 0 → (g : List ℕ) → marksPart (split g) ≡ marks → keptParts (split g) ≡ kept → take (r .value) out ≡ scheduled g
+  pub renews : r .number ≡ 0 → has (split (take (r .value) out)) 6 ≡ counted
+  pub fresh : r .number ≡ 0 → (g : List ℕ) → marksPart (split g) ≡ marks → keptParts (split g) ≡ kept → has (split g) 6 ≡ counted
+      → take (r .value) out ≡ scheduled g
   pub demand3 : r .number ≡ 0 → Demand3 (take (r .value) out)
   -- 02, request 9: "a popup fraction is kept only where it exceeds the touching value". So all k = 0 gives the part 2 of no part 5: that of the
   -- same marks and edition without popups.

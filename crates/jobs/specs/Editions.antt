@@ -2,16 +2,16 @@
 -- of edition 1 are scheduled, viewed and checked alike, but for part 4's own bytes. Assumes nothing.
 use Prim.Native.Nat.{ℕ}
 use mathlib.Core.Path.{_≡_, refl, sym, ap, _∙_}
-use mathlib.Core.Bool.{Bool, true, false, cond, _||_, true≢false}
+use mathlib.Core.Bool.{Bool, true, false}
 use mathlib.Core.List.{List, [], _∷_, _++_}
 use native.Mathlib.Omega.{arith}
-use lib.Dec.{ltb, eqb}
+use lib.Dec.{eqb}
 use Rattle.lists.specs.TestLaws.{by-cases}
 use Rattle.numbers.specs.Little.{Bytes}
-use Rattle.contents.specs.Contents.{Part, _holds_, find, has, split, marksPart, schedulePart, popupsPart}
+use Rattle.contents.specs.Contents.{Part, _holds_, find, has, withPart, split, marksPart, schedulePart, popupsPart}
 use Rattle.contents.specs.Asking.{Question, answer}
-use Rattle.contents.specs.Laws.{find-none, asked-no, append-yes, append-no}
-use Rattle.bodies.specs.Questions.{reelOf, isEdition, question7, question8, question9, question19, lastQuestions, bodyQuestions, question21}
+use Rattle.contents.specs.Laws.{find-none, with-found, with-there, with-other-found, with-other-there, asked-no, append-yes, append-no}
+use Rattle.bodies.specs.Questions.{reelOf, isEdition, question7, question8, question9, question19, lastQuestions, bodyQuestions, question21, question23}
 use Rattle.sheet.specs.Questions.{checkQuestions, check, question10, indexedQuestions}
 use Rattle.sheet.specs.Laws.{check-numbered, indexed-numbered, indexed-iff}
 use Rattle.zoom.specs.declared.Zoom.{Zoom}
@@ -21,71 +21,62 @@ use Rattle.jobs.specs.Jobs.{keptParts, newParts, scheduled, shownIn, vie
 use Rattle.jobs.specs.Theorems.{scheduled-parts}
 use Rattle.jobs.specs.Laws.Outcomes.{outcome-same}
 
--- part 4 that names edition 1
-abbrev pub firstEdition : Part
-firstEdition = 4 holds (1 ∷ [])
-
--- the same parts, and that one where its code belongs
+-- the same parts, and a part 4 that names edition 1 where its code belongs
 abbrev pub withFirst : List Part → List Part
-withFirst [] = firstEdition ∷ []
-withFirst (p ∷ parts) = cond (ltb 4 (p .code)) (firstEdition ∷ p ∷ parts) (p ∷ withFirst parts)
+withFirst parts = withPart 4 (1 ∷ []) parts
 
 -- ---- its parts
 
 find-other : (parts : List Part) (code : ℕ) → eqb 4 code ≡ false → find (withFirst parts) code ≡ find parts code
-find-other [] code e = rw e
-find-other (p ∷ parts) code e =
-    by-cases (ltb 4 (p .code)) (λ b. rw (b, e)) (λ b. rw b (ap (λ l. cond (eqb (p .code) code) (p .body) l) (find-other parts code e)))
+find-other = with-other-found 4 (1 ∷ [])
 
 has-other : (parts : List Part) (code : ℕ) → eqb 4 code ≡ false → has (withFirst parts) code ≡ has parts code
-has-other [] code e = rw e
-has-other (p ∷ parts) code e =
-    by-cases (ltb 4 (p .code)) (λ b. rw (b, e)) (λ b. rw b (ap (λ b. eqb (p .code) code || b) (has-other parts code e)))
+has-other = with-other-there 4 (1 ∷ [])
+
+find-four : (parts : List Part) → find (withFirst parts) 4 ≡ 1 ∷ []
+find-four = with-found 4 (1 ∷ [])
+
+has-four : (parts : List Part) → has (withFirst parts) 4 ≡ true
+has-four = with-there 4 (1 ∷ [])
 
 module _ (parts : List Part) (none : has parts 4 ≡ false) where
-  find-four : (l : List Part) → has l 4 ≡ false → find (withFirst l) 4 ≡ 1 ∷ []
-  find-four [] e = refl
-  find-four (p ∷ l) e = by-cases (ltb 4 (p .code)) (λ b. rw b) (λ b. rw b (go (eqb (p .code) 4) e (find-four l)))
-    where
-      go : (b : Bool) → b || has l 4 ≡ false → (has l 4 ≡ false → find (withFirst l) 4 ≡ 1 ∷ []) → cond b (p .body) (find (withFirst l) 4) ≡ 1 ∷ []
-      go true f h = absurd (true≢false f)
-      go false f h = h f
-
-  has-four : (l : List Part) → has (withFirst l) 4 ≡ true
-  has-four [] = refl
-  has-four (p ∷ l) = by-cases (ltb 4 (p .code)) (λ b. rw b) (λ b. rw (b, has-four l) (or-true (eqb (p .code) 4)))
-    where
-      or-true : (b : Bool) → b || true ≡ true
-      or-true true = refl
-      or-true false = refl
-
   -- The reel is the same, so that the process, question 8, the rules and demand 3 are.
   pub same-reel : reelOf (withFirst parts) ≡ reelOf parts
-  same-reel = rw (find-other parts 1 refl, find-other parts 5 refl, find-four parts none, find-none parts 4 none)
+  same-reel = rw (find-other parts 1 refl, find-other parts 5 refl, find-four parts, find-none parts 4 none)
 
   -- So is what is asked of the bodies,
   pub same-questions : bodyQuestions (withFirst parts) ≡ bodyQuestions parts
-  unfolding bodyQuestions lastQuestions question7 question19 question21 question8 question9 isEdition
+  unfolding bodyQuestions lastQuestions question7 question19 question21 question8 question9 question23 isEdition
   same-questions =
       rw (
         has-four parts,
-        find-four parts none,
+        find-four parts,
         none,
         find-none parts 4 none,
         find-other parts 1 refl,
         find-other parts 2 refl,
         find-other parts 3 refl,
         find-other parts 5 refl,
+        find-other parts 6 refl,
         has-other parts 2 refl,
         has-other parts 3 refl,
         has-other parts 5 refl,
+        has-other parts 6 refl,
       )
 
   -- and what scheduling writes, but for part 4.
-  pub same-scheduled : (marks : List ℕ) → newParts marks (keptParts (withFirst parts)) ≡ withFirst (newParts marks (keptParts parts))
-  same-scheduled marks =
-      by-cases (has parts 5) (λ e. rw (has-four parts, find-four parts none, none, has-other parts 5 refl, find-other parts 5 refl, e))
-      (λ e. rw (has-four parts, find-four parts none, none, has-other parts 5 refl, e))
+  pub same-scheduled : (marks : List ℕ) (counted : Bool) → newParts marks (keptParts (withFirst parts)) counted ≡ withFirst (newParts marks (keptParts parts) counted)
+  same-scheduled marks counted =
+      by-cases (has parts 5) (λ e. rw (has-four parts, find-four parts, none, has-other parts 5 refl, find-other parts 5 refl, e) (some counted))
+      (λ e. rw (has-four parts, find-four parts, none, has-other parts 5 refl, e) (bare counted))
+    where
+      some : (counted : Bool) → newParts marks ((4 holds (1 ∷ [])) ∷ (5 holds popupsPart parts) ∷ []) counted ≡ withFirst (newParts marks ((5 holds popupsPart parts) ∷ []) counted)
+      some true = refl
+      some false = refl
+
+      bare : (counted : Bool) → newParts marks ((4 holds (1 ∷ [])) ∷ []) counted ≡ withFirst (newParts marks [] counted)
+      bare true = refl
+      bare false = refl
 
 -- a sheet without part 2 or 3 gets 10, whatever is asked then
 gets-ten : (s : List ℕ) → check s ≡ 0 → question10 (split s) ≡ false → (rest : List Question) → answer (indexedQuestions s ++ rest) ≡ 10
@@ -114,7 +105,8 @@ module _ (s t : List ℕ) (none : has (split s) 4 ≡ false) (are : split t ≡ 
   pub scheduled-first : Bytes s → Bytes t → check s ≡ 0 → check t ≡ 0 → split (scheduled t) ≡ withFirst (split (scheduled s))
   scheduled-first s-bytes t-bytes s-ok t-ok =
       scheduled-parts t t-bytes t-ok
-      ∙ rw (marks-same, are) (same-scheduled (split s) none (marksPart (split s)) ∙ ap withFirst (sym (scheduled-parts s s-bytes s-ok)))
+      ∙ rw (marks-same, are, has-other (split s) 6 refl)
+      (same-scheduled (split s) none (marksPart (split s)) (has (split s) 6) ∙ ap withFirst (sym (scheduled-parts s s-bytes s-ok)))
 
   -- Every view of both gives the same number, count and map.
   module _ (s-ok : check s ≡ 0) (t-ok : check t ≡ 0) (e : Window) (zoom : Zoom) (room : ℕ) where

@@ -12,11 +12,12 @@ use Rattle.marks.specs.Marks.{markSize}
 use Rattle.elimination.specs.Reel.{scheduleOf}
 use Rattle.scheduling.specs.Filling.{workSize}
 use Rattle.index.specs.Index.{indexOf, indexBytes}
-use Rattle.contents.specs.Contents.{Part, _holds_, bodiesOf, find, has, split, chain, join, together, marksPart, schedulePart, popupsPart}
+use Rattle.counting.specs.Counts.{countsOf}
+use Rattle.contents.specs.Contents.{Part, _holds_, bodiesOf, find, has, split, chain, join, withPart, together, marksPart, schedulePart, popupsPart}
 use Rattle.contents.specs.Questions.{isCount, codesRight}
 use Rattle.contents.specs.Asking.{Question, _asks_, answer}
 use Rattle.columns.specs.Columns.{toColumns, fromColumns}
-use Rattle.bodies.specs.Questions.{question4, markCount, editionOf, reelFrom, reelOf, fieldQuestions, isPopup}
+use Rattle.bodies.specs.Questions.{question4, markCount, countOf, editionOf, reelFrom, reelOf, fieldQuestions, isPopup}
 use Rattle.judging.specs.Judge.{judgeSchedule}
 use Rattle.changing.specs.Changing.{added, takenOut, addedPopup, takenOutPopup}
 use Rattle.filling.specs.Filling.{filled, fillQuestions}
@@ -79,39 +80,49 @@ newSchedule marks kept = scheduleOf (reelFrom (editionOf kept) (popupsPart kept)
 abbrev pub newIndex : List ℕ → List Part → List ℕ
 newIndex marks kept = indexBytes (indexOf marks (newSchedule marks kept) (markCount marks))
 
-abbrev pub newParts : List ℕ → List Part → List Part
-newParts marks kept = (1 holds marks) ∷ (2 holds newSchedule marks kept) ∷ (3 holds newIndex marks kept) ∷ kept
+-- 02, request 12: "Scheduling, adding and taking out renew one that is there": part 6, the counts of the new schedule, where it is `counted`.
+abbrev pub newCounts : List ℕ → List Part → List ℕ
+newCounts marks kept = countsOf marks (newSchedule marks kept) (popupsPart kept) (markCount marks)
+
+abbrev pub withCounts : Bool → List ℕ → List Part → List Part
+withCounts counted counts parts = cond counted (withPart 6 counts parts) parts
+
+abbrev pub newParts : List ℕ → List Part → Bool → List Part
+newParts marks kept counted =
+    (1 holds marks) ∷ (2 holds newSchedule marks kept) ∷ (3 holds newIndex marks kept) ∷ withCounts counted (newCounts marks kept) kept
 
 -- What scheduling writes for them.
-abbrev pub scheduledFrom : List ℕ → List Part → List ℕ
-scheduledFrom marks kept = join (newParts marks kept)
+abbrev pub scheduledFrom : List ℕ → List Part → Bool → List ℕ
+scheduledFrom marks kept counted = join (newParts marks kept counted)
 
 -- What it writes for a sheet.
 unfoldable pub scheduled : List ℕ → List ℕ
-scheduled s = scheduledFrom (marksPart (split s)) (keptParts (split s))
+scheduled s = scheduledFrom (marksPart (split s)) (keptParts (split s)) (has (split s) 6)
 
--- "32 + 27n bytes for n marks", and of parts that are kept "add its bytes to the length": of each 10 in the contents, and its own
+-- "32 + 27n bytes for n marks", and of parts that are kept "add its bytes to the length": of each 10 in the contents, and its own; of part 6
+-- these are 180
 abbrev pub keptSize : List Part → ℕ
 keptSize kept = 10 * length kept + length (chain (bodiesOf kept))
 
-abbrev pub scheduledSize : ℕ → List Part → ℕ
-scheduledSize n kept = 27 * n + 32 + keptSize kept
+abbrev pub scheduledSize : ℕ → List Part → Bool → ℕ
+scheduledSize n kept counted = 27 * n + 32 + keptSize kept + cond counted 180 0
 
 -- 13 of scheduling: the sheet, and "a work buffer of at least 32n + 1,024 bytes"
-abbrev pub hasRoom : ℕ → List Part → ℕ → ℕ → Bool
-hasRoom n kept work room = leb (workSize n) work && leb (scheduledSize n kept) room
+abbrev pub hasRoom : ℕ → List Part → Bool → ℕ → ℕ → Bool
+hasRoom n kept counted work room = leb (workSize n) work && leb (scheduledSize n kept counted) room
 
 -- a job that asks `checks`, and then 13 for these marks and kept parts, and writes what scheduling writes for them
-unfoldable pub schedulingQuestions : List Question → List ℕ → List Part → ℕ → ℕ → List Question
-schedulingQuestions checks marks kept work room = checks ++ ((13 asks hasRoom (markCount marks) kept work room) ∷ [])
+unfoldable pub schedulingQuestions : List Question → List ℕ → List Part → Bool → ℕ → ℕ → List Question
+schedulingQuestions checks marks kept counted work room = checks ++ ((13 asks hasRoom (markCount marks) kept counted work room) ∷ [])
 
-unfoldable pub schedulingJob : List Question → List ℕ → List Part → ℕ → ℕ → Outcome
-schedulingJob checks marks kept work room =
-    outcome (schedulingQuestions checks marks kept work room) (length (scheduledFrom marks kept)) (scheduledFrom marks kept)
+unfoldable pub schedulingJob : List Question → List ℕ → List Part → Bool → ℕ → ℕ → Outcome
+schedulingJob checks marks kept counted work room =
+    let sheet = scheduledFrom marks kept counted in
+    outcome (schedulingQuestions checks marks kept counted work room) (length sheet) sheet
 
 -- "scheduling 1 to 9 and 13"
 abbrev pub scheduleJob : List ℕ → ℕ → ℕ → Outcome
-scheduleJob s work room = schedulingJob (checkQuestions s) (marksPart (split s)) (keptParts (split s)) work room
+scheduleJob s work room = schedulingJob (checkQuestions s) (marksPart (split s)) (keptParts (split s)) (has (split s) 6) work room
 
 -- "A sheet is scheduled here if its bytes are those that scheduling, answering 0, writes for some sheet."
 pub record ScheduledHere (s : List ℕ) : Type 0 where
@@ -145,7 +156,7 @@ addChecks s mark k =
 -- "Add a mark .. The new sheet equals one scheduled from the new marks"; "adding names the new mark's k"
 abbrev pub addJob : List ℕ → Mark → ℕ → ℕ → ℕ → Outcome
 addJob s mark k work room =
-    schedulingJob (addChecks s mark k) (added (marksPart (split s)) mark) (carried (split s) (λ q. addedPopup q k)) work room
+    schedulingJob (addChecks s mark k) (added (marksPart (split s)) mark) (carried (split s) (λ q. addedPopup q k)) (has (split s) 6) work room
 
 -- "after 1 to 10, 17 where m isn't below n .. then 13"
 unfoldable pub takeOutChecks : List ℕ → ℕ → List Question
@@ -154,7 +165,7 @@ takeOutChecks s m = indexedQuestions s ++ ((17 asks ltb m (sheetCount s)) ∷ []
 -- ".. or take out mark m"
 abbrev pub takeOutJob : List ℕ → ℕ → ℕ → ℕ → Outcome
 takeOutJob s m work room =
-    schedulingJob (takeOutChecks s m) (takenOut (marksPart (split s)) m) (carried (split s) (λ q. takenOutPopup q m)) work room
+    schedulingJob (takeOutChecks s m) (takenOut (marksPart (split s)) m) (carried (split s) (λ q. takenOutPopup q m)) (has (split s) 6) work room
 
 -- ---- judging: 02, request 10
 
@@ -168,6 +179,23 @@ judgeQuestions s = indexedQuestions s ++ ((22 asks question22 (split s)) ∷ [])
 
 unfoldable pub judgeJob : List ℕ → Outcome
 judgeJob s = outcome (judgeQuestions s) 0 []
+
+-- ---- counting: 02, request 12
+
+-- part 6 of a sheet, by its own schedule
+abbrev pub countsIn : List Part → List ℕ
+countsIn parts = countsOf (marksPart parts) (schedulePart parts) (popupsPart parts) (countOf parts)
+
+-- "A counting job writes the sheet with part 6"
+abbrev pub withOwnCounts : List ℕ → List ℕ
+withOwnCounts s = join (withPart 6 (countsIn (split s)) (split s))
+
+-- "it makes checking's checks, then 10 without part 2, then 13"
+unfoldable pub countChecks : List ℕ → List Question
+countChecks s = checkQuestions s ++ ((10 asks has (split s) 2) ∷ [])
+
+unfoldable pub countJob : List ℕ → ℕ → Outcome
+countJob s room = outcome (countChecks s ++ ((13 asks leb (length (withOwnCounts s)) room) ∷ [])) (length (withOwnCounts s)) (withOwnCounts s)
 
 -- ---- putting together
 

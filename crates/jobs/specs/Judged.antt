@@ -6,12 +6,13 @@ use mathlib.Core.Bool.{true}
 use mathlib.Core.List.{List, [], _∷_}
 use mathlib.Core.Logic.{_↔_}
 use native.Mathlib.Omega.{arith}
-use Rattle.lists.specs.TestLaws.{both-iff}
+use Rattle.lists.specs.TestLaws.{both-iff, by-cases}
 use Rattle.numbers.specs.Little.{Bytes}
 use Rattle.elimination.specs.Reel.{scheduleOf}
 use Rattle.index.specs.Index.{indexOf, indexBytes}
 use Rattle.index.specs.Laws.{index-iff}
-use Rattle.contents.specs.Contents.{_holds_, has, split, join, marksPart, schedulePart, indexPart}
+use Rattle.counting.specs.Counts.{countsOf}
+use Rattle.contents.specs.Contents.{Part, _holds_, has, split, join, marksPart, schedulePart, indexPart, popupsPart, countsPart}
 use Rattle.contents.specs.Asking.{answer}
 use Rattle.contents.specs.Laws.{append-iff, asked-iff, none-asked, find-bytes}
 use Rattle.bodies.specs.Questions.{reelOf}
@@ -21,7 +22,7 @@ use Rattle.sheet.specs.Laws.{indexed-numbered, indexed-iff, accepted-iff, sheet
 use Rattle.judging.specs.Theorems.{judge-schedule}
 use Rattle.jobs.specs.declared.Answer.{Answer}
 use Rattle.jobs.specs.Answers.{answerOf}
-use Rattle.jobs.specs.Jobs.{keptParts, newSchedule, newIndex, newParts, scheduled, ScheduledHere, question22, judgeQuestions, judgeJob}
+use Rattle.jobs.specs.Jobs.{keptParts, withCounts, newSchedule, newIndex, newCounts, newParts, scheduled, ScheduledHere, question22, judgeQuestions, judgeJob}
 use Rattle.jobs.specs.Demand3.{Demand3}
 use Rattle.jobs.specs.Laws.Outcomes.{outcome-number}
 use Rattle.jobs.specs.Laws.Kept.{kept-edition, kept-popups, kept-whole}
@@ -66,11 +67,26 @@ module _ (s : List ℕ) (bytes : Bytes s) (ok : answer (indexedQuestions s) ≡ 
         ∙ ap (λ (p : List ℕ). indexBytes (indexOf (marksPart (split s)) p (sheetCount s))) schedule-new
 
     -- and then its parts are those that scheduling writes, and so are its bytes
-    parts-new : split s ≡ newParts (marksPart (split s)) (keptParts (split s))
+    counts-new : withCounts (has (split s) 6) (countsPart (split s)) (keptParts (split s))
+        ≡ withCounts (has (split s) 6) (newCounts (marksPart (split s)) (keptParts (split s))) (keptParts (split s))
+    counts-new =
+        by-cases (has (split s) 6)
+        (λ there.
+        let own : countsPart (split s) ≡ newCounts (marksPart (split s)) (keptParts (split s)) =
+        fits .counts-right there
+        ∙ ap (λ (p : List ℕ). countsOf (marksPart (split s)) p (popupsPart (split s)) (sheetCount s)) schedule-new
+        ∙ ap (λ (q : List ℕ). countsOf (marksPart (split s)) (newSchedule (marksPart (split s)) (keptParts (split s))) q (sheetCount s)) (sym (kept-popups (split s))) in
+        ap (λ (c : List ℕ). withCounts (has (split s) 6) c (keptParts (split s))) own)
+        (λ none. rw none)
+
+    parts-new : split s ≡ newParts (marksPart (split s)) (keptParts (split s)) (has (split s) 6)
     parts-new =
+        let counts = withCounts (has (split s) 6) (countsPart (split s)) (keptParts (split s)) in
         kept-whole (split s) (accepted-iff s .0 accepted .laid .codes) (both .0) (both .1)
-        ∙ ap (λ (p : List ℕ). (1 holds marksPart (split s)) ∷ (2 holds p) ∷ (3 holds indexPart (split s)) ∷ keptParts (split s)) schedule-new
-        ∙ ap (λ (t : List ℕ). (1 holds marksPart (split s)) ∷ (2 holds newSchedule (marksPart (split s)) (keptParts (split s))) ∷ (3 holds t) ∷ keptParts (split s)) index-new
+        ∙ ap (λ (p : List ℕ). (1 holds marksPart (split s)) ∷ (2 holds p) ∷ (3 holds indexPart (split s)) ∷ counts) schedule-new
+        ∙ ap (λ (t : List ℕ). (1 holds marksPart (split s)) ∷ (2 holds newSchedule (marksPart (split s)) (keptParts (split s))) ∷ (3 holds t) ∷ counts) index-new
+        ∙ ap (λ (l : List Part). (1 holds marksPart (split s)) ∷ (2 holds newSchedule (marksPart (split s)) (keptParts (split s)))
+        ∷ (3 holds newIndex (marksPart (split s)) (keptParts (split s))) ∷ l) counts-new
 
     pub judged-ours : s ≡ scheduled s
     unfolding scheduled

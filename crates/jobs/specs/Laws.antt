@@ -11,3 +11,5 @@ pub mod Changing
 pub mod Viewing
 pub mod Judging
 pub mod Archiving
+pub mod Counting
+pub mod Counted

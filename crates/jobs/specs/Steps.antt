@@ -1,7 +1,7 @@
 -- What the steps of scheduling and viewing give.
 use Prim.Native.Nat.{ℕ, _*_, _<_, _≤_}
 use mathlib.Core.Path.{_≡_}
-use mathlib.Core.Bool.{Bool, cond}
+use mathlib.Core.Bool.{Bool, false, cond}
 use mathlib.Core.List.{List, [], _∷_, _++_}
 use lib.Dec.{leb}
 use lib.ListN.{length, drop}
@@ -11,13 +11,13 @@ use Rattle.elimination.specs.Records.{recordSize}
 use Rattle.elimination.specs.Reel.{Reel, scheduleOf}
 use Rattle.index.specs.Index.{indexEntrySize, indexOf, indexBytes}
 use Rattle.indexing.specs.Buffer.{indexEnd}
-use Rattle.contents.specs.Contents.{Part, _holds_, split, marksPart, schedulePart, popupsPart}
+use Rattle.contents.specs.Contents.{Part, _holds_, codesOf, bodiesOf, sizesOf, contentsOf, chain, split, marksPart, schedulePart, popupsPart}
 use Rattle.contents.specs.Asking.{_asks_}
 use Rattle.sheet.specs.Questions.{sheetCount}
 use Rattle.view.specs.declared.Window.{Window}
 use Rattle.view.specs.Shown.{shown}
 use Rattle.bitmap.specs.Map.{mapSize, mapBytes, countShown}
-use Rattle.jobs.specs.Jobs.{Outcome, outcome}
+use Rattle.jobs.specs.Jobs.{Outcome, outcome, newParts}
 
 -- The parts that are kept, from part 4's bytes, none where it is not there, and part 5's. Part 5 is told by `there`: of no marks it is empty.
 abbrev pub editionFrom : List ℕ → List Part
@@ -32,13 +32,22 @@ pub record PopupsLent (there : Bool) (q : List ℕ) (n : ℕ) : Type 0 where
   pub sized : length q ≡ cond there (popupSize * n) 0
   pub each : (m : ℕ) → m < n → popupAt q m ≤ 65536
 
--- The codes and sizes of the parts that scheduling writes for n marks, by whether part 4 is kept, and part 5.
-abbrev pub codesFrom : Bool → Bool → List ℕ
-codesFrom edition popups = 1 ∷ 2 ∷ 3 ∷ (cond edition (4 ∷ []) [] ++ cond popups (5 ∷ []) [])
+-- one element, or none
+abbrev pub ifAny : Bool → ℕ → List ℕ
+ifAny there x = cond there (x ∷ []) []
 
-abbrev pub sizesFrom : ℕ → Bool → Bool → List ℕ
-sizesFrom n edition popups =
-    markSize * n ∷ recordSize * n ∷ indexEntrySize * n ∷ (cond edition (1 ∷ []) [] ++ cond popups (popupSize * n ∷ []) [])
+-- The codes and sizes of the parts of a sheet of n marks with part 2, by which of parts 3 to 6 are there.
+abbrev pub codesFrom : Bool → Bool → Bool → Bool → List ℕ
+codesFrom index edition popups counts = ((((1 ∷ 2 ∷ []) ++ ifAny index 3) ++ ifAny edition 4) ++ ifAny popups 5) ++ ifAny counts 6
+
+abbrev pub sizesFrom : ℕ → Bool → Bool → Bool → Bool → List ℕ
+sizesFrom n index edition popups counts =
+    ((((markSize * n ∷ recordSize * n ∷ []) ++ ifAny index (indexEntrySize * n)) ++ ifAny edition 1) ++ ifAny popups (popupSize * n)) ++ ifAny counts 170
+
+-- What stands of the sheet that scheduling writes before its part 6: the contents, which name part 6 where it is there, and parts 1 to 5.
+abbrev pub bareFrom : List ℕ → List Part → Bool → List ℕ
+bareFrom marks kept counted =
+    contentsOf (codesOf (newParts marks kept counted)) (sizesOf (bodiesOf (newParts marks kept counted))) ++ chain (bodiesOf (newParts marks kept false))
 
 -- the three parts of a reel at the start of a buffer
 unfoldable pub resultsOver : Reel → List ℕ → List ℕ

@@ -1,7 +1,7 @@
 -- Demands 2 and 3 over the bytes of sheets, with popups. Assumes nothing.
 use Prim.Native.Nat.{ℕ, zero, suc, _+_, _*_, _<_, _≤_}
 use mathlib.Core.Path.{_≡_, sym, ap, _∙_}
-use mathlib.Core.Bool.{true}
+use mathlib.Core.Bool.{Bool, true, false}
 use mathlib.Core.List.{List, [], _∷_, _++_}
 use mathlib.Core.Logic.{_↔_}
 use native.Mathlib.Omega.{arith}
@@ -22,7 +22,7 @@ use Rattle.marks.specs.Pairs.{popupAt, popupValue}
 use Rattle.elimination.specs.Reel.{Reel, GoodReel, scheduleOf}
 use Rattle.elimination.specs.Schedule.{schedule-popped, schedule-iff, schedule-later}
 use Rattle.elimination.specs.Unmoved.{unpopped-schedule}
-use Rattle.contents.specs.Contents.{Part, _holds_, codesOf, bodiesOf, countAt, split, join, together, marksPart, schedulePart, popupsPart}
+use Rattle.contents.specs.Contents.{Part, _holds_, codesOf, bodiesOf, countAt, has, split, join, together, marksPart, schedulePart, popupsPart}
 use Rattle.contents.specs.Asking.{Question, answer}
 use Rattle.contents.specs.Laws.{Numbered, asked-iff, append-iff, count-iff, split-length, split-join, join-bytes, together-parts}
 use Rattle.contents.specs.Questions.{isCount, codesRight}
@@ -38,20 +38,21 @@ use Rattle.zoom.specs.declared.Zoom.{Zoom}
 use Rattle.zoom.specs.Zoom.{scaleOf, scale}
 use Rattle.zoom.specs.Living.{zoomSquared, livesAt}
 use Rattle.view.specs.declared.Window.{Window}
-use Rattle.view.specs.Shown.{shown, lives}
+use Rattle.counting.specs.Lives.{lives}
+use Rattle.view.specs.Shown.{shown}
 use Rattle.view.specs.Questions.{viewQuestions, isMap, walkQuestions}
 use Rattle.jobs.specs.declared.Answer.{Answer}
-use Rattle.jobs.specs.Jobs.{Outcome, outcome, after, keptParts, newParts, scheduledFrom, scheduled, scheduledSize, hasRoom, schedulingQuestions, schedulingJob, scheduleJob, ScheduledHere, LeftByScheduling}
+use Rattle.jobs.specs.Jobs.{Outcome, outcome, after, keptParts, newCounts, newParts, scheduledFrom, scheduled, scheduledSize, hasRoom, schedulingQuestions, schedulingJob, scheduleJob, ScheduledHere, LeftByScheduling}
 use Rattle.jobs.specs.Jobs.{areCounted, assembleQuestions, assembleJob, shownIn, viewJob, walksFrom, isShownJob}
 use Rattle.jobs.specs.Answers.{answerOf, Gives}
 use Rattle.jobs.specs.Parts.{Joins}
 use Rattle.jobs.specs.Demand3.{sheetValue, IsList, KeepsRules, shownBy, ShowsLiving, Demand3, Meets, MeetsView}
 use Rattle.jobs.specs.Laws.Given.{together-take, together-named}
 use Rattle.jobs.specs.Laws.Outcomes.{outcome-yes, outcome-number, all-yes, kept-bytes}
-use Rattle.jobs.specs.Laws.Kept.{KeptRight, kept-right, alone-fits}
+use Rattle.jobs.specs.Laws.Kept.{KeptRight, kept-right, alone-fits, kept-beside, kept-edition, kept-popups, counts-there}
 use Rattle.jobs.specs.Laws.Walking.{map-iff, map-asked, map-taken, walks-all}
 use Rattle.jobs.specs.Laws.Scheduling.{sheet-long, there-room, room-asked, checks-passed}
-use Rattle.jobs.specs.Lemmas.Scheduled.{later-same, new-fitting, good, marks-long, marks-bytes}
+use Rattle.jobs.specs.Lemmas.Scheduled.{later-same, new-fitting, new-bytes, good, marks-long, marks-bytes}
 -- ---- part 1 of an accepted sheet
 
 pub use Rattle.jobs.specs.Lemmas.Scheduled.{good, marks-bytes, good-reel}
@@ -65,30 +66,38 @@ module _ (g : List ℕ) (bytes : Bytes g) (ok : check g ≡ 0) where
   right : KeptRight (sheetCount g) kept
   right = kept-right g ok bytes
 
-  fits : Fitting (newParts (marksPart (split g)) kept)
-  fits = new-fitting (marksPart (split g)) kept (good g bytes ok) (marks-long g bytes ok) (marks-bytes g bytes ok) right
+  abbrev counted : Bool
+  counted = has (split g) 6
+
+  fits : Fitting (newParts (marksPart (split g)) kept counted)
+  fits = new-fitting (marksPart (split g)) kept (good g bytes ok) (marks-long g bytes ok) (marks-bytes g bytes ok) right counted
+
+  codes : codesRight (codesOf (newParts (marksPart (split g)) kept counted)) ≡ true
+  codes = right .behind-three counted (newCounts (marksPart (split g)) kept)
 
   -- It is accepted.
   pub scheduled-accepted : check (scheduled g) ≡ 0
   unfolding scheduled
-  scheduled-accepted = join-accepted (newParts (marksPart (split g)) kept) (right .behind-three) fits
+  scheduled-accepted = join-accepted (newParts (marksPart (split g)) kept counted) codes fits
 
-  -- Its parts are these: part 1 is the given one, byte for byte, and so are those that are kept.
-  pub scheduled-parts : split (scheduled g) ≡ newParts (marksPart (split g)) (keptParts (split g))
+  -- Its parts are these: part 1 is the given one, byte for byte, and so are those that are kept; part 6 is renewed.
+  pub scheduled-parts : split (scheduled g) ≡ newParts (marksPart (split g)) (keptParts (split g)) (has (split g) 6)
   unfolding scheduled
-  scheduled-parts = split-join (newParts (marksPart (split g)) kept) (fitting-writable (newParts (marksPart (split g)) kept) fits (right .behind-three))
+  scheduled-parts = split-join (newParts (marksPart (split g)) kept counted) (fitting-writable (newParts (marksPart (split g)) kept counted) fits codes)
 
   -- "32 + 27n bytes for n marks", and those of the parts that are kept
-  pub scheduled-length : length (scheduled g) ≡ scheduledSize (sheetCount g) (keptParts (split g))
+  pub scheduled-length : length (scheduled g) ≡ scheduledSize (sheetCount g) (keptParts (split g)) (has (split g) 6)
   unfolding scheduled
-  scheduled-length = sheet-long (marksPart (split g)) (sheetCount g) (good g bytes ok .few) (marks-long g bytes ok) kept
+  scheduled-length =
+      sheet-long (marksPart (split g)) (sheetCount g) (good g bytes ok .few) (marks-long g bytes ok) kept counted (right .no-counts)
 
   -- Scheduling it again gives the same bytes.
   pub scheduled-again : scheduled (scheduled g) ≡ scheduled g
   unfolding scheduled
   scheduled-again =
-      let parts : split (join (newParts (marksPart (split g)) kept)) ≡ newParts (marksPart (split g)) kept = scheduled-parts in
-      rw (parts, right .again)
+      let c = newCounts (marksPart (split g)) kept in
+      let parts : split (join (newParts (marksPart (split g)) kept counted)) ≡ newParts (marksPart (split g)) kept counted = scheduled-parts in
+      rw (parts, kept-beside kept counted c, right .again, counts-there kept counted c (right .no-counts))
 
 -- ---- marks as they stand, with parts that are kept
 
@@ -99,7 +108,7 @@ pub record Pass (marks : List ℕ) (kept : List Part) : Type 0 where
   pub bytes : Bytes marks
   pub right : KeptRight (markCount marks) kept
 
--- The sheet of them alone is accepted, and scheduling it writes what it writes for them.
+-- The sheet of them alone is accepted, and scheduling it writes what it writes for them without counts.
 module _ (marks : List ℕ) (kept : List Part) (pass : Pass marks kept) where
   abbrev alone : List Part
   alone = (1 holds marks) ∷ kept
@@ -113,32 +122,58 @@ module _ (marks : List ℕ) (kept : List Part) (pass : Pass marks kept) where
   pub alone-split : split (join alone) ≡ alone
   alone-split = split-join alone (fitting-writable alone alone-fitting (pass .right .behind-one))
 
-  alone-bytes : Bytes (join alone)
-  alone-bytes = join-bytes alone (λ i. elim i [ zero ↦ pass .bytes | suc j ↦ pass .right .bytes j ])
-
-  pub alone-scheduled : scheduled (join alone) ≡ scheduledFrom marks kept
+  pub alone-scheduled : scheduled (join alone) ≡ scheduledFrom marks kept false
   unfolding scheduled
   alone-scheduled =
-      ap (λ (l : List Part). scheduledFrom (marksPart l) (keptParts l)) alone-split ∙ ap (scheduledFrom marks) (pass .right .again)
+      ap (λ (l : List Part). scheduledFrom (marksPart l) (keptParts l) (has l 6)) alone-split
+      ∙ rw (pass .right .again, pass .right .no-counts)
 
-  pub from-here : ScheduledHere (scheduledFrom marks kept)
-  from-here = record { given-sheet = join alone; bytes = alone-bytes; accepted = alone-accepted; written = sym alone-scheduled }
+-- What scheduling writes for them, with counts or without.
+module _ (marks : List ℕ) (kept : List Part) (counted : Bool) (pass : Pass marks kept) where
+  abbrev sheet : List ℕ
+  sheet = scheduledFrom marks kept counted
+
+  abbrev counts : List ℕ
+  counts = newCounts marks kept
+
+  from-fitting : Fitting (newParts marks kept counted)
+  from-fitting = new-fitting marks kept (pass .good) (pass .long) (pass .bytes) (pass .right) counted
 
   -- its parts
-  pub from-parts : split (scheduledFrom marks kept) ≡ newParts marks kept
-  from-parts =
-      split-join (newParts marks kept)
-      (fitting-writable (newParts marks kept) (new-fitting marks kept (pass .good) (pass .long) (pass .bytes) (pass .right)) (pass .right .behind-three))
+  pub from-parts : split sheet ≡ newParts marks kept counted
+  from-parts = split-join (newParts marks kept counted) (fitting-writable (newParts marks kept counted) from-fitting (pass .right .behind-three counted counts))
+
+  from-bytes : Bytes sheet
+  from-bytes =
+      new-bytes marks kept counted (pass .bytes) (pass .right .bytes)
+
+  from-accepted : check sheet ≡ 0
+  from-accepted = join-accepted (newParts marks kept counted) (pass .right .behind-three counted counts) from-fitting
+
+  -- what is kept of it, and whether it has counts
+  pub from-kept : keptParts (split sheet) ≡ kept
+  from-kept = ap keptParts from-parts ∙ kept-beside kept counted counts ∙ pass .right .again
+
+  pub from-counted : has (split sheet) 6 ≡ counted
+  from-counted = ap (λ (l : List Part). has l 6) from-parts ∙ counts-there kept counted counts (pass .right .no-counts)
+
+  -- Scheduling it again gives the same bytes, so it is scheduled here.
+  from-again : scheduled sheet ≡ sheet
+  unfolding scheduled
+  from-again = rw (ap marksPart from-parts, from-kept, from-counted)
+
+  pub from-here : ScheduledHere sheet
+  from-here = record { given-sheet = sheet; bytes = from-bytes; accepted = from-accepted; written = sym from-again }
 
   -- 02, request 9: its schedule, where all popups are 0, and each removal value against the mark's own popup
   abbrev reel : Reel
   reel = reelFrom (editionOf kept) (popupsPart kept) marks
 
   pub from-unpopped : ((m : ℕ) → m < markCount marks → popupAt (popupsPart kept) m ≡ 0)
-      → schedulePart (split (scheduledFrom marks kept)) ≡ scheduleOf (reelFrom (editionOf kept) [] marks)
+      → schedulePart (split sheet) ≡ scheduleOf (reelFrom (editionOf kept) [] marks)
   from-unpopped none = ap schedulePart from-parts ∙ unpopped-schedule reel none
 
-  pub from-popped : (m : ℕ) → m < markCount marks → (f : Fraction) → sheetValue (scheduledFrom marks kept) m ≡ At f
+  pub from-popped : (m : ℕ) → m < markCount marks → (f : Fraction) → sheetValue sheet m ≡ At f
       → AtMost (popupValue (popupAt (popupsPart kept) m)) f
   from-popped m h f e =
       let right : GoodReel reel = record { good = pass .good; bytes = pass .bytes; popped = popups-good kept (markCount marks) (pass .right .popups-right) } in
@@ -152,7 +187,7 @@ here-accepted s here = ap check (here .written) ∙ scheduled-accepted (here .gi
 -- what scheduling leaves where it answers 0
 module _ (g : List ℕ) (work : ℕ) (held : List ℕ) (answered : (scheduleJob g work (length held)) .number ≡ 0) where
   abbrev questions : List Question
-  questions = schedulingQuestions (checkQuestions g) (marksPart (split g)) (keptParts (split g)) work (length held)
+  questions = schedulingQuestions (checkQuestions g) (marksPart (split g)) (keptParts (split g)) (has (split g) 6) work (length held)
 
   yes-to-all : answer questions ≡ 0
   unfolding schedulingJob scheduled
@@ -160,7 +195,7 @@ module _ (g : List ℕ) (work : ℕ) (held : List ℕ) (answered : (scheduleJob 
 
   pub schedule-accepts : check g ≡ 0
   unfolding check
-  schedule-accepts = checks-passed (checkQuestions g) (check-numbered g) (marksPart (split g)) (keptParts (split g)) work (length held) yes-to-all
+  schedule-accepts = checks-passed (checkQuestions g) (check-numbered g) (marksPart (split g)) (keptParts (split g)) (has (split g) 6) work (length held) yes-to-all
 
   pub schedule-leaves : take ((scheduleJob g work (length held)) .value) (after (scheduleJob g work (length held)) held) ≡ scheduled g
   unfolding schedulingJob scheduled after over
@@ -174,10 +209,11 @@ module _ (g : List ℕ) (bytes : Bytes g) (ok : check g ≡ 0) where
   schedule-answers =
       let long = scheduled-length g bytes ok in
       let k = keptParts (split g) in
-      let room : hasRoom (sheetCount g) k (32 * sheetCount g + 1024) (length (scheduled g)) ≡ true =
-      there-room (sheetCount g) k (32 * sheetCount g + 1024) (length (scheduled g)) (omega arith) (omega (arith, long)) in
-      outcome-number (schedulingQuestions (checkQuestions g) (marksPart (split g)) k (32 * sheetCount g + 1024) (length (scheduled g))) (length (scheduled g)) (scheduled g)
-      ∙ (room-asked (checkQuestions g) (check-numbered g) (marksPart (split g)) k (32 * sheetCount g + 1024) (length (scheduled g)) ok ∙ rw room)
+      let c = has (split g) 6 in
+      let room : hasRoom (sheetCount g) k c (32 * sheetCount g + 1024) (length (scheduled g)) ≡ true =
+      there-room (sheetCount g) k c (32 * sheetCount g + 1024) (length (scheduled g)) (omega arith) (omega (arith, long)) in
+      outcome-number (schedulingQuestions (checkQuestions g) (marksPart (split g)) k c (32 * sheetCount g + 1024) (length (scheduled g))) (length (scheduled g)) (scheduled g)
+      ∙ (room-asked (checkQuestions g) (check-numbered g) (marksPart (split g)) k c (32 * sheetCount g + 1024) (length (scheduled g)) ok ∙ rw room)
 
 -- 01's words: "scheduled here if its bytes are those that scheduling, answering 0, writes for some sheet".
 pub here-iff : (s : List ℕ) → ScheduledHere s ↔ LeftByScheduling s
@@ -271,8 +307,11 @@ assemble-joins codes bodies before {r} {out} gives =
 module _ (s : List ℕ) (here : ScheduledHere s) where
   open ScheduledHere here using (given-sheet as g, bytes, accepted, written)
 
-  parts : split s ≡ newParts (marksPart (split g)) (keptParts (split g))
+  parts : split s ≡ newParts (marksPart (split g)) (keptParts (split g)) (has (split g) 6)
   parts = ap split written ∙ scheduled-parts g bytes accepted
+
+  right-kept : KeptRight (sheetCount g) (keptParts (split g))
+  right-kept = kept-right g accepted bytes
 
   -- Its part 1 is the given sheet's, byte for byte, so no mark handed in is missing.
   pub part1-kept : marksPart (split s) ≡ marksPart (split g)
@@ -280,7 +319,18 @@ module _ (s : List ℕ) (here : ScheduledHere s) where
 
   -- And the parts that are kept are the given sheet's.
   pub others-kept : keptParts (split s) ≡ keptParts (split g)
-  others-kept = ap keptParts parts ∙ kept-right g accepted bytes .again
+  others-kept =
+      ap keptParts parts ∙ kept-beside (keptParts (split g)) (has (split g) 6) (newCounts (marksPart (split g)) (keptParts (split g))) ∙ right-kept .again
+
+  -- There are counts where the given sheet has counts.
+  pub counts-kept : has (split s) 6 ≡ has (split g) 6
+  counts-kept =
+      ap (λ (l : List Part). has l 6) parts
+      ∙ counts-there (keptParts (split g)) (has (split g) 6) (newCounts (marksPart (split g)) (keptParts (split g))) (right-kept .no-counts)
+
+  -- The edition and the popups that are kept are its own.
+  pub here-edition : editionOf (keptParts (split s)) ≡ editionOf (split s)
+  here-edition = kept-edition (split s)
 
   part1-good : GoodMarks (marksPart (split s)) (sheetCount s)
   part1-good = rw parts (good g bytes accepted)
@@ -298,19 +348,17 @@ module _ (s : List ℕ) (here : ScheduledHere s) where
         good = part1-good;
         long = rw parts (marks-long g bytes accepted);
         bytes = part1-bytes;
-        right = rw (others-kept, parts) (kept-right g accepted bytes);
+        right = rw (others-kept, part1-kept) right-kept;
       }
 
   pub schedule-is : schedulePart (split s) ≡ scheduleOf (reelOf (split s))
-  schedule-is = rw parts
+  schedule-is =
+      ap schedulePart parts
+      ∙ rw (← others-kept, ← part1-kept, kept-edition (split s), kept-popups (split s))
 
   pub here-indexed : answer (indexedQuestions s) ≡ 0
   unfolding question10
   here-indexed = indexed-iff s .1 (here-accepted s here, rw parts)
-
-  -- The edition that is kept is its own.
-  pub here-edition : editionOf (keptParts (split s)) ≡ editionOf (split s)
-  here-edition = rw (others-kept, parts)
 
   module _ (list : ℕ → Value) (sound : IsList s list) where
     -- A list equals ours, mark by mark, exactly when it keeps both rules.
@@ -395,38 +443,40 @@ module _ (s : List ℕ) (e : Window) (zoom : Zoom) (buffer : List ℕ) (taken : 
 -- ---- and so of what the calls answer and leave
 
 -- Of a job that schedules these marks, which pass 4 to 6 wherever its `checks` are passed.
-module _ (checks : List Question) (numbered : Numbered checks) (marks : List ℕ) (others : List Part) (pass : answer checks ≡ 0 → Pass marks others) where
+module _ (checks : List Question) (numbered : Numbered checks) (marks : List ℕ) (others : List Part) (counted : Bool)
+    (pass : answer checks ≡ 0 → Pass marks others) where
   pub scheduling-meets : (work : ℕ) (before : List ℕ) {r : Answer} {out : List ℕ}
-      → Gives (schedulingJob checks marks others work (length before)) before r out → Meets marks others r out
+      → Gives (schedulingJob checks marks others counted work (length before)) before r out → Meets marks others counted r out
   unfolding schedulingJob scheduled
   scheduling-meets work before {r} {out} gives =
       record {
-        accepted = λ z. rw (sheet z) (here-accepted (scheduledFrom marks others) (here z));
-        here = λ z. rw (sheet z) (here z);
-        part1 = λ z. rw (sheet z) (ap marksPart (from-parts marks others (pass (ok z))));
-        keeps = λ z. rw (sheet z) (ap keptParts (from-parts marks others (pass (ok z))) ∙ pass (ok z) .right .again);
-        fresh = λ z g e f. rw (e, f) (sheet z);
-        demand3 = λ z. rw (sheet z) (demand3 (scheduledFrom marks others) (here z));
-        unpopped = λ z. rw (sheet z) (from-unpopped marks others (pass (ok z)));
-        popped = λ z. rw (sheet z) (from-popped marks others (pass (ok z)));
+        accepted = λ z. rw (written z) (here-accepted (scheduledFrom marks others counted) (here z));
+        here = λ z. rw (written z) (here z);
+        part1 = λ z. rw (written z) (ap marksPart (from-parts marks others counted (pass (ok z))));
+        keeps = λ z. rw (written z) (from-kept marks others counted (pass (ok z)));
+        renews = λ z. rw (written z) (from-counted marks others counted (pass (ok z)));
+        fresh = λ z g e f h. rw (e, f, h) (written z);
+        demand3 = λ z. rw (written z) (demand3 (scheduledFrom marks others counted) (here z));
+        unpopped = λ z. rw (written z) (from-unpopped marks others counted (pass (ok z)));
+        popped = λ z. rw (written z) (from-popped marks others counted (pass (ok z)));
       }
     where
       ok : r .number ≡ 0 → answer checks ≡ 0
       ok z =
-          checks-passed checks numbered marks others work (length before)
-          (all-yes (schedulingQuestions checks marks others work (length before)) (length (scheduledFrom marks others)) (scheduledFrom marks others) before gives z)
+          checks-passed checks numbered marks others counted work (length before)
+          (all-yes (schedulingQuestions checks marks others counted work (length before)) (length (scheduledFrom marks others counted)) (scheduledFrom marks others counted) before gives z)
 
-      here : r .number ≡ 0 → ScheduledHere (scheduledFrom marks others)
-      here z = from-here marks others (pass (ok z))
+      here : r .number ≡ 0 → ScheduledHere (scheduledFrom marks others counted)
+      here z = from-here marks others counted (pass (ok z))
 
-      sheet : r .number ≡ 0 → take (r .value) out ≡ scheduledFrom marks others
-      sheet z = kept-bytes (schedulingQuestions checks marks others work (length before)) (scheduledFrom marks others) before gives z
+      written : r .number ≡ 0 → take (r .value) out ≡ scheduledFrom marks others counted
+      written z = kept-bytes (schedulingQuestions checks marks others counted work (length before)) (scheduledFrom marks others counted) before gives z
 
 pub schedule-meets : (g : List ℕ) (work : ℕ) (before : List ℕ) {r : Answer} {out : List ℕ} → Bytes g
-    → Gives (scheduleJob g work (length before)) before r out → Meets (marksPart (split g)) (keptParts (split g)) r out
+    → Gives (scheduleJob g work (length before)) before r out → Meets (marksPart (split g)) (keptParts (split g)) (has (split g) 6) r out
 unfolding check
 schedule-meets g work before bytes =
-    scheduling-meets (checkQuestions g) (check-numbered g) (marksPart (split g)) (keptParts (split g))
+    scheduling-meets (checkQuestions g) (check-numbered g) (marksPart (split g)) (keptParts (split g)) (has (split g) 6)
     (λ ok. record { good = good g bytes ok; long = marks-long g bytes ok; bytes = marks-bytes g bytes ok; right = kept-right g ok bytes }) work before
 
 pub view-meets : (s : List ℕ) (e : Window) (zoom : Zoom) (before : List ℕ) {r : Answer} {map : List ℕ}
@@ -446,8 +496,8 @@ pub view-whole : {s : List ℕ} {e : Window} {zoom : Zoom} {before map : List �
 view-whole {s} {e} {zoom} {before} gives = (gives, view-meets s e zoom before gives)
 
 -- Schedule, then view: what the first call promises of its output is all that the second asks of its input.
-pub schedule-then-view : {g : List ℕ} {others : List Part} {out : List ℕ} {r : Answer} {e : Window} {zoom : Zoom} {v : Answer} {map : List ℕ}
-    → Meets g others r out → r .number ≡ 0 → MeetsView (take (r .value) out) e zoom v map → v .number ≡ 0
+pub schedule-then-view : {g : List ℕ} {others : List Part} {counted : Bool} {out : List ℕ} {r : Answer} {e : Window} {zoom : Zoom} {v : Answer} {map : List ℕ}
+    → Meets g others counted r out → r .number ≡ 0 → MeetsView (take (r .value) out) e zoom v map → v .number ≡ 0
     → (list : ℕ → Value) → IsList (take (r .value) out) list → KeepsRules (take (r .value) out) list
     → ShowsLiving (take (r .value) out) e zoom list map (v .value)
 schedule-then-view meets scheduled-it view viewed-it = view .living (meets .here scheduled-it) viewed-it

@@ -2,7 +2,7 @@
 -- along, and viewing without a turn gives the same map." Over the jobs and bytes; the contracts of the views cite it. Assumes nothing.
 use Prim.Native.Nat.{ℕ, _<_, _≤_}
 use mathlib.Core.Path.{_≡_, refl, sym, ap, _∙_}
-use mathlib.Core.Bool.{Bool}
+use mathlib.Core.Bool.{Bool, false}
 use mathlib.Core.List.{List, [], _∷_}
 use native.Mathlib.Omega.{arith}
 use borrow.Author.Tests.{le-leb}
@@ -35,7 +35,8 @@ use Rattle.jobs.specs.Laws.Outcomes.{outcome-same}
 
 -- ---- what is said
 
--- the sheet of the turned marks, "with the sheet's parts beyond 3 carried along"
+-- the sheet of the turned marks, "with the sheet's parts beyond 3 carried along"; request 12: "The guarantee on turned marks doesn't carry part 6
+-- along."
 abbrev pub turnedSheet : ℕ → List ℕ → List ℕ
 turnedSheet t s = join ((1 holds turnedMarks t (marksPart (split s)) (sheetCount s)) ∷ keptParts (split s))
 
@@ -83,13 +84,13 @@ module _ (s : List ℕ) (here : ScheduledHere s) (t : ℕ) (fit : TurnedFit t (m
 
   -- scheduled, the sheet of the turned marks
   abbrev other : List ℕ
-  other = scheduledFrom turned kept
+  other = scheduledFrom turned kept false
 
   other-here : ScheduledHere other
-  other-here = from-here turned kept turned-pass
+  other-here = from-here turned kept false turned-pass
 
-  other-parts : split other ≡ newParts turned kept
-  other-parts = from-parts turned kept turned-pass
+  other-parts : split other ≡ newParts turned kept false
+  other-parts = from-parts turned kept false turned-pass
 
   other-marks : marksPart (split other) ≡ turned
   other-marks = ap marksPart other-parts

@@ -1,11 +1,11 @@
 -- Runs of stores: one after another, turn by turn, and what they leave as it was. Assumes nothing.
 use Prim.Native.Nat.{ℕ, suc, _+_, _<_, _≤_}
-use mathlib.Core.Path.{_≡_, refl, sym, _∙_}
-use mathlib.Core.List.{List, [], _∷_, _++_}
+use mathlib.Core.Path.{_≡_, refl, sym, ap, _∙_}
+use mathlib.Core.List.{List, [], _∷_, _++_, append-nil}
 use native.Mathlib.Nat.{add-zero, zero-add}
 use native.Mathlib.Numerals.{add-one}
 use native.Mathlib.Omega.{arith}
-use lib.ListN.{length, getD, set, take, drop, length-set, length-take, length-drop}
+use lib.ListN.{length, getD, set, take, drop, length-set, length-take, length-drop, drop-of-length-le}
 use lib.Seq.{sets, sets-eq, ext-getD, drop-cons, getD-take, getD-drop, getD-set-other}
 use Rattle.lists.specs.Stores.{over, Clear, Kept}
 
@@ -29,6 +29,13 @@ sets-turn l i j v h =
 pub over-sets : (w buffer : List ℕ) → length w ≤ length buffer → sets buffer 0 w ≡ over w buffer
 unfolding over
 over-sets w buffer h = rw (← zero-add (length w)) (sets-eq w buffer 0 (rw zero-add h))
+
+-- a run as long as the buffer leaves nothing of it
+pub sets-whole : (w buffer : List ℕ) → length w ≡ length buffer → sets buffer 0 w ≡ w
+unfolding over
+sets-whole w buffer e =
+    over-sets w buffer (omega arith)
+    ∙ ap (λ (l : List ℕ). w ++ l) (drop-of-length-le buffer {i = length w} (omega arith)) ∙ append-nil w
 
 -- ---- ranges
 

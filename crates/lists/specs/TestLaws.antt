@@ -1,13 +1,15 @@
--- Tests as statements: what 'and', 'or' and 'not' say, `every`, and a test as a number. Assumes nothing.
+-- Tests as statements: what 'and', 'or' and 'not' say, `every`, a test as a number, and `howMany`. Assumes nothing.
 use Prim.Native.Nat.{ℕ, zero, suc, _+_, _<_, _≤_}
 use mathlib.Core.Path.{_≡_, refl, sym, ap, _∙_, subst⁻¹}
 use mathlib.Core.Bool.{Bool, true, false, not, _&&_, _||_, false≢true}
 use mathlib.Core.Logic.{_↔_, _⊎_, inl, inr}
+use native.Mathlib.Nat.{add-zero}
 use native.Mathlib.Numerals.{add-one}
 use native.Mathlib.Decide.{decLt}
 use native.Mathlib.Omega.{arith}
-use borrow.Author.Tests.{not-true, not-false}
-use Rattle.lists.specs.Tests.{every, bit}
+use borrow.Author.Tests.{not-true, not-false, lt-ltb, le-ltb}
+use lib.Dec.{ltb}
+use Rattle.lists.specs.Tests.{every, bit, howMany}
 
 -- ---- truth tables
 
@@ -120,3 +122,63 @@ bit-split true true = refl
 bit-split true false = refl
 bit-split false true = refl
 bit-split false false = refl
+
+-- ---- how many numbers below n pass
+
+-- the same tests, the same number
+pub many-same : (p q : ℕ → Bool) (n : ℕ) → ((m : ℕ) → m < n → p m ≡ q m) → howMany p n ≡ howMany q n
+unfolding howMany
+many-same p q zero h = refl
+many-same p q (suc n) h = rw (many-same p q n (λ m k. h m (omega arith)), h n (omega arith))
+
+pub many-most : (p : ℕ → Bool) (n : ℕ) → howMany p n ≤ n
+unfolding howMany
+many-most p zero = omega arith
+many-most p (suc n) = omega (arith, many-most p n, bit-small (p n))
+
+-- a test that is harder to pass
+pub many-fewer : (p q : ℕ → Bool) (n : ℕ) → ((m : ℕ) → m < n → p m ≡ true → q m ≡ true) → howMany p n ≤ howMany q n
+unfolding howMany
+many-fewer p q zero h = omega arith
+many-fewer p q (suc n) h = omega (arith, many-fewer p q n (λ m k. h m (omega arith)), bit-le (p n) (q n) (h n (omega arith)))
+
+-- two tests that together count as two others do, number by number
+pub many-sums : (p q r s : ℕ → Bool) (n : ℕ) → ((m : ℕ) → m < n → bit (p m) + bit (q m) ≡ bit (r m) + bit (s m))
+    → howMany p n + howMany q n ≡ howMany r n + howMany s n
+unfolding howMany
+many-sums p q r s zero h = refl
+many-sums p q r s (suc n) h = omega (arith, many-sums p q r s n (λ m k. h m (omega arith)), h n (omega arith))
+
+-- a test that no number passes
+pub many-none : (p : ℕ → Bool) (n : ℕ) → ((m : ℕ) → m < n → p m ≡ false) → howMany p n ≡ 0
+unfolding howMany
+many-none p zero h = refl
+many-none p (suc n) h = omega (arith, many-none p n (λ m k. h m (omega arith)), bit-false (h n (omega arith)))
+
+-- Of a test that no number passes after one that fails, the numbers that pass are the first ones.
+module _ (p : ℕ → Bool) (falls : (m : ℕ) → p (suc m) ≡ true → p m ≡ true) where
+  -- whose number counts them
+  passing : (n : ℕ) → p n ≡ true → howMany p n ≡ n
+  unfolding howMany
+  passing zero e = refl
+  passing (suc n) e = omega (arith, passing n (falls n e), bit-true (falls n e))
+
+  -- the last one that is asked passes, or no other counts
+  many-turn : (n : ℕ) (b : Bool) → p n ≡ b → ((m : ℕ) → m < n → p m ≡ ltb m (howMany p n)) → howMany p n ≤ n
+      → (m : ℕ) → m < suc n → p m ≡ ltb m (howMany p n + bit b)
+  many-turn n true e h most m l =
+      let all = passing n e in
+      elim (decLt m n) [
+        | yes k ↦ h m k ∙ lt-ltb m (howMany p n) (omega arith) ∙ sym (lt-ltb m (howMany p n + 1) (omega arith))
+        | no k ↦ (let i : m ≡ n = omega arith in ap p i ∙ e ∙ sym (lt-ltb m (howMany p n + 1) (omega arith)))
+      ]
+  many-turn n false e h most m l =
+      elim (decLt m n) [
+        | yes k ↦ rw (add-zero (howMany p n)) (h m k)
+        | no k ↦ (let i : m ≡ n = omega arith in ap p i ∙ e ∙ sym (le-ltb m (howMany p n + 0) (omega arith)))
+      ]
+
+  pub many-first : (n m : ℕ) → m < n → p m ≡ ltb m (howMany p n)
+  unfolding howMany
+  many-first zero m l = absurd (omega arith)
+  many-first (suc n) m l = many-turn n (p n) refl (many-first n) (many-most p n) m l

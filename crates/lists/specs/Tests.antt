@@ -1,5 +1,5 @@
--- Tests: one that holds of every number below n, and one as a number.
-use Prim.Native.Nat.{ℕ, zero, suc}
+-- Tests: one that holds of every number below n, one as a number, and how many numbers pass one.
+use Prim.Native.Nat.{ℕ, zero, suc, _+_}
 use mathlib.Core.Bool.{Bool, true, false, _&&_}
 
 -- `test` holds of every number below n
@@ -10,3 +10,8 @@ every test (suc n) = every test n && test n
 abbrev pub bit : Bool → ℕ
 bit true = 1
 bit false = 0
+
+-- how many of the numbers below n pass
+unfoldable pub howMany : (ℕ → Bool) → ℕ → ℕ
+howMany test zero = 0
+howMany test (suc n) = howMany test n + bit (test n)

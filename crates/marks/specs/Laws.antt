@@ -22,7 +22,7 @@ use Rattle.fractions.specs.Order.{Small}
 use Rattle.marks.specs.Marks.{markSize, yOffset, priorityOffset, radiusAt, kindAt, priorityAt, usedAt, houseOf, isKind, isRadius, usedRadius}
 use Rattle.marks.specs.declared.House.the-variants.{Radius, Refused}
 use Rattle.marks.specs.declared.Label.{Label}
-use Rattle.marks.specs.Marks.{Group, note, spot, streak, patch, break, kindGroup, groupRadius, houseRadius, oldGroupRadius, oldRadius}
+use Rattle.marks.specs.Marks.{Group, note, spot, streak, patch, break, kindGroup, groupNumber, groupRadius, houseRadius, oldGroupRadius, oldRadius}
 use Rattle.marks.specs.Marks.{labelAt, apart, distance, touchingOf, touching, rankRadius, outranks, rankKey}
 
 -- ---- kinds
@@ -43,6 +43,17 @@ kind-iff kind = (
   (λ e. elim (decLt kind 200) [ yes l ↦ l | no l ↦ absurd (false≢true (rw (house-none kind (omega arith)) at e)) ]),
   (λ l. rw (house-there kind l)),
 )
+
+-- there are five groups
+group-few : (g : Group) → groupNumber g < 5
+group-few note = omega arith
+group-few spot = omega arith
+group-few streak = omega arith
+group-few patch = omega arith
+group-few break = omega arith
+
+pub kind-group-few : (kind : ℕ) → groupNumber (kindGroup kind) < 5
+kind-group-few kind = group-few (kindGroup kind)
 
 -- ---- radii
 

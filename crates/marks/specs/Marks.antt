@@ -80,6 +80,14 @@ unfoldable pub kindGroup : ℕ → Group
 kindGroup kind =
     cond (ltb kind 10) note (cond (ltb kind 50) spot (cond (ltb kind 100) streak (cond (ltb kind 150) patch break)))
 
+-- 02, request 12: "the five groups of 01 in order", from 0 on
+abbrev pub groupNumber : Group → ℕ
+groupNumber note = 0
+groupNumber spot = 1
+groupNumber streak = 2
+groupNumber patch = 3
+groupNumber break = 4
+
 -- The house radius of each group. 02, request 2: "The house radius of kinds 100 to 149 becomes 150."
 abbrev pub groupRadius : Group → ℕ
 groupRadius note = 40

@@ -9,7 +9,7 @@ ghost use Rattle.numbers.specs.Little.{leBytes};
 ghost use Rattle.fractions.specs.Order.{Small};
 ghost use Rattle.marks.specs.Pairs.{popupSize, popupAt, larger, pairOf, pairValue, GoodPopup};
 ghost use Rattle.marks.specs.Marks.{markSize, xAt, yAt, shifted, radiusAt, priorityAt, kindAt, placeBits, markBytes};
-ghost use Rattle.marks.specs.Marks.{houseOf, oldRadius, usedRadius, usedAt};
+ghost use Rattle.marks.specs.Marks.{kindGroup, groupNumber, houseOf, oldRadius, usedRadius, usedAt};
 ghost use Rattle.marks.specs.Marks.{labelAt, distance, touchingOf, touching, rankRadius, outranks, rankKey};
 
 // The bytes of a mark, and where the fields behind x begin.
@@ -144,6 +144,19 @@ pub fn house_radius(kind: u8) -> House
         100..=149 => House::Radius(150),
         150..=199 => House::Radius(200),
         _ => House::Refused,
+    }
+}
+
+// The number of a kind's group. Kinds above 199 do not exist; the definition counts them with the last group.
+pub fn group_of(kind: u8) -> u8
+    ensures { λ r. ⌜ r ≡ groupNumber (kindGroup kind) ⌝ }
+{
+    match kind {
+        0..=9 => 0,
+        10..=49 => 1,
+        50..=99 => 2,
+        100..=149 => 3,
+        _ => 4,
     }
 }
 

@@ -3,10 +3,10 @@
 use Prim.Native.Nat.{ℕ, _+_, _*_}
 use mathlib.Core.Path.{_≡_, refl}
 use mathlib.Core.List.{List, [], _∷_, _++_, map}
-use lib.ListN.{length, take}
+use lib.ListN.{length, take, drop}
 use lib.IntN.{ℤ, pos, negsuc}
 use lib.Ieee.{binary32, ofBits}
-use Rattle.lists.specs.Tests.{every, bit}
+use Rattle.lists.specs.Tests.{every, bit, howMany}
 use Rattle.numbers.specs.Little.{leAt, leBytes}
 use Rattle.fractions.specs.Order.{less, same, later, level}
 use Rattle.marks.specs.declared.Mark.{Mark}
@@ -17,13 +17,13 @@ use Rattle.elimination.specs.Records.{eliminatorAt, numAt, denAt, isNever, valu
 use Rattle.elimination.specs.Reel.{scheduleOf}
 use Rattle.index.specs.Tree.{treeOf}
 use Rattle.index.specs.Index.{beats, coordinate, axisKey, indexOf, indexBytes, sameBytes, isIndex}
-use Rattle.contents.specs.Contents.{_holds_, codesOf, startAt, split, entries, contentsOf, chain, join, marksPart, schedulePart, indexPart}
+use Rattle.contents.specs.Contents.{_holds_, codesOf, startAt, split, entries, contentsOf, chain, join, marksPart, schedulePart, indexPart, countsPart}
 use Rattle.contents.specs.Asking.{answer, inTurn}
 use Rattle.contents.specs.Questions.{question1, codesRight, question3, contentsQuestions}
 use Rattle.rows.specs.Rows as Rows
 use Rattle.columns.specs.Columns.{asColumns, asMarks, differences, sums, toColumns, fromColumns}
 use Rattle.changing.specs.Changing.{added, takenOut, addedPopup, takenOutPopup}
-use Rattle.bodies.specs.Questions.{question4, markQuestions, part1Questions, isEdition, isPopup, isPopups, question7, question19, question21, namesRight, recordRight, isSchedule, isSized, question8, question9, lastQuestions, bodyQuestions}
+use Rattle.bodies.specs.Questions.{question4, markQuestions, part1Questions, isEdition, isPopup, isPopups, question7, question19, question21, namesRight, recordRight, isSchedule, isSized, question8, question9, question23, lastQuestions, bodyQuestions}
 use Rattle.judging.specs.Judge.{some, bothLater, firstRule, causes, secondRule, namesHighest, judge, judgeSchedule}
 use Rattle.filling.specs.Filling.{filledRadius, filled, fillQuestions}
 use Rattle.logs.specs.Packed.{magnitude, isMinus, withSign, areDigits, isLast, isPacked, isPlace, packedOf}
@@ -37,10 +37,12 @@ use Rattle.zoom.specs.Living.{livesAt}
 use Rattle.zoom.specs.Printed.{rootStep, root, nearestFrom, nearest}
 use Rattle.view.specs.declared.Window.{Window}
 use Rattle.turns.specs.Turns.{unit, quarter, productAt, times, turn, applied, turnedPlace}
-use Rattle.view.specs.Shown.{gap, distanceSquared, diskReaches, reaches, poppedUp, lives, shown}
+use Rattle.view.specs.Shown.{gap, distanceSquared, diskReaches, reaches, shown}
+use Rattle.counting.specs.Lives.{poppedUp, lives}
+use Rattle.counting.specs.Counts.{livesAtStop, inGroup, livingCount, countsOf, isCounts}
 use Rattle.bitmap.specs.Map.{mapByte, mapPart, mapBytes, countShown}
 use Rattle.view.specs.Questions as Viewing
-use Rattle.jobs.specs.Jobs.{outcome, checkJob, scheduled, schedulingQuestions, schedulingJob, addChecks, addJob, takeOutChecks, takeOutJob, question22, judgeQuestions, judgeJob, columnQuestions, toColumnsJob, fromColumnsJob, assembleQuestions, assembleJob, fillJob, logToMarksJob, marksToLogJob, shownIn, viewJob}
+use Rattle.jobs.specs.Jobs.{outcome, checkJob, scheduled, schedulingQuestions, schedulingJob, addChecks, addJob, takeOutChecks, takeOutJob, question22, judgeQuestions, judgeJob, withOwnCounts, countChecks, countJob, columnQuestions, toColumnsJob, fromColumnsJob, assembleQuestions, assembleJob, fillJob, logToMarksJob, marksToLogJob, shownIn, viewJob}
 use Rattle.text.specs.Text.{digits}
 use Rattle.report.specs.Text.{text, line, markLine, markLines, listing, refusalLine, printQuestions, printed}
 
@@ -113,6 +115,10 @@ pub data Asked : Type 0 where
   -- marks rearranged by columns, and columns into marks, in a buffer of so many bytes: number, length, and the bytes written
   arranges : List ℕ → ℕ → Asked
   restores : List ℕ → ℕ → Asked
+  -- counting a sheet in a buffer of so many bytes: number, length, and the counts of part 6
+  counts : List ℕ → ℕ → Asked
+  -- the counts of part 6 of a sheet at a stop
+  countsAt : List ℕ → ℕ → Asked
 
 -- the numbers of two bytes each
 pairs : List ℕ → List ℕ
@@ -147,6 +153,8 @@ answers (takesOut s out work room m) = let o = takeOutJob s out work room in o .
 answers (judges s) = (judgeJob s) .number ∷ []
 answers (arranges s room) = let o = toColumnsJob s room in o .number ∷ o .value ∷ o .written
 answers (restores c room) = let o = fromColumnsJob c room in o .number ∷ o .value ∷ o .written
+answers (counts s room) = let o = countJob s room in o .number ∷ o .value ∷ pairs (countsPart (split (o .written)))
+answers (countsAt s stop) = take 5 (drop (5 * stop) (pairs (countsPart (split s))))
 
 -- ---- the table
 
@@ -232,6 +240,29 @@ archived = 5 ∷ 0 ∷ 2 ∷ 0 ∷ 255 ∷ 255 ∷ 7 ∷ 0 ∷ 250 ∷ 1 ∷ 2 �
 
 abbrev inColumns : List ℕ
 inColumns = 5 ∷ 0 ∷ 254 ∷ 255 ∷ 2 ∷ 0 ∷ 0 ∷ 1 ∷ 255 ∷ 255 ∷ 10 ∷ 0 ∷ 7 ∷ 0 ∷ 8 ∷ 0 ∷ 250 ∷ 4 ∷ 1 ∷ 2 ∷ 3 ∷ 4 ∷ []
+
+-- P1 scheduled, with its counts; all its marks are notes. The counts of notes alone, stop by stop, as part 6 has them.
+abbrev counted : List ℕ
+counted = withOwnCounts (scheduled (sheet p1))
+
+notes : List ℕ → List ℕ
+notes [] = []
+notes (n ∷ l) = n ∷ 0 ∷ 0 ∷ 0 ∷ 0 ∷ notes l
+
+-- the counts of P1: mark 3 goes at 64z = 12.8, mark 1 at 320 and mark 2 at 640
+abbrev countsOfP1 : List ℕ
+countsOfP1 = notes (4 ∷ 4 ∷ 4 ∷ 4 ∷ 3 ∷ 3 ∷ 3 ∷ 3 ∷ 3 ∷ 2 ∷ 1 ∷ 1 ∷ 1 ∷ 1 ∷ 1 ∷ 1 ∷ 1 ∷ [])
+
+-- a mark of these places and kind, with radius 1
+abbrev ofKind : ℕ → ℕ → Mark
+ofKind x kind = markOf (pos x) (pos 0) 1 0 kind
+
+-- one mark of each group, and a second break, which pops up at 64z = 2
+abbrev ofEach : List ℕ
+ofEach =
+    scheduled
+    (sheetWith (0 ∷ 0 ∷ 0 ∷ 0 ∷ 0 ∷ 2 ∷ [])
+    (ofKind 0 9 ∷ ofKind 1000 10 ∷ ofKind 2000 99 ∷ ofKind 3000 100 ∷ ofKind 4000 199 ∷ ofKind 5000 150 ∷ []))
 
 -- the window of these edges and this turn
 abbrev window : ℤ → ℤ → ℤ → ℤ → ℕ → Window
@@ -415,10 +446,27 @@ table =
     ∷ (arranges archived 21 gives (13 ∷ 0 ∷ []))
     ∷ (restores (take 21 inColumns) 0 gives (4 ∷ 0 ∷ []))
     ∷ (restores inColumns 21 gives (13 ∷ 0 ∷ []))
+    -- 02, request 12: how many live at each stop; counting again gives the same
+    ∷ (counts (scheduled (sheet p1)) 320 gives (0 ∷ 320 ∷ countsOfP1))
+    ∷ (counts counted 320 gives (0 ∷ 320 ∷ countsOfP1))
+    -- group by group, popups heeded
+    ∷ (countsAt (withOwnCounts ofEach) 0 gives (1 ∷ 1 ∷ 1 ∷ 1 ∷ 1 ∷ []))
+    ∷ (countsAt (withOwnCounts ofEach) 1 gives (1 ∷ 1 ∷ 1 ∷ 1 ∷ 2 ∷ []))
+    -- scheduling renews part 6, and so do adding and taking out
+    ∷ (keeps counted gives (1 ∷ 2 ∷ 3 ∷ 6 ∷ []))
+    ∷ (countsAt ((addJob counted (mark (pos 5000) (pos 0) 1 0) 0 1184 347) .written) 0 gives (5 ∷ 0 ∷ 0 ∷ 0 ∷ 0 ∷ []))
+    ∷ (countsAt ((takeOutJob counted 0 1120 293) .written) 10 gives (1 ∷ 0 ∷ 0 ∷ 0 ∷ 0 ∷ []))
+    -- what is asked: another part 6 gets 23, one without part 2 gets 2, and counting asks 10 and then 13
+    ∷ (checks counted gives (0 ∷ []))
+    ∷ (checks (join ((1 holds marks p1) ∷ (2 holds schedulePart (split counted)) ∷ (6 holds countsOf (marks p1) (schedulePart (split counted)) [] 3) ∷ [])) gives (23 ∷ []))
+    ∷ (checks (join ((1 holds marks p1) ∷ (2 holds schedulePart (split counted)) ∷ (6 holds []) ∷ [])) gives (23 ∷ []))
+    ∷ (checks (join ((1 holds marks p1) ∷ (6 holds []) ∷ [])) gives (2 ∷ []))
+    ∷ (counts (sheet p1) 0 gives (10 ∷ 0 ∷ []))
+    ∷ (counts (scheduled (sheet p1)) 319 gives (13 ∷ 0 ∷ []))
     ∷ []
 
 -- No row is lost.
-pub table-length : length table ≡ 119
+pub table-length : length table ≡ 132
 unfolding table
 table-length = refl
 
@@ -431,7 +479,7 @@ unfolding table answers recordOf pairs sheet sheetIn popups sheetWith marks by n
     magnitude isMinus withSign areDigits isLast isPacked isPlace packedOf placeBits marksOfLog logOfMarks
     logSize recordQuestions logChecks logQuestions marksQuestions logToMarksJob marksToLogJob
     Rows.rows filledRadius filled fillQuestions markQuestions part1Questions isSized isEdition isPopup isPopups question7 question19 question21 namesRight recordRight isSchedule question8
-    question9 lastQuestions bodyQuestions checkQuestions check partsQuestions assembleQuestions stopScale wheelScale scaleOf livesAt gap distanceSquared diskReaches unit quarter productAt times turn applied turnedPlace reaches
-    poppedUp lives shown mapByte mapPart mapBytes countShown question10 indexedQuestions Viewing.isEdge Viewing.question20 Viewing.question11 Viewing.viewQuestions outcome checkJob scheduled
-    added Rows.without takenOut addedPopup takenOutPopup addChecks takeOutChecks some bothLater firstRule causes secondRule namesHighest judge judgeSchedule question22 judgeQuestions judgeJob columnQuestions toColumnsJob fromColumnsJob toColumns fromColumns asColumns asMarks differences sums schedulingQuestions schedulingJob assembleJob fillJob shownIn viewJob digits line rootStep root nearestFrom nearest markLine markLines listing refusalLine printQuestions printed
+    question9 question23 lastQuestions bodyQuestions checkQuestions check partsQuestions assembleQuestions stopScale wheelScale scaleOf livesAt gap distanceSquared diskReaches unit quarter productAt times turn applied turnedPlace reaches
+    poppedUp lives livesAtStop inGroup livingCount countsOf isCounts notes shown mapByte mapPart mapBytes howMany countShown question10 indexedQuestions Viewing.isEdge Viewing.question20 Viewing.question11 Viewing.viewQuestions outcome checkJob scheduled
+    added Rows.without takenOut addedPopup takenOutPopup addChecks takeOutChecks some bothLater firstRule causes secondRule namesHighest judge judgeSchedule question22 judgeQuestions judgeJob countChecks countJob columnQuestions toColumnsJob fromColumnsJob toColumns fromColumns asColumns asMarks differences sums schedulingQuestions schedulingJob assembleJob fillJob shownIn viewJob digits line rootStep root nearestFrom nearest markLine markLines listing refusalLine printQuestions printed
 examples = refl

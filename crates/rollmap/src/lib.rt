@@ -13,7 +13,7 @@ ghost use mathlib.Core.List.{map};
 ghost use lib.Dec.{leb};
 ghost use lib.ListN.{length};
 ghost use Rattle.changing.specs.Changing.{added, takenOut, addedPopup, takenOutPopup};
-ghost use Rattle.contents.specs.Contents.{split, marksPart};
+ghost use Rattle.contents.specs.Contents.{has, split, marksPart};
 ghost use Rattle.contents.specs.Questions.{isCount};
 ghost use Rattle.contents.specs.Asking.{answer};
 ghost use Rattle.contents.specs.Places.{layoutOf, placeOf, Located};
@@ -21,7 +21,7 @@ ghost use Rattle.sheet.specs.Questions.{indexedQuestions};
 ghost use Rattle.sheet.specs.Opened.{opened, openParts};
 ghost use Rattle.zoom.specs.declared.Zoom.the-variants.{Stop, Wheel};
 ghost use Rattle.view.specs.Questions.{isMap};
-ghost use Rattle.jobs.specs.Jobs.{checkJob, carried, keptParts, scheduleJob, addJob, takeOutJob, question22, judgeJob, assembleJob, fillJob, logToMarksJob, marksToLogJob, toColumnsJob, fromColumnsJob, viewJob, walkJob, isShownJob};
+ghost use Rattle.jobs.specs.Jobs.{checkJob, carried, keptParts, scheduleJob, addJob, takeOutJob, question22, judgeJob, countJob, assembleJob, fillJob, logToMarksJob, marksToLogJob, toColumnsJob, fromColumnsJob, viewJob, walkJob, isShownJob};
 ghost use Rattle.jobs.specs.Answers.{answerOf, window, fields, Gives, Lent};
 ghost use Rattle.jobs.specs.Parts.{Joins};
 ghost use Rattle.jobs.specs.Demand3.{Meets, MeetsView};
@@ -32,13 +32,14 @@ ghost use Rattle.jobs.specs.Archived.{MeetsColumns, MeetsRows};
 ghost use Rattle.jobs.specs.Stops.{MeetsStop};
 ghost use Rattle.jobs.specs.Turns.{MeetsTurn};
 ghost use Rattle.jobs.specs.Judged.{MeetsJudging};
+ghost use Rattle.jobs.specs.Counted.{MeetsCounting};
 
 // The most marks that a sheet holds.
 const MOST_MARKS: usize = 4096;
 
 // ---- sheets
 
-// Questions 1 to 9.
+// Questions 1 to 9, with 19, 21 and 23.
 #[no_mangle]
 pub extern "C" fn rollmap_check(sheet: &[u8]) -> Answer
     ensures { λ r. ⌜ r ≡ answerOf (checkJob (now (sheet .entry))) ⌝ }
@@ -65,7 +66,7 @@ fn are_counted(codes: usize, bodies: usize) -> bool
 }
 
 // Puts the bodies under these codes together into a sheet at the start of `out`: questions 1 (of the number of parts), 2 of the codes, 4 to 9
-// with 19 and 21, and 13. Bodies behind those that the codes name are ignored. The sheet has these parts and is accepted; an accepted sheet's own
+// with 19, 21 and 23, and 13. Bodies behind those that the codes name are ignored. The sheet has these parts and is accepted; an accepted sheet's own
 // parts give that sheet.
 #[no_mangle]
 pub extern "C" fn rollmap_assemble<'a>(
@@ -94,12 +95,13 @@ pub extern "C" fn rollmap_assemble<'a>(
 
 // ---- scheduling
 
-// Writes the sheet of three parts that a sheet's marks give, with parts 4 and 5 where they are there, and answers its length: questions 1 to 9
-// and 13. What the work buffer holds plays no part, and what it is left with after a success is not said. The written sheet meets demand 3.
+// Writes the sheet of three parts that a sheet's marks give, with parts 4 and 5 where they are there, and part 6 renewed, and answers its length:
+// questions 1 to 9, with 19, 21 and 23, and 13. What the work buffer holds plays no part, and what it is left with after a success is not said.
+// The written sheet meets demand 3.
 #[no_mangle]
 pub extern "C" fn rollmap_schedule(sheet: &[u8], work: &mut [u8], out: &mut [u8]) -> Answer
     ensures { λ r. ⌜ Gives (scheduleJob (now (sheet .entry)) (length (now (work .entry))) (length (now (out .entry)))) (now (out .entry)) r (now (out .exit)) ⌝ }
-    ensures { λ r. ⌜ Lent r (now (work .entry)) (now (work .exit)) × Meets (marksPart (split (now (sheet .entry)))) (keptParts (split (now (sheet .entry)))) r (now (out .exit)) ⌝ }
+    ensures { λ r. ⌜ Lent r (now (work .entry)) (now (work .exit)) × Meets (marksPart (split (now (sheet .entry)))) (keptParts (split (now (sheet .entry)))) (has (split (now (sheet .entry))) 6) r (now (out .exit)) ⌝ }
 {
     let found = sheet::opened(sheet);
     let number = found.number;
@@ -119,6 +121,7 @@ pub extern "C" fn rollmap_schedule(sheet: &[u8], work: &mut [u8], out: &mut [u8]
         there,
         popups,
         &marks[..0],
+        contents::is_there(layout, 6),
         work,
         out,
         n,
@@ -127,8 +130,8 @@ pub extern "C" fn rollmap_schedule(sheet: &[u8], work: &mut [u8], out: &mut [u8]
 
 // ---- marks that come and go
 
-// Schedules a sheet's marks and one more, given by its fields and its popup, behind them, and keeps parts 4 and 5: questions 1 to 10, 18, then 5,
-// 6 and 21 of the new mark, and 13. It is the sheet that scheduling writes for the new marks; the sheet's own schedule plays no part.
+// Schedules a sheet's marks and one more, given by its fields and its popup, behind them, keeps parts 4 and 5 and renews part 6: questions 1 to 10,
+// 18, then 5, 6 and 21 of the new mark, and 13. It is the sheet that scheduling writes for the new marks; the sheet's own schedule plays no part.
 #[no_mangle]
 pub extern "C" fn rollmap_add(
     sheet: &[u8],
@@ -143,18 +146,18 @@ pub extern "C" fn rollmap_add(
     out: &mut [u8],
 ) -> Answer
     ensures { λ r. ⌜ Gives (addJob (now (sheet .entry)) (fields x y radius priority kind tag) popup (length (now (work .entry))) (length (now (out .entry)))) (now (out .entry)) r (now (out .exit)) ⌝ }
-    ensures { λ r. ⌜ Lent r (now (work .entry)) (now (work .exit)) × Meets (added (marksPart (split (now (sheet .entry)))) (fields x y radius priority kind tag)) (carried (split (now (sheet .entry))) (λ q. addedPopup q popup)) r (now (out .exit)) ⌝ }
+    ensures { λ r. ⌜ Lent r (now (work .entry)) (now (work .exit)) × Meets (added (marksPart (split (now (sheet .entry)))) (fields x y radius priority kind tag)) (carried (split (now (sheet .entry))) (λ q. addedPopup q popup)) (has (split (now (sheet .entry))) 6) r (now (out .exit)) ⌝ }
     ensures { λ r. ⌜ MeetsAdding (now (sheet .entry)) (fields x y radius priority kind tag) popup r (now (out .exit)) ⌝ }
 {
     changes::add(sheet, x, y, radius, priority, kind, tag, popup, work, out)
 }
 
-// Schedules a sheet's marks without mark m, whereupon higher numbers drop by one, and keeps part 4, and part 5 without m's row: questions 1 to
-// 10, 17 and 13. It is the sheet that scheduling writes for the new marks.
+// Schedules a sheet's marks without mark m, whereupon higher numbers drop by one, keeps part 4, and part 5 without m's row, and renews part 6:
+// questions 1 to 10, 17 and 13. It is the sheet that scheduling writes for the new marks.
 #[no_mangle]
 pub extern "C" fn rollmap_take_out(sheet: &[u8], m: u32, work: &mut [u8], out: &mut [u8]) -> Answer
     ensures { λ r. ⌜ Gives (takeOutJob (now (sheet .entry)) m (length (now (work .entry))) (length (now (out .entry)))) (now (out .entry)) r (now (out .exit)) ⌝ }
-    ensures { λ r. ⌜ Lent r (now (work .entry)) (now (work .exit)) × Meets (takenOut (marksPart (split (now (sheet .entry)))) m) (carried (split (now (sheet .entry))) (λ q. takenOutPopup q m)) r (now (out .exit)) ⌝ }
+    ensures { λ r. ⌜ Lent r (now (work .entry)) (now (work .exit)) × Meets (takenOut (marksPart (split (now (sheet .entry)))) m) (carried (split (now (sheet .entry))) (λ q. takenOutPopup q m)) (has (split (now (sheet .entry))) 6) r (now (out .exit)) ⌝ }
 {
     changes::take_out(sheet, m, work, out)
 }
@@ -193,6 +196,18 @@ pub extern "C" fn rollmap_judge(sheet: &[u8]) -> Answer
         };
     }
     steps::refused(22)
+}
+
+// ---- counting
+
+// Writes a sheet with part 6, the counts of its own schedule, and answers its length: questions 1 to 9, with 19, 21 and 23, 10 where part 2 is
+// lacking, and 13. Its other parts stay as they are.
+#[no_mangle]
+pub extern "C" fn rollmap_count(sheet: &[u8], out: &mut [u8]) -> Answer
+    ensures { λ r. ⌜ Gives (countJob (now (sheet .entry)) (length (now (out .entry)))) (now (out .entry)) r (now (out .exit)) ⌝ }
+    ensures { λ r. ⌜ MeetsCounting (now (sheet .entry)) r (now (out .exit)) ⌝ }
+{
+    counts::count(sheet, out)
 }
 
 // ---- filling

@@ -30,6 +30,7 @@ pub fn check(s: &[u8]) -> u32
         contents::body(s, 2),
         contents::body(s, 3),
         contents::body(s, 4),
+        contents::body(s, 5),
     ];
     bodies::bodies_answer(&codes[..count], &lent[..count])
 }

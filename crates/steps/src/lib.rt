@@ -1,5 +1,6 @@
 // What the calls of the public library do in common: refusing, scheduling marks that are put together, and viewing.
 use contents::Layout;
+use counting::COUNTS_SIZE;
 use elimination::RECORD_SIZE;
 use index::INDEX_ENTRY_SIZE;
 use jobs::Answer;
@@ -11,8 +12,8 @@ use zoom::Zoom;
 ghost use mathlib.Core.Path.{_≡_};
 ghost use mathlib.Core.Bool.{true, cond, _&&_};
 ghost use mathlib.Core.List.{[], _∷_, _++_};
-ghost use Prim.Native.Nat.{_+_, _*_, _<_, _≤_};
-ghost use lib.Dec.{leb};
+ghost use Prim.Native.Nat.{_+_, _-_, _*_, _<_, _≤_};
+ghost use lib.Dec.{ltb, leb};
 ghost use lib.ListN.{length, take, drop};
 ghost use lib.Seq.{sets};
 ghost use Rattle.lists.specs.Stores.{over};
@@ -22,13 +23,14 @@ ghost use Rattle.marks.specs.Pairs.{GoodPopups};
 ghost use Rattle.scheduling.specs.Filling.{workSize};
 ghost use Rattle.scheduling.specs.Behind.{reelIn};
 ghost use Rattle.indexing.specs.Buffer.{indexEnd};
+ghost use Rattle.counting.specs.Counts.{countsOf};
 ghost use Rattle.contents.specs.Contents.{contentsSize, contentsOf, split};
 ghost use Rattle.contents.specs.Places.{layoutOf};
 ghost use Rattle.sheet.specs.Questions.{check, question10};
 ghost use Rattle.view.specs.Questions.{question20, question11};
 ghost use Rattle.jobs.specs.Jobs.{scheduledFrom, scheduledSize, schedulingJob, viewJob};
 ghost use Rattle.jobs.specs.Answers.{refusal, Gives, Lent};
-ghost use Rattle.jobs.specs.Steps.{keptFrom, PopupsLent, codesFrom, sizesFrom, resultsOver, viewAt};
+ghost use Rattle.jobs.specs.Steps.{keptFrom, PopupsLent, codesFrom, sizesFrom, bareFrom, resultsOver, viewAt};
 
 // What scheduling asks for, in bytes a mark and in bytes beside them: the work buffer, and the sheet of three parts with its contents, to which
 // parts that are kept add their own.
@@ -45,6 +47,9 @@ const EDITION_BYTES: usize = 11;
 
 // What part 5 takes of a sheet beside its rows: its entry in the contents.
 const POPUPS_BESIDE: usize = 10;
+
+// What part 6 takes of a sheet: its entry in the contents, and its counts.
+const COUNTS_BYTES: usize = 180;
 
 // A refusal counts and measures nothing.
 pub fn refused(number: u32) -> Answer
@@ -85,15 +90,24 @@ fn list_part(
     count
 }
 
-// Writes the contents of the scheduled sheet of n marks, by whether part 4 is kept, and part 5, and answers where the marks start.
-fn put_head(out: &mut [u8], n: usize, edition: bool, popups: bool) -> usize
-    requires { ⌜ (n ≤ 4096) × (contentsSize (length (codesFrom edition popups)) ≤ length (now out)) ⌝ }
-    ensures { λ r. ⌜ (r ≡ contentsSize (length (codesFrom edition popups))) × (now (out .exit) ≡ sets (now (out .entry)) 0 (contentsOf (codesFrom edition popups) (sizesFrom n edition popups))) ⌝ }
+// Writes the contents of a sheet of n marks with part 2, by which of parts 3 to 6 are there, and answers where the marks start.
+pub fn put_head(
+    out: &mut [u8],
+    n: usize,
+    index: bool,
+    edition: bool,
+    popups: bool,
+    counts: bool,
+) -> usize
+    requires { ⌜ (n ≤ 4096) × (contentsSize (length (codesFrom index edition popups counts)) ≤ length (now out)) ⌝ }
+    ensures { λ r. ⌜ (r ≡ contentsSize (length (codesFrom index edition popups counts))) × (now (out .exit) ≡ sets (now (out .entry)) 0 (contentsOf (codesFrom index edition popups counts) (sizesFrom n index edition popups counts))) ⌝ }
 {
-    let mut codes: [u16; 5] = [1, 2, 3, 0, 0];
-    let mut sizes = [MARK_SIZE * n, RECORD_SIZE * n, INDEX_ENTRY_SIZE * n, 0, 0];
-    let kept = list_part(&mut codes, &mut sizes, 3, edition, 4, 1);
-    let count = list_part(&mut codes, &mut sizes, kept, popups, 5, POPUP_SIZE * n);
+    let mut codes: [u16; 6] = [1, 2, 0, 0, 0, 0];
+    let mut sizes = [MARK_SIZE * n, RECORD_SIZE * n, 0, 0, 0, 0];
+    let third = list_part(&mut codes, &mut sizes, 2, index, 3, INDEX_ENTRY_SIZE * n);
+    let fourth = list_part(&mut codes, &mut sizes, third, edition, 4, 1);
+    let fifth = list_part(&mut codes, &mut sizes, fourth, popups, 5, POPUP_SIZE * n);
+    let count = list_part(&mut codes, &mut sizes, fifth, counts, 6, COUNTS_SIZE);
     contents::put_contents(out, &codes[..count], &sizes[..count])
 }
 
@@ -106,20 +120,25 @@ fn put_pieces(out: &mut [u8], at: usize, first: &[u8], second: &[u8]) -> usize
     contents::put(out, middle, second)
 }
 
-// How many bytes the scheduled sheet of n marks has, with the part 4 that is kept, of so many bytes, and part 5, where it is kept.
-fn scheduled_size(n: usize, edition: usize, popups: bool) -> usize
-    requires { ⌜ (n ≤ 4096) × (edition ≤ 1) ⌝ }
-    ensures { λ r. ⌜ r ≡ 27 * n + 32 + (11 * edition + cond popups (10 + 4 * n) 0) ⌝ }
+// The size of a part that may not be there.
+fn size_if(there: bool, size: usize) -> usize
+    ensures { λ r. ⌜ (r ≡ cond there size 0) × (r ≤ size) ⌝ }
 {
-    let most = SHEET_EACH * n + SHEET_BESIDE + EDITION_BYTES * edition;
-    if popups {
-        return most + POPUPS_BESIDE + POPUP_SIZE * n;
-    }
-    most
+    if there { size } else { 0 }
 }
 
-// Writes the scheduled sheet of n marks, those of `head` and then those of `tail`, of the part 4 that is kept, and of part 5, where it is there:
-// the popups of `popups` and then those of `last`. All is put together in `out` and scheduled there.
+// How many bytes the scheduled sheet of n marks has, with the part 4 that is kept, of so many bytes, part 5, where it is kept, and part 6, where
+// it is counted.
+fn scheduled_size(n: usize, edition: usize, popups: bool, counted: bool) -> usize
+    requires { ⌜ (n ≤ 4096) × (edition ≤ 1) ⌝ }
+    ensures { λ r. ⌜ r ≡ 27 * n + 32 + (11 * edition + cond popups (10 + 4 * n) 0) + cond counted 180 0 ⌝ }
+{
+    let kept = EDITION_BYTES * edition + size_if(popups, POPUPS_BESIDE + POPUP_SIZE * n);
+    SHEET_EACH * n + SHEET_BESIDE + kept + size_if(counted, COUNTS_BYTES)
+}
+
+// Writes the scheduled sheet of n marks up to part 6, those of `head` and then those of `tail`, of the part 4 that is kept, and of part 5, where
+// it is there: the popups of `popups` and then those of `last`. All is put together in `out` and scheduled there. Answers where the marks start.
 fn put_scheduled(
     head: &[u8],
     tail: &[u8],
@@ -127,15 +146,16 @@ fn put_scheduled(
     there: bool,
     popups: &[u8],
     last: &[u8],
+    counted: bool,
     work: &mut [u8],
     out: &mut [u8],
     n: usize,
-)
+) -> usize
     requires { ⌜ GoodMarks (now head ++ now tail) n × (length (now head ++ now tail) ≡ markSize * n) × (length (now edition) ≤ 1) × PopupsLent there (now popups ++ now last) n ⌝ }
-    requires { ⌜ (workSize n ≤ length (now work)) × (scheduledSize n (keptFrom (now edition) there (now popups ++ now last)) ≤ length (now out)) ⌝ }
-    ensures { λ _. ⌜ now (out .exit) ≡ over (scheduledFrom (now (head .entry) ++ now (tail .entry)) (keptFrom (now (edition .entry)) there (now (popups .entry) ++ now (last .entry)))) (now (out .entry)) ⌝ }
+    requires { ⌜ (workSize n ≤ length (now work)) × (scheduledSize n (keptFrom (now edition) there (now popups ++ now last)) counted ≤ length (now out)) ⌝ }
+    ensures { λ r. ⌜ (r ≡ contentsSize (length (codesFrom true (ltb 0 (length (now (edition .entry)))) there counted))) × (now (out .exit) ≡ over (bareFrom (now (head .entry) ++ now (tail .entry)) (keptFrom (now (edition .entry)) there (now (popups .entry) ++ now (last .entry))) counted) (now (out .entry))) ⌝ }
 {
-    let start = put_head(out, n, 0 < edition.len(), there);
+    let start = put_head(out, n, true, 0 < edition.len(), there, counted);
     put_pieces(out, start, head, tail);
     let from = contents::put(out, start + SHEET_EACH * n, edition);
     let end = put_pieces(out, from, popups, last);
@@ -146,19 +166,68 @@ fn put_scheduled(
         work,
         n,
     );
+    start
 }
 
-// 13. Are the work buffer and the written one long enough for n marks, for the part 4 that is kept, of so many bytes, and for part 5, where it is
-// there?
-fn has_room(n: usize, edition: usize, there: bool, work: usize, out: usize) -> bool
-    requires { ⌜ (n ≤ 4096) × (edition ≤ 1) ⌝ }
-    ensures { λ r. ⌜ r ≡ (leb (workSize n) work && leb (27 * n + 32 + (11 * edition + cond there (10 + 4 * n) 0)) out) ⌝ }
+// Writes the counts of n marks to `end`: those of the marks at `start`, of the schedule behind them, and of the popups from `from` to `end`.
+fn put_counts(out: &mut [u8], start: usize, from: usize, end: usize, n: usize)
+    requires { ⌜ (n ≤ 4096) × (start + 25 * n ≤ from) × (from ≤ end) × (end + 170 ≤ length (now out)) × GoodPopups (take (end - from) (drop from (now out))) n ⌝ }
+    ensures { λ _. ⌜ now (out .exit) ≡ sets (now (out .entry)) end (countsOf (take (11 * n) (drop start (now (out .entry)))) (take (14 * n) (drop (start + 11 * n) (now (out .entry)))) (take (end - from) (drop from (now (out .entry)))) n) ⌝ }
 {
-    WORK_EACH * n + WORK_BESIDE <= work && scheduled_size(n, edition, there) <= out
+    let middle = start + MARK_SIZE * n;
+    let last = middle + RECORD_SIZE * n;
+    let counts = counting::counts_of(&out[start..middle], &out[middle..last], &out[from..end], n);
+    contents::put(out, end, &counts);
 }
 
-// What is left of a job that schedules n marks, those of `head` and then those of `tail`, and keeps part 4 and, where it is there, part 5, with
-// the popups of `popups` and then those of `last`, once its other questions are answered with yes: 13, and then the sheet and its length.
+// The same with part 6, where it is counted: the whole sheet.
+fn put_sheet(
+    head: &[u8],
+    tail: &[u8],
+    edition: &[u8],
+    there: bool,
+    popups: &[u8],
+    last: &[u8],
+    counted: bool,
+    work: &mut [u8],
+    out: &mut [u8],
+    n: usize,
+)
+    requires { ⌜ GoodMarks (now head ++ now tail) n × (length (now head ++ now tail) ≡ markSize * n) × (length (now edition) ≤ 1) × PopupsLent there (now popups ++ now last) n ⌝ }
+    requires { ⌜ (workSize n ≤ length (now work)) × (scheduledSize n (keptFrom (now edition) there (now popups ++ now last)) counted ≤ length (now out)) ⌝ }
+    ensures { λ _. ⌜ now (out .exit) ≡ over (scheduledFrom (now (head .entry) ++ now (tail .entry)) (keptFrom (now (edition .entry)) there (now (popups .entry) ++ now (last .entry))) counted) (now (out .entry)) ⌝ }
+{
+    let start = put_scheduled(
+        head,
+        tail,
+        edition,
+        there,
+        popups,
+        last,
+        counted,
+        work,
+        out,
+        n,
+    );
+    if !counted {
+        return;
+    }
+    let from = start + SHEET_EACH * n + edition.len();
+    put_counts(out, start, from, from + popups.len() + last.len(), n);
+}
+
+// 13. Are the work buffer and the written one long enough for n marks, for the part 4 that is kept, of so many bytes, for part 5, where it is
+// there, and for part 6, where it is counted?
+fn has_room(n: usize, edition: usize, there: bool, counted: bool, work: usize, out: usize) -> bool
+    requires { ⌜ (n ≤ 4096) × (edition ≤ 1) ⌝ }
+    ensures { λ r. ⌜ r ≡ (leb (workSize n) work && leb (27 * n + 32 + (11 * edition + cond there (10 + 4 * n) 0) + cond counted 180 0) out) ⌝ }
+{
+    WORK_EACH * n + WORK_BESIDE <= work && scheduled_size(n, edition, there, counted) <= out
+}
+
+// What is left of a job that schedules n marks, those of `head` and then those of `tail`, keeps part 4 and, where it is there, part 5, with the
+// popups of `popups` and then those of `last`, and renews part 6, where it is counted, once its other questions are answered with yes: 13, and
+// then the sheet and its length.
 pub fn schedule_marks(
     head: &[u8],
     tail: &[u8],
@@ -166,21 +235,33 @@ pub fn schedule_marks(
     there: bool,
     popups: &[u8],
     last: &[u8],
+    counted: bool,
     work: &mut [u8],
     out: &mut [u8],
     n: usize,
 ) -> Answer
     requires { ⌜ GoodMarks (now head ++ now tail) n × (length (now head ++ now tail) ≡ markSize * n) × (length (now edition) ≤ 1) × PopupsLent there (now popups ++ now last) n ⌝ }
-    ensures { λ r. ⌜ Gives (schedulingJob [] (now (head .entry) ++ now (tail .entry)) (keptFrom (now (edition .entry)) there (now (popups .entry) ++ now (last .entry))) (length (now (work .entry))) (length (now (out .entry)))) (now (out .entry)) r (now (out .exit)) ⌝ }
+    ensures { λ r. ⌜ Gives (schedulingJob [] (now (head .entry) ++ now (tail .entry)) (keptFrom (now (edition .entry)) there (now (popups .entry) ++ now (last .entry))) counted (length (now (work .entry))) (length (now (out .entry)))) (now (out .entry)) r (now (out .exit)) ⌝ }
     ensures { λ r. ⌜ Lent r (now (work .entry)) (now (work .exit)) ⌝ }
 {
-    if !has_room(n, edition.len(), there, work.len(), out.len()) {
+    if !has_room(n, edition.len(), there, counted, work.len(), out.len()) {
         return refused(13);
     }
-    put_scheduled(head, tail, edition, there, popups, last, work, out, n);
+    put_sheet(
+        head,
+        tail,
+        edition,
+        there,
+        popups,
+        last,
+        counted,
+        work,
+        out,
+        n,
+    );
     Answer {
         number: 0,
-        value: scheduled_size(n, edition.len(), there) as u32,
+        value: scheduled_size(n, edition.len(), there, counted) as u32,
     }
 }
 

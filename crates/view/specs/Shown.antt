@@ -1,4 +1,4 @@
--- 02, requests 1, 8 and 9: whose disk reaches the rectangle, who lives, and who is shown. `s` is part 1 of a sheet, `p` part 2 and `q` part 5,
+-- 02, requests 1, 8 and 9: whose disk reaches the rectangle, and who is shown. `s` is part 1 of a sheet, `p` part 2 and `q` part 5,
 -- empty where it is not there.
 use Prim.Native.Nat.{ℕ, _+_, _*_, _≤_}
 use mathlib.Core.Path.{_≡_}
@@ -7,11 +7,9 @@ use mathlib.Core.List.{List}
 use lib.Dec.{leb}
 use lib.IntN.{ℤ, pos, negsuc, _-ℤ_}
 use lib.Signed.{leZ}
-use Rattle.fractions.specs.declared.Value.{Value}
-use Rattle.zoom.specs.Living.{livesAt}
 use Rattle.marks.specs.Marks.{xAt, yAt, usedAt, apart, distance}
-use Rattle.marks.specs.Pairs.{popupAt}
 use Rattle.elimination.specs.Records.{valueAt}
+use Rattle.counting.specs.Lives.{lives}
 use Rattle.turns.specs.declared.Place.{Place}
 use Rattle.turns.specs.Turns.{turnedPlace}
 use Rattle.view.specs.declared.Window.{Window}
@@ -62,14 +60,6 @@ pub record CommonPlace (s : List ℕ) (k : ℕ) (w : Window) (m : ℕ) : Type 0 
   pub from-y0 : leZ (w .y0) y ≡ true
   pub to-y1 : leZ y (w .y1) ≡ true
   pub near : (let q = turnedPlace (w .turn) (placeAt s m) in 4096 * distance (apart (q .x) x) (apart (q .y) y) ≤ k * k * (usedAt s m * usedAt s m))
-
--- "it isn't there while 64z is below k"; without part 5 each k is 0
-unfoldable pub poppedUp : List ℕ → ℕ → ℕ → Bool
-poppedUp q k m = leb (popupAt q m) k
-
--- "Living also needs z² at least the mark's own popup value." `v` is its removal value.
-unfoldable pub lives : Value → List ℕ → ℕ → ℕ → Bool
-lives v q k m = livesAt k v && poppedUp q k m
 
 -- "a mark is shown if it lives and its disk at z reaches the rectangle"; 01: "The view uses the schedule as the sheet has it."
 unfoldable pub shown : List ℕ → List ℕ → List ℕ → ℕ → Window → ℕ → Bool

@@ -13,7 +13,7 @@ use Rattle.turns.specs.Turns.{turnedPlace}
 use Rattle.view.specs.declared.Bounds.{Bounds}
 use Rattle.view.specs.declared.Corner.{Corner}
 use Rattle.view.specs.declared.Window.{Window}
-use Rattle.view.specs.Shown.{poppedUp}
+use Rattle.counting.specs.Lives.{poppedUp}
 
 -- ---- the window turned back
 

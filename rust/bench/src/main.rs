@@ -15,8 +15,8 @@ use oracle::sample::{marks, popups, Popups, Shape};
 use oracle::sheet::{join, join_parts};
 use oracle::view::{Edges, Window};
 use rollmap::{
-    map_bytes, scheduled_bytes, work_bytes, Refusal, Turn, View, Work, Zoom, FARTHEST_EDGE,
-    NO_POPUP,
+    map_bytes, scheduled_bytes, work_bytes, Refusal, Turn, View, Work, Zoom, COUNTED_BYTES,
+    FARTHEST_EDGE, NO_POPUP,
 };
 
 use plain::schedule::Desk;
@@ -109,6 +109,8 @@ fn main() {
     judging_popups();
     checking();
     checking_popups();
+    checking_counts();
+    counting();
     viewing();
     viewing_popups();
     walking();
@@ -586,7 +588,7 @@ fn checking() {
     }
 }
 
-/// The least times of checking a sheet and another one with popups: proved of both, and
+/// The least times of checking a sheet and another one with a part more: proved of both, and
 /// plain of the second.
 fn time_checking_two(without: &[u8], with: &[u8]) -> [Micros; 3] {
     let accepted = [without, with].map(|sheet| rollmap::check(sheet).is_ok());
@@ -628,6 +630,92 @@ fn checking_popups() {
                 with.over(without),
                 plain.0,
                 with.over(plain),
+            );
+        }
+    }
+}
+
+/// The scheduled sheets of a sample that are counted: without popups, and with popups of each
+/// kind that checking is timed with; by the words for these.
+fn sheets_to_count(shape: Shape) -> Vec<(&'static str, Vec<u8>)> {
+    let popping_up = POPPING_UP.map(|(popups, how)| (popups, scheduled_popping_up(how, shape)));
+    let mut sheets = vec![("none", scheduled(shape, MOST))];
+    sheets.extend(popping_up);
+    sheets
+}
+
+fn checking_counts() {
+    table(
+        "Checking a scheduled sheet of 4,096 marks with counts, against the same without",
+        &[
+            "data",
+            "popups",
+            "proved without, µs",
+            "proved with, µs",
+            "ratio",
+            "plain Rust with, µs",
+            "ratio",
+        ],
+    );
+    for (name, shape) in [("uniform", Shape::Uniform), ("clustered", Shape::Clustered)] {
+        for (popups, sheet) in sheets_to_count(shape) {
+            let counted = rollmap::count_to_vec(&sheet).expect("it has a schedule");
+            let [without, with, plain] = time_checking_two(&sheet, &counted);
+            println!(
+                "| {name} | {popups} | {:.1} | {:.1} | {:.2} | {:.1} | {:.2} |",
+                without.0,
+                with.0,
+                with.over(without),
+                plain.0,
+                with.over(plain),
+            );
+        }
+    }
+}
+
+/// The least times of counting a sheet: proved, plain, and of the proved check alone. Both
+/// are seen to write the same bytes.
+fn time_counting(sheet: &[u8]) -> [Micros; 3] {
+    let mut outs = [(); 2].map(|()| vec![0; sheet.len() + COUNTED_BYTES]);
+    let [ours, theirs] = &mut outs;
+    let times = race(
+        QUICK_ROUNDS,
+        1,
+        [
+            &mut || _ = black_box(rollmap::count(black_box(sheet), black_box(ours))),
+            &mut || _ = black_box(plain::count::count(black_box(sheet), black_box(theirs))),
+            &mut || _ = black_box(rollmap::check(black_box(sheet))),
+        ],
+    );
+    assert!(
+        ours == theirs && ours.len() > sheet.len(),
+        "both write the same bytes"
+    );
+    assert!(rollmap::counts(ours).is_some());
+    times
+}
+
+fn counting() {
+    table(
+        "Counting 4,096 marks; both check the sheet in each call",
+        &[
+            "data",
+            "popups",
+            "proved, µs",
+            "plain Rust, µs",
+            "ratio",
+            "times the check alone",
+        ],
+    );
+    for (name, shape) in [("uniform", Shape::Uniform), ("clustered", Shape::Clustered)] {
+        for (popups, sheet) in sheets_to_count(shape) {
+            let [ours, theirs, check] = time_counting(&sheet);
+            println!(
+                "| {name} | {popups} | {:.1} | {:.1} | {:.2} | {:.2} |",
+                ours.0,
+                theirs.0,
+                ours.over(theirs),
+                ours.over(check),
             );
         }
     }

@@ -1,5 +1,5 @@
 //! Contents and bodies of a sheet, and questions 1 to 3 (01, 'The sheet:
-//! contents, then bodies'; 02, requests 6 and 9). A part goes by its code, and not by
+//! contents, then bodies'; 02, requests 6, 9 and 12). A part goes by its code, and not by
 //! where it stands.
 
 use crate::bytes::{field, put};
@@ -17,7 +17,7 @@ const OFFSET_AT: usize = 2;
 const LENGTH_AT: usize = 6;
 
 /// The most parts a sheet has: one of each code.
-pub const MOST_PARTS: usize = 5;
+pub const MOST_PARTS: usize = 6;
 
 /// The code and the body of a part.
 pub type Part<'a> = (u16, &'a [u8]);
@@ -88,10 +88,11 @@ impl<'a> Bodies<'a> {
             .collect()
     }
 
-    /// The parts beyond 3, which no schedule replaces.
-    pub fn beyond_3(&self) -> Vec<Part<'a>> {
+    /// The parts that decide the schedule beside part 1: those beyond 3 but part 6, which
+    /// comes of it. Scheduling keeps them, and turned marks are put together with them.
+    pub fn carried(&self) -> Vec<Part<'a>> {
         let mut parts = self.present();
-        parts.retain(|&(code, _)| code > 3);
+        parts.retain(|&(code, _)| code > 3 && code != 6);
         parts
     }
 }
@@ -112,7 +113,7 @@ pub fn split(sheet: &[u8]) -> Result<Bodies<'_>, Refusal> {
 }
 
 /// Question 1: the entries, if there are the 2 bytes of the number of parts, 1 to
-/// 5 parts, and the whole contents.
+/// 6 parts, and the whole contents.
 #[inline]
 fn entries(sheet: &[u8]) -> Option<&[[u8; ENTRY_BYTES]]> {
     let (count, rest) = sheet.split_first_chunk()?;
@@ -129,8 +130,8 @@ pub(crate) fn count_fits(parts: usize) -> bool {
     (1..=MOST_PARTS).contains(&parts)
 }
 
-/// Question 2: "codes rising within 1 to" 5, "part 1 present and part 3 only with part
-/// 2".
+/// Question 2: "codes rising within 1 to" 6, "part 1 present and part 3 only with part
+/// 2"; "code 6, only with part 2".
 #[inline]
 pub(crate) fn codes_fit(codes: impl Iterator<Item = u16> + Clone) -> bool {
     let holds = |wanted| codes.clone().any(|code| code == wanted);
@@ -138,7 +139,7 @@ pub(crate) fn codes_fit(codes: impl Iterator<Item = u16> + Clone) -> bool {
     codes.clone().is_sorted_by(|a, b| a < b)
         && codes.clone().all(within)
         && holds(1)
-        && (holds(2) || !holds(3))
+        && (holds(2) || !holds(3) && !holds(6))
 }
 
 /// Question 3: the bodies, if the first starts right after the contents, each next
@@ -171,7 +172,7 @@ pub(crate) fn extent(sheet: &[u8], code: u32) -> Option<(u32, u32)> {
 ///
 /// # Panics
 ///
-/// Where a body's end has no 4-byte number, which questions 4, 7, 19 and 21 exclude, and
+/// Where a body's end has no 4-byte number, which questions 4, 7, 19, 21 and 23 exclude, and
 /// where the buffer is short.
 #[inline]
 pub fn write_contents(parts: &[(u16, usize)], out: &mut [u8]) {
@@ -234,12 +235,13 @@ mod tests {
 
     #[test]
     fn splitting_gives_the_joined_bodies_back() {
-        let all: [Part; 5] = [
+        let all: [Part; 6] = [
             (1, &[1, 2, 3, 4]),
             (2, &[]),
             (3, &[5; 300]),
             (4, &[6]),
             (5, &[7; 9]),
+            (6, &[8; 170]),
         ];
         for codes in CODES_TAKEN {
             let of_codes = |(code, _): &Part| codes.contains(code);
@@ -248,28 +250,33 @@ mod tests {
             let bodies = split(&sheet).unwrap();
             assert_eq!(bodies.present(), parts);
             assert_eq!(bodies, Bodies::of(&parts));
-            let beyond = parts.iter().filter(|(code, _)| [4, 5].contains(code));
-            assert!(bodies.beyond_3().iter().eq(beyond));
+            let carried = parts.iter().filter(|(code, _)| [4, 5].contains(code));
+            assert!(bodies.carried().iter().eq(carried));
         }
     }
 
     #[test]
     fn a_body_is_found_by_its_code() {
-        let sheet = join_parts(&[(1, &[7]), (4, &[]), (5, &[8, 9])]);
+        let sheet = join_parts(&[(1, &[7]), (2, &[]), (5, &[8, 9]), (6, &[1])]);
         let bodies = split(&sheet).unwrap();
-        let found = [0, 1, 2, 3, 4, 5, 6].map(|code| bodies.get(code));
-        let [marks, popups] = [&[7][..], &[8, 9]].map(Some);
-        assert_eq!(found, [None, marks, None, None, Some(&[]), popups, None]);
+        let found = [0, 1, 2, 3, 4, 5, 6, 7].map(|code| bodies.get(code));
+        let [marks, popups, counts] = [&[7][..], &[8, 9], &[1]].map(Some);
+        let [none, empty] = [None, Some(&[][..])];
+        assert_eq!(
+            found,
+            [none, marks, empty, none, none, popups, counts, none]
+        );
         assert_eq!(bodies.part_1(), [7]);
-        assert_eq!(extent(&sheet, 4), Some((33, 0)));
-        assert_eq!(extent(&sheet, 5), Some((33, 2)));
-        assert_eq!(extent(&sheet, 2), None);
+        assert_eq!(extent(&sheet, 2), Some((43, 0)));
+        assert_eq!(extent(&sheet, 5), Some((43, 2)));
+        assert_eq!(extent(&sheet, 6), Some((45, 1)));
+        assert_eq!(extent(&sheet, 4), None);
     }
 
     #[test]
-    fn only_twelve_lists_of_codes_are_taken() {
-        for length in 0..=6 {
-            each_list(&[0, 1, 2, 3, 4, 5, 6], length, &mut |codes| {
+    fn only_twenty_lists_of_codes_are_taken() {
+        for length in 0..=7 {
+            each_list(&[0, 1, 2, 3, 4, 5, 6, 7], length, &mut |codes| {
                 let taken = count_fits(codes.len()) && codes_fit(codes.iter().copied());
                 assert_eq!(taken, CODES_TAKEN.contains(&codes), "{codes:?}");
             });

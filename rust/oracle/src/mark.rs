@@ -109,6 +109,15 @@ pub enum Group {
 }
 
 impl Group {
+    /// The groups in the order of their kinds.
+    pub const ALL: [Self; 5] = [
+        Self::Note,
+        Self::Spot,
+        Self::Streak,
+        Self::Patch,
+        Self::Break,
+    ];
+
     /// The group of a kind, none for a kind that does not exist.
     #[inline]
     pub fn of(kind: u8) -> Option<Self> {

@@ -4,6 +4,7 @@
 //! judged; sheets that are refused; the schedules that question 8 takes; and what a test
 //! tries whole.
 
+use crate::count::part_6;
 use crate::fraction::Fraction;
 use crate::mark::{touching_value, write_marks, Mark, LARGEST_RADIUS};
 use crate::popup::{write_popups, LARGEST_POPUP};
@@ -452,8 +453,8 @@ pub const JUDGED_EXAMPLES: [JudgedExample; 26] = [
     .with_popups(&[0, 480, 0]),
 ];
 
-/// The lists of codes that question 2 takes (01, and 02, requests 6 and 9).
-pub const CODES_TAKEN: [&[u16]; 12] = [
+/// The lists of codes that question 2 takes (01, and 02, requests 6, 9 and 12).
+pub const CODES_TAKEN: [&[u16]; 20] = [
     &[1],
     &[1, 2],
     &[1, 4],
@@ -461,11 +462,19 @@ pub const CODES_TAKEN: [&[u16]; 12] = [
     &[1, 2, 3],
     &[1, 2, 4],
     &[1, 2, 5],
+    &[1, 2, 6],
     &[1, 4, 5],
     &[1, 2, 3, 4],
     &[1, 2, 3, 5],
+    &[1, 2, 3, 6],
     &[1, 2, 4, 5],
+    &[1, 2, 4, 6],
+    &[1, 2, 5, 6],
     &[1, 2, 3, 4, 5],
+    &[1, 2, 3, 4, 6],
+    &[1, 2, 3, 5, 6],
+    &[1, 2, 4, 5, 6],
+    &[1, 2, 3, 4, 5, 6],
 ];
 
 /// A small generator of numbers (shifts and exclusive ors of one 64-bit word).
@@ -651,21 +660,27 @@ pub fn raw_sheet(entries: &[(u16, u32, u32)], body: &[u8]) -> Vec<u8> {
     sheet
 }
 
-/// Sheets that questions 1 to 10, 19 and 21 refuse, each with the number of the first that
-/// does. The next one in turn would refuse it, too; but a sheet that 9 is asked of has the
-/// parts that 10 asks for, so that 8 stands once before either.
+/// Sheets that questions 1 to 10, 19, 21 and 23 refuse, each with the number of the first
+/// that does. The next one in turn would refuse it, too; but a sheet that 9 is asked of has
+/// the parts that 10 asks for, so that 8 and 23 stand with and without part 3.
 pub fn refused_sheets() -> Vec<(Refusal, Vec<u8>)> {
     let large = Mark::plain(0, 0, LARGEST_RADIUS + 1, 0);
     let both = write_marks(&[Mark { kind: 200, ..large }]);
     let longer = [both.as_slice(), &[0]].concat();
-    let part_1 = write_marks(&P1);
-    let part_2 = write_records(&schedule_by_process(Edition::First.reel(&P1)));
+    let reel = Edition::First.reel(&P1);
+    let records = schedule_by_process(reel);
+    let (part_1, part_2) = (write_marks(&P1), write_records(&records));
     let (no_records, no_tree) = (vec![0; part_2.len()], [0; 8]);
     let part_5 = write_popups(&[0; 4]);
     let beyond = write_popups(&[0, LARGEST_POPUP, LARGEST_POPUP + 1, 0]);
+    let part_6 = part_6(reel, &records);
+    let mut other = part_6.clone();
+    other[169] = 1;
+    let index = [0, 0, 1, 0, 3, 0, 2, 0];
     vec![
         (1, raw_sheet(&[(9, 0, 0); 8], &[])),
         (2, raw_sheet(&[(2, 0, 5)], &[])),
+        (2, raw_sheet(&[(1, 22, 5), (6, 0, 5)], &[])),
         (3, raw_sheet(&[(1, 12, 12)], &[0; 13])),
         (4, join(&[&longer])),
         (5, join(&[&both])),
@@ -691,13 +706,31 @@ pub fn refused_sheets() -> Vec<(Refusal, Vec<u8>)> {
         (21, join_parts(&[(1, &[]), (5, &part_5)])),
         (8, join(&[&part_1, &no_records, &no_tree, &[2], &part_5])),
         (8, join(&[&part_1, &no_records, &no_tree, &[2]])),
+        (8, join_parts(&[(1, &part_1), (2, &no_records), (6, &[])])),
         (8, join(&[&part_1, &no_records, &no_tree])),
         (8, join(&[&part_1, &no_records])),
         (9, join(&[&part_1, &part_2, &no_tree])),
         (9, join(&[&part_1, &part_2, &no_tree, &[1], &part_5])),
+        (
+            9,
+            join(&[&part_1, &part_2, &no_tree, &[1], &part_5, &other]),
+        ),
+        (
+            9,
+            join_parts(&[(1, &part_1), (2, &part_2), (3, &no_tree), (6, &[])]),
+        ),
+        (23, join(&[&part_1, &part_2, &index, &[1], &part_5, &other])),
+        (23, join(&[&part_1, &part_2, &index, &[1], &part_5, &[]])),
+        (23, join_parts(&[(1, &part_1), (2, &part_2), (6, &other)])),
+        (
+            23,
+            join_parts(&[(1, &part_1), (2, &part_2), (6, &part_6[1..])]),
+        ),
+        (23, join_parts(&[(1, &[]), (2, &[]), (6, &part_6)])),
         (10, join(&[&part_1, &part_2])),
         (10, join_parts(&[(1, &part_1), (2, &part_2), (4, &[1])])),
         (10, join_parts(&[(1, &part_1), (2, &part_2), (5, &part_5)])),
+        (10, join_parts(&[(1, &part_1), (2, &part_2), (6, &part_6)])),
         (10, join(&[&part_1])),
         (10, join_parts(&[(1, &part_1), (4, &[2])])),
         (10, join_parts(&[(1, &part_1), (5, &part_5)])),

@@ -1,12 +1,13 @@
-//! The whole sheet: questions 4 to 9, 19 and 21, and three of the five jobs, checking,
+//! The whole sheet: questions 4 to 9, 19, 21 and 23, and three of the five jobs, checking,
 //! scheduling and putting together (01, 'The sheet: contents, then bodies' and
-//! 'Questions put in turn'; 02, requests 6 and 9).
+//! 'Questions put in turn'; 02, requests 6, 9 and 12).
 
 pub use crate::contents::{join, join_parts, split};
 
 use crate::contents::{codes_fit, count_fits, extent, Bodies, Part, ENTRY_BYTES};
+use crate::count::{self, part_6};
 use crate::fraction::Fraction;
-use crate::mark::{Group, Mark, LARGEST_RADIUS, MARK_BYTES, MOST_MARKS};
+use crate::mark::{write_marks, Group, Mark, LARGEST_RADIUS, MARK_BYTES, MOST_MARKS};
 use crate::popup::{popup_fits, read_popup, read_popups, POPUP_BYTES};
 use crate::process::schedule_by_sorted_pairs;
 use crate::rank::{Edition, RankKey};
@@ -20,16 +21,15 @@ pub const fn work_bytes(n: usize) -> usize {
     32 * n + 1_024
 }
 
-/// Bytes of the sheet that scheduling n marks writes, where no part beyond 3 is kept.
+/// Bytes of the sheet that scheduling n marks writes, where it has no part beyond 3.
 pub const fn scheduled_bytes(n: usize) -> usize {
     32 + 27 * n
 }
 
-/// Bytes that the parts which scheduling keeps add to the sheet: an entry in the
-/// contents each, and the bodies.
-pub fn kept_bytes(bodies: &Bodies) -> usize {
+/// Bytes that parts add to a sheet: an entry in the contents each, and the bodies.
+pub fn added_bytes(parts: &[Part]) -> usize {
     let bytes = |(_, body): &Part| ENTRY_BYTES + body.len();
-    bodies.beyond_3().iter().map(bytes).sum()
+    parts.iter().map(bytes).sum()
 }
 
 /// The lengths of parts 1, 2 and 3 of n marks.
@@ -39,7 +39,7 @@ pub const fn part_lengths(n: usize) -> [usize; 3] {
 
 /// The parts of a sheet that questions 1 to 7, 19 and 21 take, row by row as they stand in
 /// the caller's bytes: as many records, numbers of the index and popups as marks, where
-/// they are there; and the edition, where part 4 names one.
+/// they are there; the edition, where part 4 names one; and part 6 as it is.
 #[derive(Clone, Copy, Debug)]
 pub struct Rows<'a> {
     pub marks: &'a [[u8; MARK_BYTES]],
@@ -47,6 +47,7 @@ pub struct Rows<'a> {
     pub index: Option<&'a [[u8; INDEX_BYTES]]>,
     pub named: Option<Edition>,
     pub popups: Option<&'a [[u8; POPUP_BYTES]]>,
+    pub counts: Option<&'a [u8]>,
 }
 
 impl<'a> Rows<'a> {
@@ -63,6 +64,7 @@ impl<'a> Rows<'a> {
             index: bodies.get(3).map(|body| body.as_chunks().0),
             named,
             popups,
+            counts: bodies.get(6),
         })
     }
 
@@ -187,6 +189,9 @@ fn open_bodies(bodies: Bodies<'_>) -> Result<Opened<'_>, Refusal> {
     if let (Some(records), Some(tree)) = (&opened.records, &opened.tree) {
         ask(9, *tree == tree::build(&opened.marks, records))?;
     }
+    if let (Some(records), Some(counts)) = (&opened.records, bodies.get(6)) {
+        ask(23, counts == part_6(opened.reel(), records))?;
+    }
     Ok(opened)
 }
 
@@ -260,20 +265,37 @@ pub fn assemble(codes: &[u16], bodies: &[&[u8]], out_length: usize) -> Result<Ve
 /// work buffer and the buffer written to.
 pub fn schedule(sheet: &[u8], work_length: usize, out_length: usize) -> Result<Vec<u8>, Refusal> {
     let opened = open(sheet)?;
-    let n = opened.marks.len();
-    let written = scheduled_bytes(n) + kept_bytes(&opened.bodies);
-    ask(13, work_length >= work_bytes(n) && out_length >= written)?;
-    Ok(scheduled(&opened))
+    let (carried, counted) = (opened.bodies.carried(), opened.bodies.get(6).is_some());
+    schedule_reel(opened.reel(), &carried, counted, work_length, out_length)
 }
 
-/// The sheet that scheduling writes: the marks unchanged, the schedule, its index, and
-/// the parts that are kept.
-fn scheduled(opened: &Opened) -> Vec<u8> {
-    let records = schedule_by_sorted_pairs(opened.reel());
-    let part_2 = write_records(&records);
-    let part_3 = write_tree(&tree::build(&opened.marks, &records));
-    let mut parts: Vec<Part> = vec![(1, opened.bodies.part_1()), (2, &part_2), (3, &part_3)];
-    parts.extend(opened.bodies.beyond_3());
+/// Schedules the marks of a reel with the parts that are carried along, and counts them by
+/// their new schedule where the sheet was `counted`. Asks 13 of both buffers.
+pub(crate) fn schedule_reel(
+    reel: Reel,
+    carried: &[Part],
+    counted: bool,
+    work_length: usize,
+    out_length: usize,
+) -> Result<Vec<u8>, Refusal> {
+    let n = reel.marks.len();
+    let counts = if counted { count::ADDED_BYTES } else { 0 };
+    let written = scheduled_bytes(n) + added_bytes(carried) + counts;
+    ask(13, work_length >= work_bytes(n) && out_length >= written)?;
+    Ok(scheduled(reel, carried, counted))
+}
+
+/// The sheet that scheduling writes: the marks unchanged, the schedule, its index, the
+/// parts that are carried along, and the counts, where the sheet was `counted`.
+fn scheduled(reel: Reel, carried: &[Part], counted: bool) -> Vec<u8> {
+    let records = schedule_by_sorted_pairs(reel);
+    let (part_1, part_2) = (write_marks(reel.marks), write_records(&records));
+    let part_3 = write_tree(&tree::build(reel.marks, &records));
+    let part_6 = counted.then(|| part_6(reel, &records));
+    let mut parts: Vec<Part> = vec![(1, &part_1), (2, &part_2), (3, &part_3)];
+    parts.extend(carried);
+    parts.extend(part_6.as_ref().map(|part_6| (6, part_6.as_slice())));
+    parts.sort_unstable_by_key(|&(code, _)| code);
     join_parts(&parts)
 }
 
@@ -291,12 +313,12 @@ mod tests {
     }
 
     #[test]
-    fn part_4_adds_11_bytes_and_part_5_10_and_4_a_mark() {
-        let kept = |parts: &[Part]| kept_bytes(&Bodies::of(parts));
-        assert_eq!(kept(&[(1, &[0; 22]), (2, &[])]), 0);
-        assert_eq!(kept(&[(1, &[]), (4, &[2])]), 11);
-        assert_eq!(kept(&[(1, &[]), (5, &[])]), 10);
-        assert_eq!(kept(&[(1, &[0; 22]), (5, &[0; 8])]), 10 + 4 * 2);
-        assert_eq!(kept(&[(1, &[0; 22]), (4, &[1]), (5, &[0; 8])]), 29);
+    fn part_4_adds_11_bytes_part_5_10_and_4_a_mark_and_part_6_180() {
+        assert_eq!(added_bytes(&[]), 0);
+        assert_eq!(added_bytes(&[(4, &[2])]), 11);
+        assert_eq!(added_bytes(&[(5, &[])]), 10);
+        assert_eq!(added_bytes(&[(5, &[0; 8])]), 10 + 4 * 2);
+        assert_eq!(added_bytes(&[(4, &[1]), (5, &[0; 8])]), 29);
+        assert_eq!(added_bytes(&[(6, &[0; 170])]), count::ADDED_BYTES);
     }
 }

@@ -15,7 +15,7 @@ pub enum Zoom {
 }
 
 /// The last stop.
-const LAST_STOP: u8 = 16;
+pub const LAST_STOP: u8 = 16;
 
 /// The largest zoom in 64ths.
 const LARGEST_K: u64 = 65_536;

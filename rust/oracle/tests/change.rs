@@ -1,21 +1,21 @@
-//! Marks that come and go (02, request 5), with their popups (request 9): examples, and
-//! each question answered with no in its turn.
+//! Marks that come and go (02, request 5), with their popups (request 9) and their counts
+//! (request 12): examples, and each question answered with no in its turn.
 
 mod common;
 
 use common::{
     each_popping_up, five_parts, one_part, popup_bytes, scheduled, scheduled_by,
-    scheduled_popping_up, three_parts, with_edition, with_part, with_part_4, with_popups, EDITION,
-    LONGEST, OUT, WORK,
+    scheduled_popping_up, three_parts, with_counts, with_edition, with_part, with_part_4,
+    with_popups, COUNTS, EDITION, LONGEST, OUT, WORK,
 };
 use oracle::change::{add, take_out};
-use oracle::mark::{read_marks, Mark};
+use oracle::mark::{read_marks, write_marks, Mark};
 use oracle::popup::read_popups;
 use oracle::process::schedule_in_rank_order;
 use oracle::rank::Edition;
-use oracle::record::{read_records, Record};
+use oracle::record::{read_records, write_records, Record};
 use oracle::sample::{marks, refused_sheets, Generator, Shape, P1};
-use oracle::sheet::{scheduled_bytes, split, work_bytes};
+use oracle::sheet::{join, scheduled_bytes, split, work_bytes};
 
 /// A mark with something in every field.
 const NEW: Mark = Mark {
@@ -282,6 +282,29 @@ fn a_schedule_by_other_popups_is_fresh_after_a_change() {
     assert_eq!(both, Ok(scheduled_popping_up(&P1, &popups)));
 }
 
+#[test]
+fn a_change_renews_the_counts_that_are_there() {
+    let mut generator = Generator::new(4);
+    each_popping_up(&[1, 2, 7, 20], |marks, popups| {
+        let m = generator.below(marks.len() as u32);
+        let (last, others) = marks.split_last().unwrap();
+        let (popup, earlier) = popups.split_last().unwrap();
+        let never = vec![Record::NEVER; others.len()];
+        for sheet in [
+            scheduled_popping_up(others, earlier),
+            with_popups(&three_parts(others, &never), earlier),
+        ] {
+            let counted = with_counts(&sheet);
+            let more = add_popping_up(&sheet, *last, *popup).unwrap();
+            let counted_more = add_popping_up(&counted, *last, *popup);
+            assert_eq!(counted_more, Ok(with_counts(&more)));
+            let fewer = take_out_large(&more, m).unwrap();
+            let counted_fewer = take_out_large(&with_counts(&more), m);
+            assert_eq!(counted_fewer, Ok(with_counts(&fewer)));
+        }
+    });
+}
+
 // ---- refusals
 
 #[test]
@@ -326,6 +349,19 @@ fn question_21_of_the_sheet_before_10_17_and_18() {
     let unscheduled = with_popups(&one_part(&full), &[0; 4_096]);
     assert_eq!(add_popping_up(&unscheduled, NEW, 65_537), Err(10));
     assert_eq!(take_out_large(&unscheduled, 4_096), Err(10));
+}
+
+#[test]
+fn question_23_before_10_17_and_18() {
+    let full = marks(Shape::OnePlace, 4_096, 1);
+    let parts = [write_marks(&full), write_records(&[Record::NEVER; 4_096])];
+    let unindexed = join(&[&parts[0], &parts[1]]);
+    let damaged = with_part(&unindexed, 6, &[0; 170]);
+    assert_eq!(add_large(&damaged, NEW), Err(23));
+    assert_eq!(take_out_large(&damaged, 4_096), Err(23));
+    let counted = with_counts(&unindexed);
+    assert_eq!(add_large(&counted, NEW), Err(10));
+    assert_eq!(take_out_large(&counted, 4_096), Err(10));
 }
 
 #[test]
@@ -401,16 +437,19 @@ fn the_last_mark_that_is_held_comes_and_goes() {
 }
 
 #[test]
-fn question_13_goes_by_the_new_number_of_marks_and_by_parts_4_and_5() {
+fn question_13_goes_by_the_new_number_of_marks_and_by_parts_4_5_and_6() {
     for n in 0..=4 {
         let sheet = scheduled(&P1[..n]);
         let popping_up = with_popups(&sheet, &[0; 4][..n]);
         question_13(&sheet, n, |_| 0);
         question_13(&popping_up, n, popup_bytes);
+        question_13(&with_counts(&sheet), n, |_| COUNTS);
         for edition in Edition::ALL {
             question_13(&with_edition(&sheet, edition), n, |_| EDITION);
             let both = with_edition(&popping_up, edition);
             question_13(&both, n, |n| EDITION + popup_bytes(n));
+            let all = with_counts(&both);
+            question_13(&all, n, |n| EDITION + popup_bytes(n) + COUNTS);
         }
     }
 }

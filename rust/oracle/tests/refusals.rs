@@ -4,10 +4,12 @@
 mod common;
 
 use common::{
-    one_part, popup_bytes, schedule_large, three_parts, with_edition, with_part, with_part_4,
-    with_popups, with_tree, EDITION, OUT, WORK,
+    one_part, popup_bytes, schedule_large, three_parts, with_counts, with_edition, with_part,
+    with_part_4, with_popups, with_tree, COUNTS, EDITION, LONGEST, OUT, WORK,
 };
 use oracle::contents::Part;
+use oracle::count::{count, part_6};
+use oracle::judge::judge;
 use oracle::map::walk;
 use oracle::mark::{write_marks, Mark};
 use oracle::popup::write_popups;
@@ -64,10 +66,10 @@ fn question_1_two_bytes_and_a_number_of_parts() {
     assert_eq!(check(&[]), 1);
     assert_eq!(check(&[1]), 1);
     assert_eq!(check(&raw(&[], 0)), 1);
-    let six = [1, 2, 3, 4, 5, 6].map(|code| (code, 62, 0));
-    assert_eq!(check(&raw(&six, 0)), 1);
-    assert_eq!(check(&raw(&[(9, 0, 0); 6], 0)), 1);
-    assert_eq!(check(&raw(&[(9, 0, 0); 5], 0)), 2);
+    let seven = [1, 2, 3, 4, 5, 6, 7].map(|code| (code, 72, 0));
+    assert_eq!(check(&raw(&seven, 0)), 1);
+    assert_eq!(check(&raw(&[(9, 0, 0); 7], 0)), 1);
+    assert_eq!(check(&raw(&[(9, 0, 0); 6], 0)), 2);
     // 257 parts, by both bytes of the number, with all of its contents.
     assert_eq!(check(&raw(&[(1, 12, 0); 257], 0)), 1);
 }
@@ -82,6 +84,8 @@ fn question_1_the_whole_contents() {
         join_parts(&[(1, &[]), (5, &[])]),
         join(&[&[], &[], &[], &[2]]),
         join(&[&[], &[], &[], &[2], &[]]),
+        join_parts(&[(1, &[]), (2, &[]), (6, &[0; 170])]),
+        join(&[&[], &[], &[], &[2], &[], &[0; 170]]),
     ];
     for sheet in sheets {
         assert_eq!(check(&sheet), 0);
@@ -99,14 +103,15 @@ fn question_1_the_whole_contents() {
 /// The number that questions 1 and 2 refuse a list of codes by, or 0, as 02 words it:
 /// "questions 1 and 2 allow four parts with codes rising within 1 to 4 (one part and code
 /// more with each code added later), part 1 present and part 3 only with part 2"; and later
-/// "contents may hold code 5".
+/// "contents may hold code 5", and "code 6, only with part 2".
 fn refusal_of_codes(codes: &[u16]) -> u32 {
     let rising = codes.windows(2).all(|pair| pair[0] < pair[1]);
-    let within = codes.iter().all(|code| [1, 2, 3, 4, 5].contains(code));
-    let third_with_second = !codes.contains(&3) || codes.contains(&2);
+    let within = codes.iter().all(|code| [1, 2, 3, 4, 5, 6].contains(code));
+    let with_second = |code| !codes.contains(&code) || codes.contains(&2);
+    let there = codes.contains(&1) && with_second(3) && with_second(6);
     match codes.len() {
-        0 | 6.. => 1,
-        _ if rising && within && codes.contains(&1) && third_with_second => 0,
+        0 | 7.. => 1,
+        _ if rising && within && there => 0,
         _ => 2,
     }
 }
@@ -115,6 +120,7 @@ fn refusal_of_codes(codes: &[u16]) -> u32 {
 fn empty_body(code: u16) -> &'static [u8] {
     match code {
         4 => &[2],
+        6 => &[0; 170],
         _ => &[],
     }
 }
@@ -122,23 +128,28 @@ fn empty_body(code: u16) -> &'static [u8] {
 #[test]
 fn questions_1_and_2_of_every_list_of_codes() {
     let mut taken = Vec::new();
+    let mut try_list = |codes: &[u16]| {
+        let expected = refusal_of_codes(codes);
+        let bodies: Vec<&[u8]> = codes.iter().map(|&code| empty_body(code)).collect();
+        let parts: Vec<(u16, &[u8])> = codes.iter().copied().zip(bodies.clone()).collect();
+        let sheet = join_parts(&parts);
+        assert_eq!(check(&sheet), expected, "{codes:?}");
+        let assembled = assemble(codes, &bodies, 999);
+        match expected {
+            0 => assert_eq!(assembled, Ok(sheet)),
+            _ => assert_eq!(assembled, Err(expected), "{codes:?}"),
+        }
+        if expected == 0 {
+            taken.push(codes.to_vec());
+        }
+    };
     for length in 0..=6 {
-        each_list(&[0, 1, 2, 3, 4, 5, 6], length, &mut |codes| {
-            let expected = refusal_of_codes(codes);
-            let bodies: Vec<&[u8]> = codes.iter().map(|&code| empty_body(code)).collect();
-            let parts: Vec<(u16, &[u8])> = codes.iter().copied().zip(bodies.clone()).collect();
-            let sheet = join_parts(&parts);
-            assert_eq!(check(&sheet), expected, "{codes:?}");
-            let assembled = assemble(codes, &bodies, 99);
-            match expected {
-                0 => assert_eq!(assembled, Ok(sheet)),
-                _ => assert_eq!(assembled, Err(expected), "{codes:?}"),
-            }
-            if expected == 0 {
-                taken.push(codes.to_vec());
-            }
-        });
+        each_list(&[0, 1, 2, 3, 4, 5, 6, 7], length, &mut try_list);
     }
+    // One more than there are.
+    each_list(&[1, 2, 6], 7, &mut try_list);
+    try_list(&[1, 2, 3, 4, 5, 6, 7]);
+    taken.sort_by_key(|codes| (codes.len(), codes.clone()));
     assert_eq!(taken, CODES_TAKEN);
 }
 
@@ -148,7 +159,7 @@ fn question_2_codes_have_two_bytes() {
         assert_eq!(check(&raw(&[(code, 12, 0)], 0)), 2, "{code}");
         assert_eq!(assemble(&[code], &[&[]], 99), Err(2));
     }
-    for code in [258, 260, 261, 1_028, 65_535] {
+    for code in [258, 260, 261, 262, 1_028, 65_535] {
         assert_eq!(check(&raw(&[(1, 22, 0), (code, 22, 0)], 0)), 2, "{code}");
         assert_eq!(assemble(&[1, code], &[&[], &[1]], 99), Err(2));
     }
@@ -629,6 +640,125 @@ fn question_9_comes_after_8() {
     assert_eq!(check(&with_tree(&P1, &records, &[0; 4])), 8);
 }
 
+/// P1 and its records, of two and three parts, with and without parts 4 and 5; and sheets
+/// without marks.
+fn sheets_without_counts() -> Vec<Vec<u8>> {
+    let two = join(&[&write_marks(&P1), &write_records(&p1_records())]);
+    let three = three_parts(&P1, &p1_records());
+    let mut sheets = vec![join(&[&[], &[]]), join(&[&[], &[], &[]])];
+    for sheet in [two, three] {
+        let named = with_edition(&sheet, Edition::Second);
+        sheets.push(with_popups(&named, &[0, 320, 0, 12]));
+        sheets.extend([sheet, named]);
+    }
+    sheets
+}
+
+#[test]
+fn question_23_exactly_the_counts_in_170_bytes() {
+    for sheet in sheets_without_counts() {
+        let mut counted = with_counts(&sheet);
+        assert_eq!(check(&counted), 0);
+        for at in counted.len() - 170..counted.len() {
+            let own = counted[at];
+            for value in [0, 1, 255, own ^ 1, own ^ 2, own ^ 128] {
+                counted[at] = value;
+                let expected = if value == own { 0 } else { 23 };
+                assert_eq!(check(&counted), expected, "{at} {value}");
+            }
+            counted[at] = own;
+        }
+        let part_6 = &counted[counted.len() - 170..];
+        for length in (0..170).chain([171, 172, 180, 340]) {
+            let mut other = part_6.to_vec();
+            other.resize(length, 0);
+            assert_eq!(check(&with_part(&sheet, 6, &other)), 23, "{length}");
+        }
+    }
+}
+
+#[test]
+fn question_23_goes_by_the_schedule_that_is_there_and_by_the_popups() {
+    let of = |records: &[Record], part_6: &[u8]| {
+        let sheet = three_parts(&P1, records);
+        check(&with_part(&sheet, 6, part_6))
+    };
+    let reel = Edition::First.reel(&P1);
+    let [ours, foreign] = [p1_records(), [Record::NEVER; 4]];
+    let counts = |records: &[Record]| part_6(reel, records);
+    assert_eq!(of(&ours, &counts(&ours)), 0);
+    assert_eq!(of(&foreign, &counts(&foreign)), 0);
+    assert_eq!(of(&ours, &counts(&foreign)), 23);
+    assert_eq!(of(&foreign, &counts(&ours)), 23);
+    // Mark 1 pops up where it goes, and mark 3 one 64th before.
+    let popups = [0, 320, 0, 12];
+    let popping_up = with_popups(&three_parts(&P1, &ours), &popups);
+    let heeded = part_6(reel.with_popups(&popups), &ours);
+    assert_eq!(check(&with_part(&popping_up, 6, &heeded)), 0);
+    assert_eq!(check(&with_part(&popping_up, 6, &counts(&ours))), 23);
+}
+
+#[test]
+fn question_23_comes_after_all_others_of_checking() {
+    let (part_1, part_2) = (write_marks(&P1), write_records(&p1_records()));
+    let index = [0, 0, 1, 0, 3, 0, 2, 0];
+    for part_6 in [&[][..], &[0; 169], &[0; 170], &[1; 171]] {
+        let number = |part_2: &[u8], part_3: &[u8], part_4: &[u8], part_5: &[u8]| {
+            check(&join(&[&part_1, part_2, part_3, part_4, part_5, part_6]))
+        };
+        assert_eq!(number(&[0; 55], &[0; 8], &[0], &[0; 15]), 7);
+        assert_eq!(number(&[0; 56], &[0; 8], &[0], &[0; 15]), 19);
+        assert_eq!(number(&[0; 56], &[0; 8], &[1], &[0; 15]), 21);
+        assert_eq!(number(&[0; 56], &[0; 8], &[1], &[0; 16]), 8);
+        assert_eq!(number(&part_2, &[0; 8], &[1], &[0; 16]), 9);
+        assert_eq!(number(&part_2, &index, &[1], &[0; 16]), 23);
+        let unindexed = |part_2: &[u8]| join_parts(&[(1, &part_1), (2, part_2), (6, part_6)]);
+        assert_eq!(check(&unindexed(&[0; 56])), 8);
+        assert_eq!(check(&unindexed(&part_2)), 23);
+    }
+}
+
+#[test]
+fn every_job_asks_question_23() {
+    for sheet in sheets_without_counts() {
+        for part_6 in [&[][..], &[0; 169], &[255; 170], &[0; 171]] {
+            let damaged = with_part(&sheet, 6, part_6);
+            assert_eq!(check(&damaged), 23);
+            assert_eq!(schedule_large(&damaged), Err(23));
+            assert_eq!(schedule(&damaged, 0, 0), Err(23));
+            assert_eq!(view_all(&damaged), Err(23));
+            assert_eq!(judge(&damaged), Err(23));
+            assert_eq!(count(&damaged, LONGEST), Err(23));
+            assert_eq!(count(&damaged, 0), Err(23));
+            assert_eq!(print(&damaged), "refused 23\n");
+        }
+    }
+}
+
+#[test]
+fn questions_10_and_13_of_counting() {
+    for parts in [
+        &[(1, &[][..])][..],
+        &[(1, &[]), (4, &[1])],
+        &[(1, &[]), (5, &[])],
+    ] {
+        for out in [0, LONGEST] {
+            assert_eq!(count(&join_parts(parts), out), Err(10));
+        }
+    }
+    assert_eq!(count(&one_part(&[UNKNOWN_KIND]), 0), Err(5));
+    for sheet in sheets_without_counts() {
+        let counted = with_counts(&sheet);
+        for given in [&sheet, &counted] {
+            assert_eq!(count(given, counted.len()).as_ref(), Ok(&counted));
+            assert_eq!(count(given, LONGEST).as_ref(), Ok(&counted));
+            for short in [0, 170, 180, sheet.len(), counted.len() - 1] {
+                assert_eq!(count(given, short.min(counted.len() - 1)), Err(13));
+            }
+        }
+    }
+}
+
 /// What a view answers that shows all it can.
 fn view_all(sheet: &[u8]) -> Result<(Vec<u8>, u32), u32> {
     view(sheet, Window::WHOLE, Zoom::Stop(0), 512)
@@ -698,9 +828,12 @@ fn question_20_a_turn_that_there_is_and_edges_within_the_range() {
 }
 
 #[test]
-fn view_puts_9_10_20_and_11_to_13_in_order() {
+fn view_puts_9_23_10_20_and_11_to_13_in_order() {
     let sheet = three_parts(&P1, &p1_records());
     let wrong_tree = with_tree(&P1, &p1_records(), &[0, 1, 2, 3]);
+    let wrong_counts = with_part(&sheet, 6, &[0; 170]);
+    let two = join(&[&write_marks(&P1), &write_records(&p1_records())]);
+    let unindexed = with_part(&two, 6, &[0; 170]);
     let crossed = Edges {
         x0: 1,
         x1: 0,
@@ -713,6 +846,12 @@ fn view_puts_9_10_20_and_11_to_13_in_order() {
     let (bad, good) = (Zoom::Stop(17), Zoom::Stop(16));
     for outside in [crossed.of_turned(4), far.unturned(), far.of_turned(255)] {
         assert_eq!(view(&wrong_tree, outside, bad, 0), Err(9));
+        assert_eq!(
+            view(&with_part(&wrong_tree, 6, &[]), outside, bad, 0),
+            Err(9)
+        );
+        assert_eq!(view(&wrong_counts, outside, bad, 0), Err(23));
+        assert_eq!(view(&unindexed, outside, bad, 0), Err(23));
         assert_eq!(view(&one_part(&P1), outside, bad, 0), Err(10));
         assert_eq!(view(&sheet, outside, bad, 0), Err(20));
         assert_eq!(view(&sheet, outside, good, 1), Err(20));
@@ -750,6 +889,11 @@ fn question_13_of_a_map() {
     }
 }
 
+/// The records of n marks that are never removed.
+fn never(n: usize) -> Vec<u8> {
+    write_records(&vec![Record::NEVER; n])
+}
+
 #[test]
 fn question_13_of_scheduling() {
     for n in [0, 1, 4] {
@@ -759,11 +903,15 @@ fn question_13_of_scheduling() {
         let with_popups = |sheet: &[u8]| with_popups(sheet, &[9; 4][..n]);
         let [popping_up, both] = [&sheet, &named].map(|sheet| with_popups(sheet));
         let more = popup_bytes(n);
+        let counted = with_counts(&join(&[&write_marks(&P1[..n]), &never(n)]));
+        let named_counted = with_edition(&counted, Edition::Second);
         for (sheet, out) in [
             (&sheet, out),
             (&named, out + EDITION),
             (&popping_up, out + more),
             (&both, out + EDITION + more),
+            (&counted, out + COUNTS),
+            (&named_counted, out + EDITION + COUNTS),
         ] {
             assert_eq!(schedule(sheet, work, out).unwrap().len(), out);
             assert_eq!(schedule(sheet, work - 1, out), Err(13));
@@ -788,12 +936,12 @@ fn scheduling_does_not_heal_a_bad_part_2_or_3() {
 
 #[test]
 fn question_1_of_putting_together_is_of_codes_and_bodies() {
-    let codes: [u16; 7] = [1, 2, 3, 4, 5, 6, 7];
-    let bodies: [&[u8]; 7] = [&[], &[], &[], &[1], &[], &[], &[]];
-    for count in 0..=7 {
-        for given in 0..=7 {
+    let codes: [u16; 8] = [1, 2, 3, 4, 5, 6, 7, 8];
+    let bodies: [&[u8]; 8] = [&[], &[], &[], &[1], &[], &[0; 170], &[], &[]];
+    for count in 0..=8 {
+        for given in 0..=8 {
             let assembled = assemble(&codes[..count], &bodies[..given], OUT);
-            let taken = (1..=5).contains(&count) && given >= count;
+            let taken = (1..=6).contains(&count) && given >= count;
             assert_eq!(assembled, taken.then(|| join(&bodies[..count])).ok_or(1));
         }
     }
@@ -801,15 +949,15 @@ fn question_1_of_putting_together_is_of_codes_and_bodies() {
 
 #[test]
 fn question_1_of_putting_together_comes_before_2() {
-    for codes in [&[][..], &[0; 6], &[5, 4, 3, 2, 1, 0]] {
-        assert_eq!(assemble(codes, &[&[0][..]; 6], 0), Err(1));
+    for codes in [&[][..], &[0; 7], &[6, 5, 4, 3, 2, 1, 0]] {
+        assert_eq!(assemble(codes, &[&[0][..]; 7], 0), Err(1));
     }
     assert_eq!(assemble(&[2, 1], &[&[0]], 0), Err(1));
     assert_eq!(assemble(&[2, 1], &[&[0], &[0]], 0), Err(2));
 }
 
 #[test]
-fn putting_together_asks_2_before_4_and_4_to_9_before_13() {
+fn putting_together_asks_2_before_4_and_4_to_9_and_23_before_13() {
     let part_1 = write_marks(&P1);
     let part_2 = write_records(&p1_records());
     let part_3 = tree::write_tree(&[0, 1, 3, 2]);
@@ -817,8 +965,13 @@ fn putting_together_asks_2_before_4_and_4_to_9_before_13() {
     let large = write_marks(&[LARGE_RADIUS]);
     let (short_index, no_records) = (&part_3[1..], [0; 56]);
     let beyond = write_popups(&[0, 0, 0, 65_537]);
-    let cases: [(u32, &[Part]); 12] = [
+    let part_6 = part_6(Edition::First.reel(&P1), &p1_records());
+    let mut other = part_6.clone();
+    other[0] ^= 1;
+    let cases: [(u32, &[Part]); 18] = [
         (2, &[(2, &part_1[1..])]),
+        (2, &[(1, &part_1[1..]), (6, &part_6)]),
+        (2, &[(1, &part_1), (4, &[1]), (6, &part_6)]),
         (4, &[(1, &part_1[1..])]),
         (5, &[(1, &unknown)]),
         (6, &[(1, &large), (4, &[0])]),
@@ -839,6 +992,10 @@ fn putting_together_asks_2_before_4_and_4_to_9_before_13() {
         (8, &[(1, &part_1), (2, &no_records), (4, &[1])]),
         (8, &[(1, &part_1), (2, &no_records), (3, &[0; 8])]),
         (9, &[(1, &part_1), (2, &part_2), (3, &[0; 8]), (4, &[2])]),
+        (9, &[(1, &part_1), (2, &part_2), (3, &[0; 8]), (6, &other)]),
+        (23, &[(1, &part_1), (2, &part_2), (3, &part_3), (6, &other)]),
+        (23, &[(1, &part_1), (2, &part_2), (6, &other)]),
+        (23, &[(1, &part_1), (2, &part_2), (6, &part_6[1..])]),
     ];
     for (number, parts) in cases {
         let (codes, bodies): (Vec<u16>, Vec<&[u8]>) = parts.iter().copied().unzip();
@@ -846,9 +1003,10 @@ fn putting_together_asks_2_before_4_and_4_to_9_before_13() {
             assert_eq!(assemble(&codes, &bodies, out), Err(number), "{codes:?}");
         }
     }
-    let bodies: [&[u8]; 5] = [&part_1, &part_2, &part_3, &[2], &[0; 16]];
-    for (count, length) in [(1, 56), (2, 122), (3, 140), (4, 151), (5, 177)] {
-        let codes = &[1, 2, 3, 4, 5][..count];
+    let bodies: [&[u8]; 6] = [&part_1, &part_2, &part_3, &[2], &[0; 16], &part_6];
+    let lengths = [56, 122, 140, 151, 177, 357];
+    for (count, length) in (1..).zip(lengths) {
+        let codes = &[1, 2, 3, 4, 5, 6][..count];
         assert_eq!(assemble(codes, &bodies, length - 1), Err(13));
         assert_eq!(assemble(codes, &bodies, length), Ok(join(&bodies[..count])));
     }

@@ -6,7 +6,8 @@ use std::collections::BTreeSet;
 
 use common::{
     each_popping_up, one_part, popup_bytes, schedule_large, scheduled, scheduled_by,
-    scheduled_popping_up, three_parts, with_edition, with_popups, EDITION, LONGEST, OUT, WORK,
+    scheduled_popping_up, three_parts, with_counts, with_edition, with_part, with_popups, COUNTS,
+    EDITION, LONGEST, OUT, WORK,
 };
 use oracle::map::{is_set, walk, NO_MARK};
 use oracle::mark::{write_marks, Mark};
@@ -113,7 +114,7 @@ fn without_part_4_all_is_as_in_the_first_edition() {
 fn putting_the_bodies_of_a_sheet_together_gives_the_sheet() {
     each_sample(|marks| {
         let popups = vec![0; marks.len()];
-        let sheet = with_popups(&scheduled_by(Edition::First, marks), &popups);
+        let sheet = with_counts(&with_popups(&scheduled_by(Edition::First, marks), &popups));
         let bodies = split(&sheet).unwrap();
         for codes in CODES_TAKEN {
             let parts = codes.iter().map(|&code| bodies.get(code.into()).unwrap());
@@ -225,33 +226,40 @@ fn a_view_uses_the_schedule_as_the_sheet_has_it() {
 #[test]
 fn parts_are_found_in_accepted_sheets_only() {
     let mut sheet = scheduled(&marks(Shape::Grid, 4, 1));
-    // Of codes 1 to 5, once there is seen to be none about these.
+    // Of codes 1 to 6, once there is seen to be none about these.
     let extents = |sheet: &[u8]| {
-        for code in [0, 6, 65_537, 65_540, 65_541] {
+        for code in [0, 7, 65_537, 65_540, 65_542] {
             assert_eq!(part_extent(sheet, code), (0, 0));
         }
-        [1, 2, 3, 4, 5].map(|code| part_extent(sheet, code))
+        [1, 2, 3, 4, 5, 6].map(|code| part_extent(sheet, code))
     };
-    let all = [(32, 44), (76, 56), (132, 8), (0, 0), (0, 0)];
+    let all = [(32, 44), (76, 56), (132, 8), (0, 0), (0, 0), (0, 0)];
     assert_eq!(extents(&sheet), all);
     let named = with_edition(&sheet, Edition::Second);
-    let all = [(42, 44), (86, 56), (142, 8), (150, 1), (0, 0)];
+    let all = [(42, 44), (86, 56), (142, 8), (150, 1), (0, 0), (0, 0)];
     assert_eq!(extents(&named), all);
-    let all = [(52, 44), (96, 56), (152, 8), (160, 1), (161, 16)];
+    let all = [(52, 44), (96, 56), (152, 8), (160, 1), (161, 16), (0, 0)];
     assert_eq!(extents(&with_popups(&named, &[0; 4])), all);
-    let unnamed = [(42, 44), (86, 56), (142, 8), (0, 0), (150, 16)];
-    assert_eq!(extents(&with_popups(&sheet, &[0; 4])), unnamed);
-    let empty = [(22, 0), (22, 0), (0, 0), (0, 0), (0, 0)];
+    let unnamed = [(42, 44), (86, 56), (142, 8), (0, 0), (150, 16), (0, 0)];
+    let popping_up = with_popups(&sheet, &[0; 4]);
+    assert_eq!(extents(&popping_up), unnamed);
+    let counted = [(52, 44), (96, 56), (152, 8), (0, 0), (160, 16), (176, 170)];
+    assert_eq!(extents(&with_counts(&popping_up)), counted);
+    let empty = [(22, 0), (22, 0), (0, 0), (0, 0), (0, 0), (0, 0)];
     assert_eq!(extents(&join(&[&[], &[]])), empty);
-    let no_schedule = [(22, 0), (0, 0), (0, 0), (22, 1), (0, 0)];
+    let zeros = [(32, 0), (32, 0), (0, 0), (0, 0), (0, 0), (32, 170)];
+    assert_eq!(extents(&with_counts(&join(&[&[], &[]]))), zeros);
+    let damaged = with_part(&join(&[&[], &[]]), 6, &[0; 169]);
+    assert_eq!(extents(&damaged), [(0, 0); 6]);
+    let no_schedule = [(22, 0), (0, 0), (0, 0), (22, 1), (0, 0), (0, 0)];
     assert_eq!(extents(&join_parts(&[(1, &[]), (4, &[1])])), no_schedule);
-    let popups_alone = [(22, 0), (0, 0), (0, 0), (0, 0), (22, 0)];
+    let popups_alone = [(22, 0), (0, 0), (0, 0), (0, 0), (22, 0), (0, 0)];
     assert_eq!(extents(&join_parts(&[(1, &[]), (5, &[])])), popups_alone);
     sheet.push(0);
-    assert_eq!(extents(&sheet), [(0, 0); 5]);
+    assert_eq!(extents(&sheet), [(0, 0); 6]);
 }
 
-/// A sheet of up to five parts with a byte too many in a body, some bytes
+/// A sheet of up to six parts with a byte too many in a body, some bytes
 /// changed, some missing at the end, or as it should be.
 fn changed_sheet(generator: &mut Generator) -> Vec<u8> {
     let shape = generator.choose(&Shape::ALL);
@@ -260,10 +268,12 @@ fn changed_sheet(generator: &mut Generator) -> Vec<u8> {
     let named = with_edition(&one_part(&sample), generator.choose(&Edition::ALL));
     let popups = popups(generator.choose(&Popups::ALL), &sample, generator.draw());
     let whole = schedule_large(&with_popups(&named, &popups)).unwrap();
+    let whole = with_counts(&whole);
     let mut parts = split(&whole).unwrap().present();
-    for code in [5, 4, 3, 2] {
+    for code in [6, 5, 4, 3, 2] {
         if generator.below(3) == 0 {
-            parts.retain(|&(other, _)| other != code && (code != 2 || other != 3));
+            let needs_it = |other| code == 2 && [3, 6].contains(&other);
+            parts.retain(|&(other, _)| other != code && !needs_it(other));
         }
     }
     let at = generator.below(parts.len() as u32) as usize;
@@ -310,7 +320,7 @@ fn all_jobs_refuse_a_changed_sheet_by_the_number_that_checking_gives() {
             assert_eq!(assemble_again(&sheet), Err(number));
         }
     }
-    assert_eq!(numbers, BTreeSet::from_iter((0..=9).chain([19, 21])));
+    assert_eq!(numbers, BTreeSet::from_iter((0..=9).chain([19, 21, 23])));
 }
 
 #[test]
@@ -325,9 +335,14 @@ fn the_largest_sheet_is_scheduled() {
     assert_eq!(schedule(&named, WORK, OUT + EDITION - 1), Err(13));
     assert_eq!(popup_bytes(4_096), 16_394);
     let popping_up = with_popups(&named, &[0; 4_096]);
-    assert_eq!(popping_up.len(), LONGEST);
-    assert_eq!(schedule(&popping_up, WORK, LONGEST), Ok(popping_up.clone()));
-    assert_eq!(schedule(&popping_up, WORK, LONGEST - 1), Err(13));
+    let length = LONGEST - COUNTS;
+    assert_eq!(popping_up.len(), length);
+    assert_eq!(schedule(&popping_up, WORK, length), Ok(popping_up.clone()));
+    assert_eq!(schedule(&popping_up, WORK, length - 1), Err(13));
+    let counted = with_counts(&popping_up);
+    assert_eq!(counted.len(), LONGEST);
+    assert_eq!(schedule(&counted, WORK, LONGEST), Ok(counted.clone()));
+    assert_eq!(schedule(&counted, WORK, LONGEST - 1), Err(13));
 }
 
 #[test]

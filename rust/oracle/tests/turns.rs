@@ -1,10 +1,12 @@
 //! The guarantee on turned marks (02, request 8): "For a sheet scheduled here, scheduling
 //! the turned marks, where they fit 01's range, with the sheet's parts beyond 3 carried
-//! along, and viewing without a turn gives the same map."
+//! along, and viewing without a turn gives the same map." Part 6 is not (request 12).
 
 mod common;
 
-use common::{one_part, schedule_large, scheduled, scheduled_by, with_edition, with_popups};
+use common::{
+    one_part, schedule_large, scheduled, scheduled_by, with_counts, with_edition, with_popups,
+};
 use oracle::mark::{write_marks, Mark};
 use oracle::rank::Edition;
 use oracle::sample::{marks, popups, Generator, Popups, Shape, P1};
@@ -13,13 +15,13 @@ use oracle::turn::{turned_marks, MOST_TURNS};
 use oracle::view::{view, Edges};
 use oracle::zoom::Zoom;
 
-/// The sheet of the turned marks, put together with the parts beyond 3 and scheduled;
-/// none where a turned place does not fit 01's range.
+/// The sheet of the turned marks, put together with the parts beyond 3 but part 6, and
+/// scheduled; none where a turned place does not fit 01's range.
 fn turned_sheet(sheet: &[u8], turn: u8) -> Option<Vec<u8>> {
     let opened = open(sheet).unwrap();
     let part_1 = write_marks(&turned_marks(turn, &opened.marks)?);
     let mut parts = vec![(1, part_1.as_slice())];
-    parts.extend(opened.bodies.beyond_3());
+    parts.extend(opened.bodies.carried());
     let (codes, bodies): (Vec<u16>, Vec<&[u8]>) = parts.into_iter().unzip();
     let together = assemble(&codes, &bodies, usize::MAX).unwrap();
     Some(schedule_large(&together).unwrap())
@@ -44,7 +46,7 @@ fn some_edges(generator: &mut Generator, marks: &[Mark], turn: u8) -> Edges {
 }
 
 /// A sample of every shape and of some numbers of marks, scheduled by either edition, or
-/// without one named, and with popups of every kind.
+/// without one named, with popups of every kind, and with counts.
 fn each_sheet(mut visit: impl FnMut(&[u8], &[Mark])) {
     for shape in Shape::ALL {
         for n in [0, 1, 2, 9, 40] {
@@ -60,7 +62,9 @@ fn each_sheet(mut visit: impl FnMut(&[u8], &[Mark])) {
             {
                 let sheet = with_popups(&one_part(&sample), &popups(how, &sample, 1));
                 let named = with_edition(&sheet, edition);
-                visit(&schedule_large(&named).unwrap(), &sample);
+                let scheduled = schedule_large(&named).unwrap();
+                visit(&scheduled, &sample);
+                visit(&with_counts(&scheduled), &sample);
             }
         }
     }
@@ -103,7 +107,8 @@ fn turned_marks_have_the_same_records_and_mostly_another_tree() {
             let (old, new) = (open(sheet).unwrap(), open(&turned).unwrap());
             assert_eq!(old.records, new.records);
             assert_eq!((old.edition, &old.popups), (new.edition, &new.popups));
-            assert_eq!(old.bodies.beyond_3(), new.bodies.beyond_3());
+            assert_eq!(old.bodies.carried(), new.bodies.carried());
+            assert_eq!(new.bodies.get(6), None);
             others += usize::from(old.tree != new.tree);
         }
     });

@@ -84,6 +84,13 @@ extern "C" {
 
     fn rollmap_judge(sheet: *const u8, sheet_length: usize) -> Answer;
 
+    fn rollmap_count(
+        sheet: *const u8,
+        sheet_length: usize,
+        out: *mut u8,
+        out_length: usize,
+    ) -> Answer;
+
     fn rollmap_assemble(
         codes: *const u16,
         codes_length: usize,
@@ -219,6 +226,11 @@ pub(crate) fn take_out(sheet: &[u8], m: u32, work: &mut [u8], out: &mut [u8]) ->
 pub(crate) fn judge(sheet: &[u8]) -> Answer {
     // SAFETY: pointer and length are a slice's (see the top of this file).
     unsafe { rollmap_judge(sheet.as_ptr(), sheet.len()) }
+}
+
+pub(crate) fn count(sheet: &[u8], out: &mut [u8]) -> Answer {
+    // SAFETY: pointers and lengths are slices' (see the top of this file).
+    unsafe { rollmap_count(sheet.as_ptr(), sheet.len(), out.as_mut_ptr(), out.len()) }
 }
 
 /// Rows for one more part than a sheet has: so many are refused as any more would be.

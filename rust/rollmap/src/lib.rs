@@ -3,17 +3,19 @@
 //! These are safe bindings to the proved library, the static library `rollmap`.
 //! A sheet is a run of bytes that has the marks in part 1 and, once it is scheduled,
 //! the schedule in part 2 and the index in part 3; part 4 may name the [`Edition`] that
-//! ranks the marks, and part 5 the [`popups`] from which they are there. Nothing is copied
-//! or kept: a call borrows its buffers and answers.
+//! ranks the marks, part 5 the [`popups`] from which they are there, and part 6 the
+//! [`Counts`] of those that live at each stop. Nothing is copied or kept: a call borrows its
+//! buffers and answers.
 //!
 //! A call asks the questions that its comment names, in turn; the first no is its
 //! [`Refusal`], and then no buffer is written. Where these are 4 to 9, questions
-//! [19](Refusal::Edition) and [21](Refusal::Popups) are asked, in this order, after 7; a
-//! view asks [20](Refusal::Window) after 10.
+//! [19](Refusal::Edition) and [21](Refusal::Popups) are asked, in this order, after 7, and
+//! [23](Refusal::Counts) after 9; a view asks [20](Refusal::Window) after 10.
 //!
 //! ```
-//! use rollmap::{assemble_to_vec, judge, marks_to_vec, popups_to_vec, records, schedule_to_vec};
-//! use rollmap::{view_to_map, Code, Mark, Record, Refusal, Turn, View, Zoom, NO_POPUP};
+//! use rollmap::{assemble_to_vec, count_to_vec, counts, judge, marks_to_vec, popups_to_vec};
+//! use rollmap::{records, schedule_to_vec, view_to_map, NO_POPUP};
+//! use rollmap::{Code, Group, Mark, Record, Refusal, Turn, View, Zoom};
 //!
 //! // Two marks at (0, 0) and (100, 0); the first has the higher priority. They touch at
 //! // zoom 5.
@@ -41,6 +43,10 @@
 //! assert_eq!(judge(&scheduled), Ok(()));
 //! assert_eq!(judge(&sheet), Err(Refusal::Unscheduled));
 //!
+//! // At stop 8, zoom 4, both of these notes live, and at stop 9, zoom 8, one of them.
+//! let counts = counts(&count_to_vec(&scheduled)?).unwrap();
+//! assert_eq!([8, 9].map(|stop| counts.get(stop, Group::Note)), [Some(2), Some(1)]);
+//!
 //! // The first mark is for the overview: it pops up at zoom 8, and until then the other one
 //! // lives.
 //! let popups = popups_to_vec(&[8 * 64, NO_POPUP]);
@@ -56,6 +62,7 @@
 
 mod change;
 mod columns;
+mod count;
 mod edition;
 mod ffi;
 mod fill;
@@ -73,6 +80,9 @@ mod walk;
 
 pub use change::{add, add_to_vec, take_out, take_out_to_vec};
 pub use columns::{from_columns, from_columns_vec, to_columns, to_columns_vec};
+pub use count::{
+    count, count_to_vec, counts, Counts, Group, COUNTED_BYTES, COUNTS_BYTES, GROUPS, STOPS,
+};
 pub use edition::{edition, Edition, EDITION_BYTES};
 pub use fill::{fill, fill_to_vec, rescue};
 pub use judge::judge;

@@ -17,6 +17,8 @@ pub enum Code {
     Edition = 4,
     /// Part 5: the [`popups`](crate::popups()), one for each mark.
     Popups = 5,
+    /// Part 6: the [`Counts`](crate::Counts) of living marks, which come only with a schedule.
+    Counts = 6,
 }
 
 impl Code {
@@ -27,6 +29,7 @@ impl Code {
         Self::Index,
         Self::Edition,
         Self::Popups,
+        Self::Counts,
     ];
 
     /// The code as the contents have it.
@@ -53,7 +56,7 @@ mod tests {
     #[test]
     fn codes_rise_from_1() {
         let codes = Code::ALL.iter().map(|code| code.number());
-        assert!(codes.eq(1..=5));
+        assert!(codes.eq(1..=6));
         assert!(Code::ALL.is_sorted());
     }
 }

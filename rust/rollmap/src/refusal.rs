@@ -29,7 +29,8 @@ pub enum Refusal {
     Schedule = 8,
     /// 9: the index in part 3.
     Index = 9,
-    /// 10: parts 2 and 3, which a view needs, a change of the marks, and the judge.
+    /// 10: parts 2 and 3, which a view needs, a change of the marks, and the judge; or part 2,
+    /// which counting needs.
     Unscheduled = 10,
     /// 11: the edges of a view, whether they are in order.
     Edges = 11,
@@ -55,6 +56,8 @@ pub enum Refusal {
     Popups = 21,
     /// 22: the schedule in part 2, of which the judge says that it is not ours.
     Judgement = 22,
+    /// 23: the counts in part 6.
+    Counts = 23,
 }
 
 impl Refusal {
@@ -82,6 +85,7 @@ impl Refusal {
         Self::Window,
         Self::Popups,
         Self::Judgement,
+        Self::Counts,
     ];
 
     /// The question's number.
@@ -98,9 +102,10 @@ impl Refusal {
     /// The question in words.
     pub const fn question(self) -> &'static str {
         match self {
-            Self::Contents => "are there 2 bytes, 1 to 5 parts, and the whole contents?",
+            Self::Contents => "are there 2 bytes, 1 to 6 parts, and the whole contents?",
             Self::Codes => {
-                "do the codes rise within 1 to 5, is part 1 there, and part 3 only with part 2?"
+                "do the codes rise within 1 to 6, is part 1 there, and are parts 3 and 6 only with \
+                 part 2?"
             }
             Self::Bodies => {
                 "does the first body start right after the contents, each next one where the \
@@ -119,7 +124,7 @@ impl Refusal {
                  and is that mark removed later?"
             }
             Self::Index => "is part 3 the tree that parts 1 and 2 give?",
-            Self::Unscheduled => "are parts 2 and 3 there?",
+            Self::Unscheduled => "are parts 2 and 3 there, or, for counting, part 2?",
             Self::Edges => "is x0 at most x1, and y0 at most y1?",
             Self::Zoom => {
                 "is the zoom a stop from 0 to 16, or a wheel value of which 64 times is a whole \
@@ -149,6 +154,10 @@ impl Refusal {
                 "does no pair of marks have both removed later than its pair value, is each \
                  removal value the pair value with some higher-ranked mark that is removed \
                  later, and is the highest-ranked such mark named?"
+            }
+            Self::Counts => {
+                "is part 6, if present, 170 bytes, with the number of living marks of each kind \
+                 group at each stop?"
             }
         }
     }
@@ -184,14 +193,14 @@ mod tests {
     use super::*;
 
     #[test]
-    fn numbers_are_1_to_22_in_order() {
+    fn numbers_are_1_to_23_in_order() {
         let numbers = Refusal::ALL.iter().map(|refusal| refusal.number());
-        assert!(numbers.eq(1..=22));
+        assert!(numbers.eq(1..=23));
         for &refusal in Refusal::ALL {
             assert_eq!(Refusal::from_number(refusal.number()), Some(refusal));
         }
         assert_eq!(Refusal::from_number(0), None);
-        assert_eq!(Refusal::from_number(23), None);
+        assert_eq!(Refusal::from_number(24), None);
     }
 
     #[test]

@@ -1,6 +1,6 @@
 //! Checking, scheduling and putting together a sheet, and reading its parts.
 
-use crate::{ffi, part, popups_bytes, Code, Refusal, EDITION_BYTES, MARK_BYTES};
+use crate::{ffi, part, popups_bytes, Code, Refusal, COUNTED_BYTES, EDITION_BYTES, MARK_BYTES};
 
 /// The most marks a sheet has.
 pub const MOST_MARKS: usize = 4_096;
@@ -15,9 +15,9 @@ pub const fn work_bytes(n: usize) -> usize {
     32 * n + 1_024
 }
 
-/// Bytes of the sheet that scheduling n marks writes, where no part beyond 3 is kept;
-/// [`EDITION_BYTES`] more where part 4 is, and [`popups_bytes`] of the marks where part 5
-/// is.
+/// Bytes of the sheet that scheduling n marks writes, where it has no part beyond 3;
+/// [`EDITION_BYTES`] more where part 4 is there, [`popups_bytes`] of the marks where part 5
+/// is, and [`COUNTED_BYTES`] where part 6 is.
 pub const fn scheduled_bytes(n: usize) -> usize {
     32 + 27 * n
 }
@@ -41,9 +41,10 @@ pub fn check(sheet: &[u8]) -> Result<(), Refusal> {
 
 /// Schedules a sheet afresh into `out`, by its own [`Edition`](crate::Edition) and its own
 /// [`popups`](crate::popups()), with its index, whatever schedule it has. Parts 4 and 5 are
-/// kept, where it has them. Answers the number of bytes written: [`scheduled_bytes`] of its
-/// marks, [`EDITION_BYTES`] with part 4, and [`popups_bytes`] of its marks with part 5.
-/// Bytes past these stay as they are.
+/// kept, where it has them, and part 6 is renewed: its [`Counts`](crate::Counts) are then
+/// those of the new schedule. Answers the number of bytes written: [`scheduled_bytes`] of its
+/// marks, [`EDITION_BYTES`] with part 4, [`popups_bytes`] of its marks with part 5, and
+/// [`COUNTED_BYTES`] with part 6. Bytes past these stay as they are.
 ///
 /// # Errors
 ///
@@ -65,13 +66,14 @@ pub fn schedule_to_vec(sheet: &[u8]) -> Result<Vec<u8>, Refusal> {
 }
 
 /// What a call writes that schedules n marks, in buffers of its own, with room for the
-/// parts that are kept.
+/// parts beyond 3.
 pub(crate) fn scheduled_to_vec(
     n: usize,
     call: impl FnOnce(Work<'_>, &mut [u8]) -> Result<usize, Refusal>,
 ) -> Result<Vec<u8>, Refusal> {
     let mut work = vec![0; work_bytes(n)];
-    let mut out = vec![0; scheduled_bytes(n) + EDITION_BYTES + popups_bytes(n)];
+    let beyond = EDITION_BYTES + popups_bytes(n) + COUNTED_BYTES;
+    let mut out = vec![0; scheduled_bytes(n) + beyond];
     let written = call(Work(&mut work), &mut out)?;
     out.truncate(written);
     Ok(out)

@@ -61,7 +61,7 @@ pub const fn map_bytes(n: usize) -> usize {
 ///
 /// Of a sheet that scheduling wrote, a view with a turn gives what a view without one
 /// gives of the sheet that is scheduled from the marks at their [turned](Turn::turned)
-/// places, where these fit 16 bits, and the parts beyond 3.
+/// places, where these fit 16 bits, and the parts beyond 3 but part 6.
 ///
 /// # Errors
 ///

@@ -7,6 +7,7 @@ use common::{
     bodies_of, code, our_records, scheduled_of, some_room, some_sheet, Lent, SomeBodies, Tally,
 };
 use oracle::contents::Part;
+use oracle::count::part_6;
 use oracle::mark::write_marks;
 use oracle::popup::write_popups;
 use oracle::rank::Edition::{First, Second};
@@ -30,46 +31,56 @@ fn assemble(parts: &[Part], out_length: usize, seed: u64) -> u32 {
     out.assert_answered(&answer, &expected)
 }
 
+/// Popups of P1 that change neither its schedule nor its counts: all are there at stop 0.
+const P1_POPUPS: [u32; 4] = [1, 1, 0, 1];
+
 /// The bodies of P1, scheduled, by code, with an edition and popups with which they are the
 /// same.
-fn p1_bodies() -> [Vec<u8>; 5] {
+fn p1_bodies() -> [Vec<u8>; 6] {
     let [part_1, part_2, part_3] = bodies_of(&P1, &our_records(&P1));
-    let part_5 = write_popups(&[12, 320, 319, 0]);
-    [part_1, part_2, part_3, Second.write().to_vec(), part_5]
+    let (part_4, part_5) = (Second.write().to_vec(), write_popups(&P1_POPUPS));
+    let part_6 = part_6(First.reel(&P1), &our_records(&P1));
+    [part_1, part_2, part_3, part_4, part_5, part_6]
 }
 
 /// The parts of these codes.
-fn parts_of<'a>(codes: &[u16], bodies: &'a [Vec<u8>; 5]) -> Vec<Part<'a>> {
+fn parts_of<'a>(codes: &[u16], bodies: &'a [Vec<u8>; 6]) -> Vec<Part<'a>> {
     let body = |code: u16| bodies[usize::from(code) - 1].as_slice();
     codes.iter().map(|&code| (code, body(code))).collect()
 }
 
 #[test]
 fn every_list_of_codes() {
-    let empty = [vec![], vec![], vec![], vec![1], vec![]];
-    let faulty = [(); 5].map(|()| vec![0]);
-    for length in 0..=7 {
-        each_list(&[1, 2, 3, 4, 5], length, &mut |codes| {
-            let expected = match codes.len() {
-                0 | 6.. => 1,
-                _ if CODES_TAKEN.contains(&codes) => 0,
-                _ => 2,
-            };
-            for bodies in [&p1_bodies(), &empty] {
-                let number = assemble(&parts_of(codes, bodies), 200, 1);
-                assert_eq!(number, expected, "{codes:?}");
-            }
-            // The codes are asked for before the bodies and the buffer.
-            let expected = if expected == 0 { 4 } else { expected };
-            let number = assemble(&parts_of(codes, &faulty), 0, 2);
+    let whole = p1_bodies();
+    let empty = [vec![], vec![], vec![], vec![1], vec![], vec![0; 170]];
+    let faulty = [(); 6].map(|()| vec![0]);
+    let mut try_list = |codes: &[u16]| {
+        let expected = match codes.len() {
+            0 | 7.. => 1,
+            _ if CODES_TAKEN.contains(&codes) => 0,
+            _ => 2,
+        };
+        for bodies in [&whole, &empty] {
+            let number = assemble(&parts_of(codes, bodies), 400, 1);
             assert_eq!(number, expected, "{codes:?}");
-        });
+        }
+        // The codes are asked for before the bodies and the buffer.
+        let expected = if expected == 0 { 4 } else { expected };
+        let number = assemble(&parts_of(codes, &faulty), 0, 2);
+        assert_eq!(number, expected, "{codes:?}");
+    };
+    for length in 0..=6 {
+        each_list(&[1, 2, 3, 4, 5, 6], length, &mut try_list);
+    }
+    // One more than there are, and two more.
+    for length in [7, 8] {
+        each_list(&[1, 2, 6], length, &mut try_list);
     }
 }
 
 #[test]
 fn every_length_of_the_written_buffer() {
-    let empty = [vec![], vec![], vec![], vec![2], vec![]];
+    let empty = [vec![], vec![], vec![], vec![2], vec![], vec![0; 170]];
     for bodies in [&p1_bodies(), &empty] {
         for codes in CODES_TAKEN {
             let parts = parts_of(codes, bodies);
@@ -85,7 +96,7 @@ fn every_length_of_the_written_buffer() {
 #[test]
 fn a_part_goes_by_its_code_and_not_by_its_place() {
     let bodies = p1_bodies();
-    let [part_1, part_2, _, part_4, part_5] = bodies.each_ref().map(Vec::as_slice);
+    let [part_1, part_2, _, part_4, part_5, part_6] = bodies.each_ref().map(Vec::as_slice);
     assert_eq!(assemble(&[(1, part_1), (4, part_4)], 67, 1), 0);
     assert_eq!(assemble(&[(1, part_1), (2, part_4)], 67, 2), 7);
     assert_eq!(assemble(&[(1, part_1), (4, part_2)], 200, 3), 19);
@@ -97,6 +108,12 @@ fn a_part_goes_by_its_code_and_not_by_its_place() {
     assert_eq!(assemble(&[(1, part_1), (2, part_5)], 82, 6), 7);
     assert_eq!(assemble(&[(1, part_1), (4, part_5)], 82, 7), 19);
     assert_eq!(assemble(&[(1, part_1), (5, part_4)], 82, 8), 21);
+    let third = |code, body| [(1, part_1), (2, part_2), (code, body)];
+    assert_eq!(assemble(&third(6, part_6), 302, 9), 0);
+    assert_eq!(assemble(&third(5, part_6), 302, 10), 21);
+    assert_eq!(assemble(&third(3, part_6), 302, 11), 7);
+    assert_eq!(assemble(&third(6, part_5), 302, 12), 23);
+    assert_eq!(assemble(&[(1, part_1), (6, part_6)], 302, 13), 2);
 }
 
 #[test]
@@ -106,7 +123,7 @@ fn damaged_editions() {
         bodies[3] = part_4.to_vec();
         for codes in CODES_TAKEN {
             let expected = if codes.contains(&4) { 19 } else { 0 };
-            assert_eq!(assemble(&parts_of(codes, &bodies), 200, 1), expected);
+            assert_eq!(assemble(&parts_of(codes, &bodies), 400, 1), expected);
             let short = if codes.contains(&4) { 19 } else { 13 };
             assert_eq!(assemble(&parts_of(codes, &bodies), 0, 1), short);
         }
@@ -135,7 +152,7 @@ fn damaged_popups() {
                     _ => None,
                 };
                 let parts = parts_of(codes, &bodies);
-                assert_eq!(assemble(&parts, 200, 1), refused.unwrap_or(0));
+                assert_eq!(assemble(&parts, 400, 1), refused.unwrap_or(0));
                 assert_eq!(assemble(&parts, 0, 1), refused.unwrap_or(13));
             }
         }
@@ -143,15 +160,38 @@ fn damaged_popups() {
 }
 
 #[test]
+fn damaged_counts() {
+    let mut bodies = p1_bodies();
+    let own = bodies[5].clone();
+    let mut damaged: Vec<Vec<u8>> = [0, 2, 168, 169, 171, 172, 340]
+        .map(|length| own.iter().copied().cycle().take(length).collect())
+        .to_vec();
+    for at in 0..own.len() {
+        let mut other = own.clone();
+        other[at] ^= 1 << (at % 8);
+        damaged.push(other);
+    }
+    for part_6 in damaged {
+        bodies[5] = part_6;
+        for codes in CODES_TAKEN {
+            let refused = codes.contains(&6).then_some(23);
+            let parts = parts_of(codes, &bodies);
+            assert_eq!(assemble(&parts, 600, 1), refused.unwrap_or(0));
+            assert_eq!(assemble(&parts, 0, 1), refused.unwrap_or(13));
+        }
+    }
+}
+
+#[test]
 fn every_byte_of_the_bodies_with_some_values() {
     let mut bodies = p1_bodies();
-    for body in 0..5 {
+    for body in 0..6 {
         for at in 0..bodies[body].len() {
             let own = bodies[body][at];
             for value in [0, 1, 2, 3, 10, 64, 199, 200, 255, own ^ 1, own ^ 128] {
                 bodies[body][at] = value;
                 for codes in CODES_TAKEN {
-                    assemble(&parts_of(codes, &bodies), 177, u64::from(value));
+                    assemble(&parts_of(codes, &bodies), 357, u64::from(value));
                 }
             }
             bodies[body][at] = own;
@@ -168,16 +208,16 @@ fn many_bodies_with_a_few_faults() {
         let mut parts = drawn.parts();
         if generator.below(20) == 0 {
             let at = generator.below(parts.len() as u32) as usize;
-            parts[at].0 = generator.choose(&[1, 2, 3, 4, 5]);
+            parts[at].0 = generator.choose(&[1, 2, 3, 4, 5, 6]);
         }
         if generator.below(40) == 0 {
-            parts.resize(generator.choose(&[0, 6, 7]), (4, &[1]));
+            parts.resize(generator.choose(&[0, 7, 8]), (4, &[1]));
         }
         let needed = join_parts(&parts).len();
         let length = some_room(&mut generator, needed);
         numbers.add(assemble(&parts, length, seed));
     }
-    numbers.assert_reached([0, 1, 2, 4, 5, 6, 7, 8, 9, 13, 19, 21], 100);
+    numbers.assert_reached([0, 1, 2, 4, 5, 6, 7, 8, 9, 13, 19, 21, 23], 100);
 }
 
 #[test]
@@ -186,9 +226,10 @@ fn the_longest_bodies() {
     let sample = marks(Shape::Clustered, 4_096, 2);
     let records = common::foreign_records(&mut generator, First.reel(&sample));
     let [part_1, part_2, part_3] = bodies_of(&sample, &records);
-    let part_5 = write_popups(&[0; 4_096]);
-    let bodies = [part_1, part_2, part_3, First.write().to_vec(), part_5];
-    let lengths = [45_056, 57_344, 8_192, 1, 16_384];
+    let (part_4, part_5) = (First.write().to_vec(), write_popups(&[0; 4_096]));
+    let part_6 = part_6(First.reel(&sample), &records);
+    let bodies = [part_1, part_2, part_3, part_4, part_5, part_6];
+    let lengths = [45_056, 57_344, 8_192, 1, 16_384, 170];
     assert_eq!(bodies.each_ref().map(Vec::len), lengths);
     for codes in CODES_TAKEN {
         let body = |&code: &u16| 10 + lengths[usize::from(code) - 1];
@@ -215,7 +256,7 @@ fn the_buffer_of_its_own_is_long_enough() {
         assert_eq!(assembled.map_err(|refusal| refusal.number()), expected);
         numbers.add(number);
     }
-    numbers.assert_reached([0, 4, 5, 6, 7, 8, 9, 19, 21], 10);
+    numbers.assert_reached([0, 4, 5, 6, 7, 8, 9, 19, 21, 23], 10);
 }
 
 // ---- reading parts
@@ -269,9 +310,9 @@ fn parts_of_every_sheet_with_a_byte_changed() {
             parts(&sheet[..at]);
         }
         sheet.push(0);
-        assert_eq!(parts(&sheet), [None; 5]);
+        assert_eq!(parts(&sheet), [None; 6]);
     }
-    assert_eq!(parts(&[]), [None; 5]);
+    assert_eq!(parts(&[]), [None; 6]);
 }
 
 #[test]

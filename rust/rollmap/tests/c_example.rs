@@ -85,6 +85,17 @@ to columns: 0 22, 05 00 fe ff 02 00 00 01 ff ff 0a 00 07 00 08 00 04 fa 01 02 03
 short marks: 13 0, then ee
 no whole column: 4 0, then ee
 from columns: 0 22, the same 1, then ee
+count in a short buffer: 13 0, then ee
+count: 0 320, then ee, part 6 at 150, 170 bytes
+notes: 4 4 4 4 3 3 3 3 3 2 1 1 1 1 1 1 1, others 0
+count again: 0 320, the same 1, then ee
+schedule: 0 320, the same 1, then ee
+add a break: 0 347, then ee, breaks: 1 1 1 1 1 1 1 1 1 0 0 0 0 0 0 0 0
+take it out: 0 320, the same 1, then ee
+count without an index: 0 302, its part 3 at 0, 0 bytes
+count marks alone: 10 0
+another count: check 23 0, count 23 0
+part 6 without part 2: 2 0
 ";
 
 const HEADER: &str = include_str!("../../../include/rollmap.h");
@@ -195,6 +206,10 @@ fn the_header_has_the_sizes_and_the_version_of_this_crate() {
         ("LOG_RECORD_BYTES", rollmap::LOG_RECORD_BYTES),
         ("EDITION_BYTES", rollmap::EDITION_BYTES),
         ("LARGEST_POPUP", LARGEST_POPUP as usize),
+        ("STOPS", rollmap::STOPS),
+        ("GROUPS", rollmap::GROUPS),
+        ("COUNTS_BYTES", rollmap::COUNTS_BYTES),
+        ("COUNTED_BYTES", rollmap::COUNTED_BYTES),
     ];
     for (name, size) in sizes {
         assert!(
@@ -228,7 +243,7 @@ fn every_call_takes_less_stack_than_the_header_says() {
         (name, bytes.parse::<usize>().expect("a number"))
     });
     let calls: Vec<(&str, usize)> = calls.collect();
-    assert_eq!(calls.len(), 16);
+    assert_eq!(calls.len(), 18);
     for (name, bytes) in calls {
         assert!(bytes < most_stack(name), "{name} takes {bytes}");
     }
@@ -393,21 +408,25 @@ fn assert_printed(name: &str, cases: Vec<(Vec<u8>, String)>) {
 
 #[test]
 fn every_list_of_codes_through_c() {
-    let bodies: [&[u8]; 6] = [&[], &[], &[], &[2], &[], &[0xff; 5]];
+    let bodies: [&[u8]; 7] = [&[], &[], &[], &[2], &[], &[0; 170], &[0xff; 5]];
     let body = |&code: &u16| bodies[usize::from(code).saturating_sub(1)];
     let mut cases = Vec::new();
     let mut try_list = |codes: &[u16]| {
         let own: Vec<&[u8]> = codes.iter().map(body).collect();
-        cases.push(assemble_case(codes, &own, 60));
+        cases.push(assemble_case(codes, &own, 240));
     };
-    for length in 0..=5 {
-        each_list(&[0, 1, 2, 3, 4, 5, 6], length, &mut try_list);
+    for length in 0..=4 {
+        each_list(&[0, 1, 2, 3, 4, 5, 6, 7], length, &mut try_list);
     }
+    for length in [5, 6] {
+        each_list(&[1, 2, 3, 6], length, &mut try_list);
+    }
+    CODES_TAKEN.iter().for_each(|codes| try_list(codes));
     // One more than there are.
-    each_list(&[1, 5, 6], 6, &mut try_list);
-    try_list(&[1, 2, 3, 4, 5, 6]);
+    each_list(&[1, 2, 6], 7, &mut try_list);
+    try_list(&[1, 2, 3, 4, 5, 6, 7]);
     // Both bytes of a code count.
-    for code in [256, 257, 258, 260, 261, 1_028, 65_281, 65_535] {
+    for code in [256, 257, 258, 260, 261, 262, 1_028, 65_281, 65_535] {
         cases.push(assemble_case(&[code], &[&[]], 50));
         cases.push(assemble_case(&[1, code], &[&[], &[1]], 50));
     }
@@ -422,7 +441,7 @@ fn other_numbers_of_bodies_than_of_codes_through_c() {
         let drawn = SomeBodies::draw(&mut generator);
         let mut codes = drawn.codes.to_vec();
         if generator.below(20) == 0 {
-            codes.resize(generator.choose(&[0, 6, 16]), 4);
+            codes.resize(generator.choose(&[0, 7, 16]), 4);
         }
         let own: Vec<&[u8]> = drawn.parts().into_iter().map(|(_, body)| body).collect();
         // Further bodies are junk, and some lack.
@@ -449,7 +468,7 @@ fn every_code_of_a_part_through_c() {
     sheets.extend((0..300).map(|_| some_sheet(&mut generator)));
     let mut cases = Vec::new();
     for sheet in sheets {
-        for code in (0..10).chain([256, 257, 258, 261, 65_536, 65_537, 65_541, u32::MAX]) {
+        for code in (0..10).chain([256, 257, 258, 262, 65_536, 65_537, 65_542, u32::MAX]) {
             cases.push(part_case(&sheet, code));
         }
     }

@@ -26,7 +26,7 @@ fn check(sheet: &[u8]) -> u32 {
     number
 }
 
-/// Accepted sheets of one to five parts: P1, no marks, and a few samples.
+/// Accepted sheets of one to six parts: P1, no marks, and a few samples.
 fn small_sheets() -> Vec<Vec<u8>> {
     let samples = [
         P1.to_vec(),
@@ -103,15 +103,15 @@ fn with_field(sheet: &[u8], (at, width): (usize, usize), choice: u32) -> Vec<u8>
     wide[..width].copy_from_slice(&sheet[at..at + width]);
     let own = u32::from_le_bytes(wide);
     let value = match choice {
-        0..=6 => choice,
-        7 => own.wrapping_add(1),
-        8 => own.wrapping_sub(1),
-        9 => own.wrapping_add(11),
-        10 => own.wrapping_sub(14),
-        11 => own.wrapping_neg(),
-        12 => own ^ 0x8000_8000,
-        13 => own ^ 0x0100_0100,
-        14 => sheet.len() as u32,
+        0..=7 => choice,
+        8 => own.wrapping_add(1),
+        9 => own.wrapping_sub(1),
+        10 => own.wrapping_add(11),
+        11 => own.wrapping_sub(14),
+        12 => own.wrapping_neg(),
+        13 => own ^ 0x8000_8000,
+        14 => own ^ 0x0100_0100,
+        15 => sheet.len() as u32,
         _ => u32::MAX,
     };
     let mut changed = sheet.to_vec();
@@ -120,12 +120,19 @@ fn with_field(sheet: &[u8], (at, width): (usize, usize), choice: u32) -> Vec<u8>
 }
 
 /// How many changes of a field are tried.
-const CHOICES: u32 = 16;
+const CHOICES: u32 = 17;
 
 #[test]
 fn every_field_of_the_contents_and_every_two() {
     let mut numbers = Tally::default();
-    let codes: [&[u16]; 4] = [&[1, 2, 3], &[1, 2, 3, 4], &[1, 2, 3, 5], &[1, 2, 3, 4, 5]];
+    let codes: [&[u16]; 6] = [
+        &[1, 2, 3],
+        &[1, 2, 3, 4],
+        &[1, 2, 3, 5],
+        &[1, 2, 6],
+        &[1, 2, 3, 4, 5],
+        &[1, 2, 3, 4, 5, 6],
+    ];
     for sheet in codes.into_iter().flat_map(|codes| {
         let marks: [&[Mark]; 2] = [&P1, &[]];
         marks.map(|marks| scheduled_of(codes, marks, &[0; 4][..marks.len()]))
@@ -143,7 +150,7 @@ fn every_field_of_the_contents_and_every_two() {
             }
         }
     }
-    numbers.assert_reached([0, 1, 2, 3, 19, 21], 3);
+    numbers.assert_reached([0, 1, 2, 3, 7, 19, 21, 23], 1);
 }
 
 #[test]
@@ -192,24 +199,35 @@ fn every_length_of_a_body() {
 #[test]
 fn every_list_of_codes() {
     let mut numbers = Tally::default();
+    let bodies: [[&[u8]; 3]; 5] = [
+        [&[1], &[], &[0; 170]],
+        [&[2], &[0; 4], &[0; 170]],
+        [&[0], &[], &[]],
+        [&[], &[0], &[]],
+        [&[2], &[], &[0; 169]],
+    ];
+    let mut try_list = |codes: &[u16]| {
+        for [part_4, part_5, part_6] in bodies {
+            let body = |code| match code {
+                4 => part_4,
+                5 => part_5,
+                6 => part_6,
+                _ => &[],
+            };
+            let parts: Vec<_> = codes.iter().map(|&code| (code, body(code))).collect();
+            let number = check(&join_parts(&parts));
+            let taken = CODES_TAKEN.contains(&codes);
+            assert_eq!(taken, [0, 19, 21, 23].contains(&number), "{codes:?}");
+            numbers.add(number);
+        }
+    };
     for length in 0..=6 {
-        each_list(&[0, 1, 2, 3, 4, 5, 6], length, &mut |codes| {
-            let bodies: [[&[u8]; 2]; 4] = [[&[1], &[]], [&[2], &[0; 4]], [&[0], &[]], [&[], &[0]]];
-            for [part_4, part_5] in bodies {
-                let body = |code| match code {
-                    4 => part_4,
-                    5 => part_5,
-                    _ => &[],
-                };
-                let parts: Vec<_> = codes.iter().map(|&code| (code, body(code))).collect();
-                let number = check(&join_parts(&parts));
-                let taken = CODES_TAKEN.contains(&codes);
-                assert_eq!(taken, [0, 19, 21].contains(&number), "{codes:?}");
-                numbers.add(number);
-            }
-        });
+        each_list(&[0, 1, 2, 3, 4, 5, 6, 7], length, &mut try_list);
     }
-    numbers.assert_reached([0, 1, 2, 19, 21], 5);
+    // One more than there are.
+    each_list(&[1, 2, 6], 7, &mut try_list);
+    try_list(&[1, 2, 3, 4, 5, 6, 7]);
+    numbers.assert_reached([0, 1, 2, 19, 21, 23], 5);
 }
 
 #[test]
@@ -419,7 +437,7 @@ fn many_sheets_with_a_few_faults() {
         let sheet = some_sheet(&mut generator);
         numbers.add(check(&sheet));
     }
-    numbers.assert_reached((0..=9).chain([19, 21]), 500);
+    numbers.assert_reached((0..=9).chain([19, 21, 23]), 500);
 }
 
 #[test]

@@ -229,6 +229,7 @@ fn a_damaged_part_4_is_refused_by_every_job() {
                 let damaged = with_part_4(&sheet, part_4);
                 assert_eq!(check(&damaged), 19);
                 assert_eq!(number(&rollmap::judge(&damaged)), 19);
+                assert_eq!(number(&rollmap::count_to_vec(&damaged)), 19);
                 for lengths in [[0, 0], longest()] {
                     schedule(&damaged, lengths, &Err(19));
                     let refused = Err::<Vec<u8>, _>(19);

@@ -367,6 +367,112 @@ static void print_columns(void)
            memcmp(back, two, sizeof two) == 0, back[22]);
 }
 
+/* Prints the counts of a kind group, stop by stop. */
+static void print_counts(const uint8_t *sheet, size_t length, unsigned group)
+{
+    struct rollmap_extent counts = rollmap_part(sheet, length, ROLLMAP_CODE_COUNTS);
+    unsigned stop;
+
+    for (stop = 0; stop < ROLLMAP_STOPS; stop++)
+        printf(" %u", (unsigned)number_at(sheet + counts.offset + 2 * (ROLLMAP_GROUPS * stop + group), 2));
+}
+
+/* How many marks there are of other groups than the first, over all stops. */
+static unsigned others(const uint8_t *sheet, size_t length)
+{
+    struct rollmap_extent counts = rollmap_part(sheet, length, ROLLMAP_CODE_COUNTS);
+    unsigned at, sum = 0;
+
+    for (at = 0; at < ROLLMAP_STOPS * ROLLMAP_GROUPS; at++)
+        sum += at % ROLLMAP_GROUPS == 0 ? 0 : (unsigned)number_at(sheet + counts.offset + 2 * at, 2);
+    return sum;
+}
+
+/* A break comes to the counted sheet, which mark 0 removes at 64 times zoom 512, and goes. */
+static void print_counted_changes(const uint8_t *sheet, size_t length)
+{
+    uint8_t work[ROLLMAP_WORK_BYTES(N + 1)];
+    uint8_t more[ROLLMAP_SCHEDULED_BYTES(N + 1) + ROLLMAP_COUNTED_BYTES + 1];
+    uint8_t back[ROLLMAP_SCHEDULED_BYTES(N) + ROLLMAP_COUNTED_BYTES + 1];
+    struct rollmap_answer answer;
+
+    memset(more, 0xee, sizeof more);
+    memset(back, 0xee, sizeof back);
+    answer = rollmap_schedule(sheet, length, work, sizeof work, back, sizeof back);
+    printf("schedule: %u %u, the same %d, then %02x\n", answer.number, answer.value,
+           memcmp(back, sheet, length) == 0, back[length]);
+    answer = rollmap_add(sheet, length, 0, -160, 10, 1, 150, 0, ROLLMAP_NO_POPUP, work, sizeof work, more, sizeof more);
+    printf("add a break: %u %u, then %02x, breaks:", answer.number, answer.value, more[answer.value]);
+    print_counts(more, answer.value, 4);
+    memset(back, 0xee, sizeof back);
+    answer = rollmap_take_out(more, sizeof more - 1, N, work, sizeof work, back, sizeof back);
+    printf("\ntake it out: %u %u, the same %d, then %02x\n", answer.number, answer.value,
+           memcmp(back, sheet, length) == 0, back[length]);
+}
+
+/* What is counted without an index, and what is refused. */
+static void print_uncounted(const uint8_t *sheet)
+{
+    static const uint16_t codes[3] = {ROLLMAP_CODE_MARKS, ROLLMAP_CODE_SCHEDULE, ROLLMAP_CODE_COUNTS};
+    uint8_t parts[ROLLMAP_CONTENTS_BYTES(2) + (ROLLMAP_MARK_BYTES + ROLLMAP_RECORD_BYTES) * N];
+    uint8_t out[sizeof parts + ROLLMAP_COUNTED_BYTES];
+    const struct rollmap_extent schedule = rollmap_part(sheet, ROLLMAP_SCHEDULED_BYTES(N), ROLLMAP_CODE_SCHEDULE);
+    struct rollmap_body rows[3];
+    struct rollmap_answer answer;
+    struct rollmap_extent index;
+
+    rows[0].bytes = marks;
+    rows[0].length = sizeof marks;
+    rows[1].bytes = sheet + schedule.offset;
+    rows[1].length = schedule.length;
+    answer = rollmap_assemble(codes, 2, rows, 2, parts, sizeof parts);
+    answer = rollmap_count(parts, answer.value, out, sizeof out);
+    index = rollmap_part(out, answer.value, ROLLMAP_CODE_INDEX);
+    printf("count without an index: %u %u, its part 3 at %u, %u bytes\n", answer.number, answer.value,
+           index.offset, index.length);
+    answer = rollmap_assemble(codes, 1, rows, 1, parts, sizeof parts);
+    answer = rollmap_count(parts, answer.value, out, sizeof out);
+    printf("count marks alone: %u %u\n", answer.number, answer.value);
+}
+
+/* Marks 3, 1 and 2 go before the stops 4, 9 and 10. */
+static void print_counted(const uint8_t *sheet, size_t length)
+{
+    static const uint16_t codes[2] = {ROLLMAP_CODE_MARKS, ROLLMAP_CODE_COUNTS};
+    uint8_t out[ROLLMAP_SCHEDULED_BYTES(N) + ROLLMAP_COUNTED_BYTES + 1], again[sizeof out];
+    struct rollmap_body rows[2];
+    struct rollmap_answer answer;
+    struct rollmap_extent counts;
+
+    memset(out, 0xee, sizeof out);
+    memset(again, 0xee, sizeof again);
+    answer = rollmap_count(sheet, length, out, sizeof out - 2);
+    printf("count in a short buffer: %u %u, then %02x\n", answer.number, answer.value, out[0]);
+    answer = rollmap_count(sheet, length, out, sizeof out);
+    length = answer.value;
+    counts = rollmap_part(out, length, ROLLMAP_CODE_COUNTS);
+    printf("count: %u %u, then %02x, part 6 at %u, %u bytes\nnotes:", answer.number, answer.value,
+           out[length], counts.offset, counts.length);
+    print_counts(out, length, 0);
+    printf(", others %u\n", others(out, length));
+    answer = rollmap_count(out, length, again, sizeof again);
+    printf("count again: %u %u, the same %d, then %02x\n", answer.number, answer.value,
+           memcmp(again, out, length) == 0, again[length]);
+    print_counted_changes(out, length);
+    print_uncounted(sheet);
+    rows[0].bytes = marks;
+    rows[0].length = sizeof marks;
+    rows[1].bytes = again + counts.offset;
+    rows[1].length = counts.length;
+    out[counts.offset]++;
+    answer = rollmap_check(out, length);
+    printf("another count: check %u %u", answer.number, answer.value);
+    answer = rollmap_count(out, length, again, sizeof again);
+    printf(", count %u %u\n", answer.number, answer.value);
+    answer = rollmap_assemble(codes, 2, rows, 2, out, sizeof out);
+    printf("part 6 without part 2: %u %u\n", answer.number, answer.value);
+}
+
 int main(void)
 {
     uint8_t sheet[ROLLMAP_CONTENTS_BYTES(1) + sizeof marks];
@@ -399,5 +505,6 @@ int main(void)
     print_marks();
     print_logs();
     print_columns();
+    print_counted(out, sizeof out - 1);
     return 0;
 }

@@ -1,4 +1,4 @@
-//! Marks, records, editions and popups by their fields, compared with the oracle's.
+//! Marks, records, editions, popups and counts by their fields, compared with the oracle's.
 
 mod common;
 
@@ -6,10 +6,14 @@ use common::{
     bound, one_part, our_records, scheduled, three_parts, with_part, with_part_4, with_popups,
     Beyond,
 };
+use oracle::count::read_counts;
 use oracle::fraction::Removal;
 use oracle::popup::write_popups;
 use oracle::sample::{marks, popups, Popups, Shape, P1};
-use rollmap::{marks_to_vec, popups_to_vec, Code, Edition, Mark, Record, NO_POPUP};
+use rollmap::{
+    marks_to_vec, popups_to_vec, Code, Counts, Edition, Group, Mark, Record, GROUPS, NO_POPUP,
+    STOPS,
+};
 
 /// A record of the oracle as the bindings have it.
 fn bound_record(record: &oracle::record::Record) -> Record {
@@ -114,4 +118,47 @@ fn without_part_5_every_mark_is_there_from_the_start() {
     }
     assert!(rollmap::popups(&one_part(&P1)[1..]).is_none());
     assert_eq!(rollmap::popups(&one_part(&[])).unwrap().len(), 0);
+}
+
+#[test]
+fn counts_are_the_oracles() {
+    for shape in Shape::ALL {
+        for n in [0, 1, 2, 100] {
+            let sample = marks(shape, n, 8);
+            let beyond = Beyond::popping_up(popups(Popups::Any, &sample, 8)).counted();
+            for sheet in [beyond.bare(&sample), beyond.scheduled(&sample)] {
+                let part_6 = rollmap::part(&sheet, Code::Counts).unwrap();
+                let expected = read_counts(part_6);
+                let own = rollmap::counts(&sheet).unwrap();
+                let of_stop = |stop| Group::ALL.map(|group| own.get(stop, group).unwrap());
+                let all: Vec<[u16; GROUPS]> = (0..STOPS as u8).map(of_stop).collect();
+                assert_eq!(all.as_flattened(), expected);
+                let at = (0..STOPS as u8).map(|stop| own.at(stop).unwrap());
+                assert!(at.eq(all));
+                assert_eq!(own.to_bytes(), part_6);
+                assert_eq!(Counts::from_bytes(own.to_bytes()), own);
+            }
+        }
+    }
+}
+
+#[test]
+fn a_sheet_without_part_6_has_no_counts() {
+    for sheet in [one_part(&P1), scheduled(&P1), scheduled(&[])] {
+        assert_eq!(rollmap::counts(&sheet), None);
+        for damaged in [&[][..], &[0; 169], &[255; 170], &[0; 171]] {
+            assert_eq!(rollmap::counts(&with_part(&sheet, 6, damaged)), None);
+        }
+    }
+    let counted = Beyond::default().counted().scheduled(&P1);
+    assert!(rollmap::counts(&counted).is_some());
+    assert_eq!(rollmap::counts(&counted[1..]), None);
+}
+
+#[test]
+fn groups_are_the_oracles() {
+    for kind in 0..=255 {
+        let group = oracle::mark::Group::of(kind).map(|group| group as usize);
+        assert_eq!(Group::of(kind).map(|group| group as usize), group);
+    }
 }

@@ -216,7 +216,7 @@ fn what_the_other_parts_hold_plays_no_part_in_a_rescue() {
         assert_eq!(rollmap::rescue(&join(&[&part_1, &junk])), expected);
         let three = join(&[&part_1, &junk, &junk]);
         assert_eq!(rollmap::rescue(&three), expected);
-        for code in [4, 5] {
+        for code in [4, 5, 6] {
             assert_eq!(rollmap::rescue(&with_part(&three, code, &junk)), expected);
         }
     }

@@ -2,7 +2,7 @@
 
 mod common;
 
-use common::{one_part, with_part_4, with_popups};
+use common::{one_part, with_part_4, with_popups, Beyond};
 use oracle::mark::{house_radius, Mark};
 use oracle::sample::{CODES_TAKEN, P1};
 use rollmap::{schedule_to_vec, Code};
@@ -79,7 +79,7 @@ fn the_codes_are_those_of_the_text() {
 
 #[test]
 fn a_scheduled_sheet_is_as_long_as_the_text_says() {
-    let lengths = ["32 + 27n bytes", "43 + 27n", "42 + 31n", "53 + 31n"];
+    let lengths = ["32 + 27n bytes", "43 + 27n", "42 + 31n", "53 + 31n", "180"];
     assert!(lengths.iter().all(|length| FORMAT.contains(length)));
     for n in 0..=4 {
         let length = |sheet: &[u8]| schedule_to_vec(sheet).unwrap().len();
@@ -90,6 +90,11 @@ fn a_scheduled_sheet_is_as_long_as_the_text_says() {
         let popups = &[0, 64, 65_536, 7][..n];
         assert_eq!(length(&with_popups(&given, popups)), 42 + 31 * n);
         assert_eq!(length(&with_popups(&named, popups)), 53 + 31 * n);
+        let counted = Beyond::default().counted().bare(&P1[..n]);
+        assert_eq!(length(&counted), 32 + 27 * n + 180);
+        let all = with_part_4(&with_popups(&given, popups), &[2]);
+        let all = rollmap::count_to_vec(&schedule_to_vec(&all).unwrap()).unwrap();
+        assert_eq!(length(&all), 53 + 31 * n + 180);
     }
 }
 

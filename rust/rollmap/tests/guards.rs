@@ -15,9 +15,9 @@ use oracle::turn::turned_marks;
 use oracle::view::{map_and_count, Edges};
 use oracle::zoom::remains;
 use rollmap::{
-    add_to_vec, from_columns_vec, map_bytes, popups_bytes, schedule_to_vec, scheduled_bytes,
-    take_out_to_vec, to_columns_vec, view_to_map, work_bytes, Code, Edition, Refusal, Turn, View,
-    Work, Zoom, EDITION_BYTES, NO_POPUP,
+    add_to_vec, count_to_vec, from_columns_vec, map_bytes, popups_bytes, schedule_to_vec,
+    scheduled_bytes, take_out_to_vec, to_columns_vec, view_to_map, work_bytes, Code, Counts,
+    Edition, Group, Refusal, Turn, View, Work, Zoom, EDITION_BYTES, NO_POPUP,
 };
 
 const GUARDS: &str = include_str!("../../../docs/GUARDS.md");
@@ -99,7 +99,7 @@ fn every_test_that_the_page_names_is_here() {
     let sentences = GUARDS.lines().filter_map(|line| line.split_once("Test: "));
     let named = cells.chain(sentences.map(|(_, name)| name.trim_end_matches('.')));
     let names: Vec<&str> = named.flat_map(|names| names.split(", ")).collect();
-    assert_eq!(names.len(), 36);
+    assert_eq!(names.len(), 37);
     for name in names {
         let test = format!("#[test]\nfn {}()", name.trim_matches('`'));
         assert!(own.contains(&test), "{name}");
@@ -419,6 +419,52 @@ fn the_printed_zoom_is_the_nearest_64th() {
             assert!(!shown(&sheet, wheel(k + 1)).contains(&m));
         }
     }
+}
+
+/// The counts of a counted sheet.
+fn counts(sheet: &[u8]) -> Counts {
+    rollmap::counts(sheet).expect("the sheet is counted")
+}
+
+/// Sees that the counts of a sheet are the numbers of marks of each group that views of all
+/// places show.
+fn assert_counts_of_views(sheet: &[u8], counts: &Counts) {
+    let kinds: Vec<u8> = rollmap::marks(sheet).unwrap().map(|it| it.kind).collect();
+    for stop in 0..=16 {
+        let shown = shown(sheet, Zoom::Stop(stop));
+        for group in Group::ALL {
+            let of_group = |&&m: &&u32| Group::of(kinds[m as usize]) == Some(group);
+            let own = shown.iter().filter(of_group).count();
+            assert_eq!(counts.get(stop, group), Some(own as u16));
+        }
+    }
+}
+
+#[test]
+fn the_shift_report_reads_its_counts() {
+    for (sheet, _) in sheets_of_every_kind(120, 14) {
+        // Not counted yet is not a reel without marks.
+        assert_eq!(rollmap::counts(&sheet), None);
+        let counted = count_to_vec(&sheet).unwrap();
+        assert_counts_of_views(&sheet, &counts(&counted));
+        // A reel that changes keeps its counts up to date.
+        let more = add_to_vec(&counted, bound(&P1[0]), NO_POPUP).unwrap();
+        assert_counts_of_views(&more, &counts(&more));
+        let fewer = take_out_to_vec(&more, 0).unwrap();
+        assert_counts_of_views(&fewer, &counts(&fewer));
+        // Counts that are not the sheet's are refused, and so is the sheet.
+        let mut damaged = counted;
+        *damaged.last_mut().unwrap() ^= 1;
+        assert_eq!(rollmap::check(&damaged), Err(Refusal::Counts));
+        assert_eq!(rollmap::counts(&damaged), None);
+    }
+    // A foreign schedule is counted as it is, until scheduling mends it and its counts.
+    let foreign = count_to_vec(&three_parts(&P1, &[Record::NEVER; 4])).unwrap();
+    assert_eq!(counts(&foreign).get(16, Group::Note), Some(4));
+    let mended = schedule_to_vec(&foreign).unwrap();
+    assert_eq!(counts(&mended).get(16, Group::Note), Some(1));
+    // Marks alone have no schedule to be counted by.
+    assert_eq!(count_to_vec(&one_part(&P1)), Err(Refusal::Unscheduled));
 }
 
 // ---- the overview

@@ -8,11 +8,12 @@ use common::{
     some_records, some_sheet, three_parts, tied_marks, with_part_4, with_popups, Beyond, Lent,
     Tally, NAMED,
 };
+use oracle::count::part_6;
 use oracle::mark::{write_marks, Mark};
 use oracle::popup::write_popups;
 use oracle::process::schedule_in_rank_order;
 use oracle::rank::Edition;
-use oracle::record::{write_records, Record};
+use oracle::record::{read_records, write_records, Record};
 use oracle::reel::Reel;
 use oracle::sample::{
     each_list, each_schedule, fitting_records, marks, popups, refused_sheets, small_choice,
@@ -53,7 +54,7 @@ fn every_beyond(marks: &[Mark], seed: u64) -> Vec<Beyond> {
     let mut all = NAMED.map(Beyond::named).to_vec();
     for (named, how) in NAMED.into_iter().cycle().zip(Popups::ALL) {
         let popups = Some(popups(how, marks, seed));
-        all.push(Beyond { named, popups });
+        all.push(Beyond::uncounted(named, popups));
     }
     all
 }
@@ -74,8 +75,7 @@ fn worked_examples() {
     for example in JUDGED_EXAMPLES {
         let expected = if example.accepted { 0 } else { 22 };
         let popups = example.popups.map(<[u32]>::to_vec);
-        let named = Some(example.edition);
-        let beyond = Beyond { named, popups };
+        let beyond = Beyond::uncounted(Some(example.edition), popups);
         let sheet = beyond.with_records(example.marks, example.records);
         assert_eq!(rollmap::check(&sheet), Ok(()));
         assert_eq!(judge(&sheet), expected, "{example:?}");
@@ -548,8 +548,7 @@ fn popups_that_tie_and_popups_that_are_all_equal() {
         let level = vec![generator.below(65_537) >> generator.below(17); n];
         for popups in [drawn, level] {
             let named = generator.choose(&NAMED);
-            let popups = Some(popups);
-            let beyond = Beyond { named, popups };
+            let beyond = Beyond::uncounted(named, Some(popups));
             differences.add(judge_changed(&mut generator, &beyond, &sample));
         }
     }
@@ -624,12 +623,12 @@ fn small_sheets() -> Vec<Vec<u8>> {
     sheets
 }
 
-/// The sheet with the contents, part 2 and part 3 left out: what decides a schedule, and what
-/// nobody interprets.
+/// The sheet with the contents, part 2, part 3 and part 6 left out: what decides a schedule,
+/// and what nobody interprets.
 fn given(sheet: &[u8]) -> Vec<u8> {
     let bodies = oracle::sheet::split(sheet).expect("its parts are joined");
     let mut parts = bodies.present();
-    parts.retain(|&(code, _)| ![2, 3].contains(&code));
+    parts.retain(|&(code, _)| ![2, 3, 6].contains(&code));
     join_parts(&parts)
 }
 
@@ -651,7 +650,7 @@ fn every_byte_of_small_sheets_with_every_value() {
             sheet[at] = own;
         }
     }
-    numbers.assert_reached([0, 1, 2, 3, 5, 6, 8, 9, 10, 19, 21, 22], 0);
+    numbers.assert_reached([0, 1, 2, 3, 5, 6, 8, 9, 10, 19, 21, 22, 23], 0);
 }
 
 #[test]
@@ -671,10 +670,8 @@ fn every_length_of_small_sheets() {
 fn every_byte_of_schedules_that_are_not_ours() {
     let mut numbers = Tally::default();
     for example in JUDGED_EXAMPLES.iter().filter(|example| !example.accepted) {
-        let beyond = Beyond {
-            named: Some(example.edition),
-            popups: example.popups.map(<[u32]>::to_vec),
-        };
+        let popups = example.popups.map(<[u32]>::to_vec);
+        let beyond = Beyond::uncounted(Some(example.edition), popups);
         let mut sheet = beyond.with_records(example.marks, example.records);
         for at in 0..sheet.len() {
             let own = sheet[at];
@@ -695,7 +692,7 @@ fn many_sheets_with_a_few_faults() {
     for _ in 0..40_000 {
         numbers.add(judge(&some_sheet(&mut generator)));
     }
-    numbers.assert_reached((0..=10).chain([19, 21, 22]), 100);
+    numbers.assert_reached((0..=10).chain([19, 21, 22, 23]), 100);
 }
 
 #[test]
@@ -744,7 +741,7 @@ fn a_sheet_without_part_2_or_part_3_gets_10() {
 }
 
 #[test]
-fn questions_7_19_21_8_9_10_and_22_are_put_in_turn() {
+fn questions_7_19_21_8_9_23_10_and_22_are_put_in_turn() {
     let part_1 = write_marks(&P1);
     let ours = schedule_in_rank_order(Edition::First.reel(&P1));
     let tree_of = |records: &[Record]| tree::write_tree(&tree::build(&P1, records));
@@ -768,11 +765,15 @@ fn questions_7_19_21_8_9_10_and_22_are_put_in_turn() {
             (None, false),
         ] {
             for (part_4, no_19) in [(&[1][..], false), (&[2], false), (&[0], true), (&[], true)] {
-                for (k, no_21) in [(0, false), (65_537, true)] {
+                for ((k, no_21), (part_6, no_23)) in [(0, false), (65_537, true)]
+                    .into_iter()
+                    .flat_map(|popup| counts_of(&records).map(|counts| (popup, counts)))
+                {
                     let part_5 = write_popups(&[0, 0, 0, k]);
                     let mut parts = vec![(1, &part_1[..]), (2, &records), (4, part_4)];
                     parts.extend(part_3.map(|part_3| (3, part_3.as_slice())));
                     parts.push((5, &part_5));
+                    parts.extend(part_6.as_ref().map(|part_6| (6, part_6.as_slice())));
                     parts.sort_unstable_by_key(|&(code, _)| code);
                     let questions = [
                         (7, no_7),
@@ -780,6 +781,7 @@ fn questions_7_19_21_8_9_10_and_22_are_put_in_turn() {
                         (21, no_21),
                         (8, no_8),
                         (9, no_9),
+                        (23, no_23),
                         (10, part_3.is_none()),
                         (22, no_22),
                     ];
@@ -791,7 +793,18 @@ fn questions_7_19_21_8_9_10_and_22_are_put_in_turn() {
             }
         }
     }
-    numbers.assert_reached([0, 7, 8, 9, 10, 19, 21, 22], 1);
+    numbers.assert_reached([0, 7, 8, 9, 10, 19, 21, 22, 23], 1);
+}
+
+/// No part 6 for P1 with these records, that of its counts, and another one; with what 23
+/// says of it.
+fn counts_of(part_2: &[u8]) -> [(Option<Vec<u8>>, bool); 3] {
+    let mut records = read_records(part_2);
+    records.resize(P1.len(), Record::NEVER);
+    let own = part_6(Edition::First.reel(&P1), &records);
+    let mut other = own.clone();
+    other[0] ^= 1;
+    [(None, false), (Some(own), false), (Some(other), true)]
 }
 
 #[test]

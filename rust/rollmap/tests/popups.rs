@@ -183,7 +183,7 @@ fn many_small_sheets() {
         |marks, popups, seed| {
             let named = NAMED[seed as usize % 3];
             let popups = Some(popups.to_vec());
-            let beyond = Beyond { named, popups };
+            let beyond = Beyond::uncounted(named, popups);
             becomes_scheduled(&beyond, marks);
             if seed < 24 {
                 let records = schedule_by_process(beyond.reel(marks));
@@ -209,10 +209,9 @@ fn many_sheets_full_of_ties() {
             _ => rivals(&mut generator, n),
         };
         let how = generator.choose(&ways);
-        let beyond = Beyond {
-            named: generator.choose(&NAMED),
-            popups: Some(popups(how, &sample, generator.draw())),
-        };
+        let named = generator.choose(&NAMED);
+        let drawn = popups(how, &sample, generator.draw());
+        let beyond = Beyond::uncounted(named, Some(drawn));
         becomes_scheduled(&beyond, &sample);
     }
 }
@@ -273,7 +272,7 @@ fn the_largest_sheets() {
     let sample = marks(Shape::OnePlace, 4_096, 9);
     let popups = Some(popups(Popups::Any, &sample, 9));
     let named = NAMED[2];
-    becomes_scheduled(&Beyond { named, popups }, &sample);
+    becomes_scheduled(&Beyond::uncounted(named, popups), &sample);
 }
 
 #[test]
@@ -285,7 +284,7 @@ fn where_every_popup_is_0_all_is_as_without_part_5_but_for_its_own_bytes() {
             for named in NAMED {
                 let zeros = Some(vec![NO_POPUP; n]);
                 let [bare, popping_up] = [None, zeros].map(|popups| {
-                    let beyond = Beyond { named, popups };
+                    let beyond = Beyond::uncounted(named, popups);
                     rollmap::schedule_to_vec(&beyond.bare(&sample)).unwrap()
                 });
                 assert_eq!(popping_up, with_popups(&bare, &vec![NO_POPUP; n]));
@@ -319,7 +318,7 @@ fn a_schedule_that_is_there_is_replaced_and_part_5_is_kept() {
 fn part_5_of_no_marks_is_kept() {
     for named in NAMED {
         let popups = Some(Vec::new());
-        let beyond = Beyond { named, popups };
+        let beyond = Beyond::uncounted(named, popups);
         becomes_scheduled(&beyond, &[]);
         let empty = rollmap::schedule_to_vec(&beyond.bare(&[])).unwrap();
         assert_eq!(rollmap::part(&empty, Code::Popups), Some(&[][..]));
@@ -477,6 +476,7 @@ fn the_popup_of_either_mark_counts_in_a_record() {
 fn refused_by_every_job(sheet: &[u8], refused: u32) {
     assert_eq!(check(sheet), refused);
     assert_eq!(number(&rollmap::judge(sheet)), refused);
+    assert_eq!(number(&rollmap::count_to_vec(sheet)), refused);
     let answer = &Err::<Vec<u8>, _>(refused);
     for lengths in [[0, 0], longest()] {
         schedule_in(sheet, lengths, rollmap::schedule, answer);
@@ -499,6 +499,7 @@ fn refused_by_every_job(sheet: &[u8], refused: u32) {
     let part = |&code| rollmap::part(sheet, code);
     assert!(Code::ALL.iter().all(|code| part(code).is_none()));
     assert!(rollmap::popups(sheet).is_none());
+    assert!(rollmap::counts(sheet).is_none());
 }
 
 #[test]
@@ -541,7 +542,7 @@ fn every_value_of_every_byte_of_part_5() {
     ] {
         for named in NAMED {
             let popups = Some(popups.to_vec());
-            let mut sheet = Beyond { named, popups }.scheduled(marks);
+            let mut sheet = Beyond::uncounted(named, popups).scheduled(marks);
             let part_5 = 4 * marks.len();
             for at in sheet.len() - part_5..sheet.len() {
                 let own = sheet[at];
@@ -677,10 +678,7 @@ fn take_out(m: usize) -> impl Fn(&[u8], Work<'_>, &mut [u8]) -> Written {
 /// Adds the last of these marks to the others, and takes mark m out of all, with such a
 /// part 4, in buffers that are just long enough, and in shorter ones.
 fn come_and_go(named: Option<Edition>, all: &[Mark], popups: &[u32], m: usize) {
-    let of = |popups: &[u32]| Beyond {
-        named,
-        popups: Some(popups.to_vec()),
-    };
+    let of = |popups: &[u32]| Beyond::uncounted(named, Some(popups.to_vec()));
     let (&last, others) = all.split_last().expect("there is a mark");
     let (&popup, earlier) = popups.split_last().expect("and its popup");
     let (fewer, more) = (of(earlier).scheduled(others), of(popups).scheduled(all));
@@ -766,10 +764,7 @@ fn questions_18_5_6_21_and_13_are_put_in_turn() {
     let line = marks(Shape::Line, 4_096, 5);
     let never = vec![Record::NEVER; 4_096];
     let sheet_of = |n: usize, part_5: bool| {
-        let beyond = Beyond {
-            named: None,
-            popups: part_5.then(|| vec![0; n]),
-        };
+        let beyond = Beyond::uncounted(None, part_5.then(|| vec![0; n]));
         beyond.with_records(&line[..n], &never[..n])
     };
     for part_5 in [false, true] {
@@ -806,10 +801,7 @@ fn questions_18_5_6_21_and_13_are_put_in_turn() {
 #[test]
 fn the_buffers_of_its_own_have_room_for_parts_4_and_5() {
     for named in NAMED {
-        let of = |popups: &[u32]| Beyond {
-            named,
-            popups: Some(popups.to_vec()),
-        };
+        let of = |popups: &[u32]| Beyond::uncounted(named, Some(popups.to_vec()));
         let empty = rollmap::schedule_to_vec(&of(&[]).bare(&[])).unwrap();
         assert_eq!(empty, of(&[]).scheduled(&[]));
         let one = rollmap::add_to_vec(&empty, bound(&P5[0]), 64).unwrap();

@@ -14,10 +14,12 @@ use common::{
     foreign_records, one_part, rivals, scheduled, scheduled_with, some_sheet, three_parts,
     with_named, with_part, with_part_4, with_popups, Beyond, NAMED, PROGRAM,
 };
-use oracle::mark::Mark;
+use oracle::mark::{write_marks, Mark};
 use oracle::rank::Edition::{First, Second};
+use oracle::record::{write_records, Record};
 use oracle::report::{LONGEST_INPUT, MOST_PRINTED};
 use oracle::sample::{marks, popups, Generator, Popups, Shape, P1};
+use oracle::sheet::join;
 
 /// The sheet that `rt` runs the program on, and the text that it must write.
 const KEPT_RUN: &str = concat!(env!("CARGO_MANIFEST_DIR"), "/../../crates/schedule");
@@ -214,10 +216,8 @@ fn a_sheet_is_printed_by_its_own_popups() {
     for how in Popups::ALL {
         for n in [0, 1, 2, 9, 200, MOST_PRINTED] {
             let marks = rivals(&mut generator, n);
-            let beyond = Beyond {
-                named: generator.choose(&NAMED),
-                popups: Some(popups(how, &marks, 1)),
-            };
+            let popups = Some(popups(how, &marks, 1));
+            let beyond = Beyond::uncounted(generator.choose(&NAMED), popups);
             let text = run(&beyond.bare(&marks));
             assert_eq!(text, run(&beyond.scheduled(&marks)));
         }
@@ -239,6 +239,59 @@ fn a_sheet_with_a_damaged_part_5_is_refused() {
         run(&with_part_4(&with_part(&many, 5, &[]), &[0])),
         "refused 19\n"
     );
+}
+
+#[test]
+fn nothing_is_printed_of_the_counts() {
+    let mut generator = Generator::new(18);
+    for n in [0, 1, 2, 9, 200, MOST_PRINTED] {
+        let marks = rivals(&mut generator, n);
+        let beyond = Beyond::draw(&mut generator, &marks);
+        let plain = Beyond {
+            counted: false,
+            ..beyond.clone()
+        };
+        let text = run(&plain.scheduled(&marks));
+        let counted = beyond.counted();
+        assert_eq!(run(&counted.scheduled(&marks)), text);
+        // With a schedule that is not ours, and its counts, too.
+        assert_eq!(run(&counted.bare(&marks)), text);
+    }
+    // All six parts of the most marks that are printed.
+    let marks = marks(Shape::Uniform, MOST_PRINTED, 8);
+    let popups = Some(vec![9; MOST_PRINTED]);
+    let all = Beyond::uncounted(NAMED[2], popups).counted();
+    let sheet = all.scheduled(&marks);
+    assert_eq!(sheet.len(), 62_233);
+    assert!(run(&sheet).starts_with("marks 2000\n"));
+}
+
+#[test]
+fn a_sheet_with_a_damaged_part_6_is_refused() {
+    let two_parts = |marks: &[Mark]| {
+        let never = vec![Record::NEVER; marks.len()];
+        join(&[&write_marks(marks), &write_records(&never)])
+    };
+    for sheet in [two_parts(&P1), scheduled(&P1), scheduled(&[])] {
+        for part_6 in [&[][..], &[0; 168], &[0; 169], &[1; 170], &[0; 171]] {
+            assert_eq!(run(&with_part(&sheet, 6, part_6)), "refused 23\n");
+        }
+    }
+    // Questions 8 and 9 come before it.
+    for (mut sheet, refused) in [
+        (two_parts(&P1), "refused 8\n"),
+        (scheduled(&P1), "refused 9\n"),
+    ] {
+        *sheet.last_mut().unwrap() ^= 1;
+        assert_eq!(run(&with_part(&sheet, 6, &[])), refused);
+    }
+    assert_eq!(run(&with_part(&one_part(&P1), 6, &[0; 170])), "refused 2\n");
+    // Too many marks come after all else.
+    let many = marks(Shape::Grid, MOST_PRINTED + 1, 1);
+    let sheet = two_parts(&many);
+    assert_eq!(run(&with_part(&sheet, 6, &[0; 170])), "refused 23\n");
+    let counted = Beyond::default().counted().bare(&many);
+    assert_eq!(run(&counted), "refused 14\n");
 }
 
 #[test]

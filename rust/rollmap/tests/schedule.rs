@@ -221,13 +221,13 @@ fn refused_sheets_write_nothing() {
         let number = match oracle::sheet::open(&sheet) {
             Ok(opened) => {
                 let expected = Beyond::of(&opened).scheduled(&opened.marks);
-                schedule(&sheet, 2_400, 1_400, Ok(&expected))
+                schedule(&sheet, 2_400, 1_600, Ok(&expected))
             }
-            Err(number) => schedule(&sheet, 2_400, 1_400, Err(number)),
+            Err(number) => schedule(&sheet, 2_400, 1_600, Err(number)),
         };
         numbers.add(number);
     }
-    numbers.assert_reached((0..=9).chain([19, 21]), 100);
+    numbers.assert_reached((0..=9).chain([19, 21, 23]), 100);
 }
 
 #[test]

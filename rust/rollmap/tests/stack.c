@@ -1,5 +1,5 @@
 /* Prints how many bytes of stack each call takes on 4,096 marks of the second edition, which pop
-   up all over: it runs on a stack of which every byte has a known value beforehand. */
+   up all over, and which are counted once there is a schedule: it runs on a stack of which every byte has a known value beforehand. */
 #define _POSIX_C_SOURCE 200809L
 #include <pthread.h>
 #include <stdio.h>
@@ -12,15 +12,17 @@
 #define STACK_BYTES ((size_t)256 * 1024)
 #define OWN_BYTES 256 /* what the painting function itself has below its last local */
 
-/* Bytes of the scheduled sheet of n marks with parts 4 and 5. */
+/* Bytes of the scheduled sheet of n marks with parts 4 and 5, and with part 6. */
 #define WHOLE_BYTES(n) (ROLLMAP_SCHEDULED_BYTES(n) + ROLLMAP_EDITION_BYTES + ROLLMAP_POPUPS_BYTES(n))
+#define COUNTED_BYTES(n) (WHOLE_BYTES(n) + ROLLMAP_COUNTED_BYTES)
 
 static uint8_t marks[N * ROLLMAP_MARK_BYTES];
 static uint8_t popups[N * ROLLMAP_POPUP_BYTES];
 static uint8_t sheet[ROLLMAP_CONTENTS_BYTES(1) + sizeof marks + ROLLMAP_EDITION_BYTES + ROLLMAP_POPUPS_BYTES(N)];
 static uint8_t work[ROLLMAP_WORK_BYTES(N)];
-static uint8_t out[WHOLE_BYTES(N)];
-static uint8_t fewer[WHOLE_BYTES(N - 1)];
+static uint8_t whole[WHOLE_BYTES(N)];
+static uint8_t out[COUNTED_BYTES(N)], again[COUNTED_BYTES(N)];
+static uint8_t fewer[COUNTED_BYTES(N - 1)];
 static uint8_t map[ROLLMAP_MAP_BYTES(N)];
 static uint8_t filled[sizeof marks];
 static uint8_t winder_log[N * ROLLMAP_LOG_RECORD_BYTES];
@@ -38,7 +40,17 @@ static uint32_t assemble(void)
 
 static uint32_t schedule(void)
 {
-    return rollmap_schedule(sheet, sizeof sheet, work, sizeof work, out, sizeof out).number;
+    return rollmap_schedule(sheet, sizeof sheet, work, sizeof work, whole, sizeof whole).number;
+}
+
+static uint32_t count(void)
+{
+    return rollmap_count(whole, sizeof whole, out, sizeof out).number;
+}
+
+static uint32_t schedule_counted(void)
+{
+    return rollmap_schedule(out, sizeof out, work, sizeof work, again, sizeof again).number;
 }
 
 static uint32_t take_out(void)
@@ -116,7 +128,8 @@ static const struct call {
     const char *name;
     uint32_t (*make)(void);
 } calls[] = {
-    {"assemble", assemble},     {"schedule", schedule}, {"take_out", take_out}, {"add", add},
+    {"assemble", assemble},     {"schedule", schedule}, {"count", count},
+    {"schedule_counted", schedule_counted},             {"take_out", take_out}, {"add", add},
     {"check", check},           {"judge", judge},       {"view_stop", view_stop}, {"view_wheel", view_wheel},
     {"walk", walk},             {"is_shown", is_shown}, {"part", part},         {"fill", fill},
     {"marks_to_log", marks_to_log}, {"log_to_marks", log_to_marks},

@@ -8,7 +8,7 @@ use common::views::{
 };
 use common::{
     foreign_records, number, one_part, our_records, scheduled, some_marks, some_records,
-    some_sheet, Beyond, Tally,
+    some_sheet, with_part, Beyond, Tally,
 };
 use oracle::fraction::Removal;
 use oracle::map::{is_set, map_bytes};
@@ -106,7 +106,7 @@ fn a_stop_and_its_wheel_value_give_the_same_of_any_sheet() {
         let number = stops_and_wheel_values(&sheet, rectangle, length);
         numbers.add(number);
     }
-    numbers.assert_reached((0..=10).chain([13, 19, 21]), 20);
+    numbers.assert_reached((0..=10).chain([13, 19, 21, 23]), 20);
 }
 
 #[test]
@@ -230,17 +230,32 @@ fn every_length_of_the_map() {
 }
 
 #[test]
-fn questions_9_to_13_and_20_are_put_in_turn_with_every_turn() {
+fn questions_9_to_13_20_and_23_are_put_in_turn_with_every_turn() {
     let sample = marks(Shape::Grid, 12, 7);
     let whole = scheduled(&sample);
     let mut wrong_tree = whole.clone();
     wrong_tree[32 + 25 * 12] ^= 1;
     let bare = one_part(&sample);
+    let counted = Beyond::default().counted();
+    let (whole_counted, unindexed) = (counted.scheduled(&sample), counted.bare(&sample));
+    let [mut wrong_counts, mut wrong_unindexed] = [whole_counted.clone(), unindexed.clone()];
+    for sheet in [&mut wrong_counts, &mut wrong_unindexed] {
+        *sheet.last_mut().unwrap() ^= 1;
+    }
     let zooms = [
         [Zoom::Stop(3), Zoom::Stop(17)],
         [Zoom::Wheel(0.25), Zoom::Wheel(0.3)],
     ];
-    for (sheet, first) in [(&whole, 0), (&bare, 10), (&wrong_tree, 9)] {
+    for (sheet, first) in [
+        (&whole, 0),
+        (&bare, 10),
+        (&wrong_tree, 9),
+        (&whole_counted, 0),
+        (&unindexed, 10),
+        (&wrong_counts, 23),
+        (&wrong_unindexed, 23),
+        (&with_part(&wrong_tree, 6, &[]), 9),
+    ] {
         for (turn, [taken, refused]) in Turn::ALL
             .into_iter()
             .flat_map(|turn| zooms.map(|zooms| (turn, zooms)))
@@ -395,7 +410,7 @@ fn refused_sheets_write_nothing() {
         let number = view(&sheet, asked, generator.choose(&[0, 1, 6, 6, 6]));
         numbers.add(number);
     }
-    numbers.assert_reached((0..=10).chain([13, 19, 21]), 100);
+    numbers.assert_reached((0..=10).chain([13, 19, 21, 23]), 100);
 }
 
 #[test]

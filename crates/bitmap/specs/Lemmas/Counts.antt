@@ -5,7 +5,7 @@ use mathlib.Core.Bool.{Bool}
 use mathlib.Core.List.{List}
 use native.Mathlib.Nat.{add-zero, add-suc}
 use native.Mathlib.Omega.{arith}
-use Rattle.lists.specs.Tests.{bit}
+use Rattle.lists.specs.Tests.{bit, howMany}
 use Rattle.bitmap.specs.Map.{mapSize, bitAt, countShown}
 use Rattle.bitmap.specs.Facts.{Shows, countBits}
 
@@ -38,7 +38,7 @@ count-bits-le f zero h = omega arith
 count-bits-le f (suc n) h = omega (arith, h n, count-bits-le f n h)
 
 count-bits-marks : (shown : ℕ → Bool) (n : ℕ) → countBits (λ m. bit (shown m)) n ≡ countShown shown n
-unfolding countBits countShown
+unfolding countBits countShown howMany
 count-bits-marks shown zero = refl
 count-bits-marks shown (suc n) = omega (arith, count-bits-marks shown n)
 

@@ -1,4 +1,4 @@
--- `bodies::last_answer` meets its contract: the first of five tests that fails gives the number. Assumes nothing.
+-- `bodies::last_answer` meets its contract: the first of six tests that fails gives the number. Assumes nothing.
 use mathlib.Core.Path.{sym, _∙_}
 use Rattle.lists.specs.TestLaws.{said-no, said-yes}
 use Rattle.contents.specs.Laws.{none-asked, asked-yes, asked-no}
@@ -68,13 +68,20 @@ returns-5 c =
     ∙ asked-yes 19 _ (said-yes (b .before .has-edition .ensures) (b .if2 .left))
     ∙ asked-yes 21 _ (said-yes (d .before .has-popups .ensures) (d .if3 .left))
     ∙ asked-yes 8 _ (said-yes (e .before .has-schedule .ensures) (e .if4 .left))
-    ∙ asked-yes 9 _ (sym (c .before .has-index .ensures) ∙ c .if5 .taken)
-    ∙ none-asked)
+    ∙ asked-no 9 _ (said-no (c .before .has-index .ensures) (c .if5 .taken)))
+
+has-counts-requires : tie.Need-has-counts-requires
+has-counts-requires c κs =
+    let d = c .before .before .before .before in
+    let a = d .before .before .before .before in
+    let p = a .before .before .before .pre in
+    (p .0, (said-yes (a .before .has-sizes .ensures) (a .if1 .left), said-yes (d .before .has-popups .ensures) (d .if3 .left), p .1))
 
 returns-6 : tie.Need-returns-6
 unfolding lastQuestions
 returns-6 c =
-    let e = c .before .before in
+    let f = c .before .before in
+    let e = f .before .before in
     let d = e .before .before in
     let b = d .before .before in
     let a = b .before .before in
@@ -82,7 +89,24 @@ returns-6 c =
     ∙ asked-yes 19 _ (said-yes (b .before .has-edition .ensures) (b .if2 .left))
     ∙ asked-yes 21 _ (said-yes (d .before .has-popups .ensures) (d .if3 .left))
     ∙ asked-yes 8 _ (said-yes (e .before .has-schedule .ensures) (e .if4 .left))
-    ∙ asked-no 9 _ (sym (c .before .has-index .ensures) ∙ c .if5 .left))
+    ∙ asked-yes 9 _ (said-yes (f .before .has-index .ensures) (f .if5 .left))
+    ∙ asked-yes 23 _ (sym (c .before .has-counts .ensures) ∙ c .if6 .taken)
+    ∙ none-asked)
+
+returns-7 : tie.Need-returns-7
+unfolding lastQuestions
+returns-7 c =
+    let f = c .before .before in
+    let e = f .before .before in
+    let d = e .before .before in
+    let b = d .before .before in
+    let a = b .before .before in
+    sym (asked-yes 7 _ (said-yes (a .before .has-sizes .ensures) (a .if1 .left))
+    ∙ asked-yes 19 _ (said-yes (b .before .has-edition .ensures) (b .if2 .left))
+    ∙ asked-yes 21 _ (said-yes (d .before .has-popups .ensures) (d .if3 .left))
+    ∙ asked-yes 8 _ (said-yes (e .before .has-schedule .ensures) (e .if4 .left))
+    ∙ asked-yes 9 _ (said-yes (f .before .has-index .ensures) (f .if5 .left))
+    ∙ asked-no 23 _ (sym (c .before .has-counts .ensures) ∙ c .if6 .left))
 
 pub last-answer-spec : {M : Type 1} → statement M
 last-answer-spec =
@@ -98,4 +122,6 @@ last-answer-spec =
     returns-4
     has-index-requires
     returns-5
-    returns-6)
+    has-counts-requires
+    returns-6
+    returns-7)

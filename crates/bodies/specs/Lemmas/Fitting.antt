@@ -1,9 +1,9 @@
--- Each of questions 4 to 9 decides its statement, so the answer 0 is what Fitting says.
+-- Each of questions 4 to 9, 19, 21 and 23 decides its statement, so the answer 0 is what Fitting says.
 use Prim.Native.Nat.{ℕ, _*_, _%_, _<_, _≤_}
 use mathlib.Core.Path.{_≡_, refl}
 use mathlib.Core.Bool.{Bool, true, false, false≢true}
 use mathlib.Core.List.{List}
-use mathlib.Core.Logic.{_↔_, inr}
+use mathlib.Core.Logic.{_↔_, _⊎_, inl, inr}
 use native.Mathlib.Omega.{arith}
 use lib.Dec.{eqb}
 use lib.ListN.{length}
@@ -15,10 +15,12 @@ use Rattle.marks.specs.PairLaws.{none-good}
 use Rattle.marks.specs.Good.{GoodMark, GoodMarks}
 use Rattle.marks.specs.Laws.{kind-iff, used-bound}
 use Rattle.index.specs.Index.{isIndex}
-use Rattle.contents.specs.Contents.{Part, has, marksPart, schedulePart, indexPart, editionPart, popupsPart}
+use Rattle.counting.specs.Counts.{isCounts, countsOf}
+use Rattle.counting.specs.Laws.{is-counts-iff}
+use Rattle.contents.specs.Contents.{Part, has, marksPart, schedulePart, indexPart, editionPart, popupsPart, countsPart}
 use Rattle.contents.specs.Asking.{answer, ifThere}
 use Rattle.contents.specs.Laws.{none-asked, asked-iff, append-iff, turn-at, turn-of, find-none}
-use Rattle.bodies.specs.Questions.{question4, markCount, fieldQuestions, oneMark, markQuestions, part1Questions, isSchedule, countOf, reelOf, isSized, question7, isEdition, question19, isPopup, isPopups, question21, question8, question9, lastQuestions, bodyQuestions}
+use Rattle.bodies.specs.Questions.{question4, markCount, fieldQuestions, oneMark, markQuestions, part1Questions, isSchedule, countOf, reelOf, isSized, question7, isEdition, question19, isPopup, isPopups, question21, question8, question9, question23, lastQuestions, bodyQuestions}
 use Rattle.bodies.specs.Fitting.{Fitting}
 use Rattle.bodies.specs.Lemmas.Numbered.{one-numbered, part1-numbered}
 
@@ -70,7 +72,7 @@ part1-iff s = (
   )),
 )
 
--- ---- 7 to 9, 19 and 21
+-- ---- 7 to 9, 19, 21 and 23
 
 -- part 4 is one byte
 pub edition-long : (body : List ℕ) → isEdition body ≡ true → length body ≡ 1
@@ -91,6 +93,14 @@ pub popups-good : (parts : List Part) (n : ℕ) → (has parts 5 ≡ true → is
 popups-good parts n right =
     by-cases (has parts 5) (λ e. let h = popups-iff (popupsPart parts) n .0 (right e) in record { sized = inr (h .0); each = h .1 })
     (λ e. rw (find-none parts 5 e) (none-good n))
+
+-- there are enough bytes to be read
+pub popups-enough : {q : List ℕ} {n : ℕ} → GoodPopups q n → (length q ≡ 0) ⊎ (popupSize * n ≤ length q)
+popups-enough {q} {n} good = go (good .sized)
+  where
+    go : (length q ≡ 0) ⊎ (length q ≡ 4 * n) → (length q ≡ 0) ⊎ (4 * n ≤ length q)
+    go (inl e) = inl e
+    go (inr e) = inr (omega (arith, e))
 
 -- a question about a part that may not be there
 there-iff : (there test : Bool) → (ifThere there test ≡ true) ↔ (there ≡ true → test ≡ true)
@@ -118,6 +128,16 @@ pub popups-asked : (parts : List Part) → (question21 parts ≡ true) ↔ (has 
 unfolding question21
 popups-asked parts = there-iff (has parts 5) (isPopups (popupsPart parts) (countOf parts))
 
+-- part 6 is its counts, byte for byte
+counts-asked : (parts : List Part)
+    → (question23 parts ≡ true) ↔ (has parts 6 ≡ true → countsPart parts ≡ countsOf (marksPart parts) (schedulePart parts) (popupsPart parts) (countOf parts))
+unfolding question23
+counts-asked parts =
+    let body = countsPart parts in
+    let there = there-iff (has parts 6) (isCounts body (marksPart parts) (schedulePart parts) (popupsPart parts) (countOf parts)) in
+    let same = is-counts-iff body (marksPart parts) (schedulePart parts) (popupsPart parts) (countOf parts) in
+    ((λ e h. same .0 (there .0 e h)), (λ f. there .1 (λ h. same .1 (f h))))
+
 pub fitting-iff : (parts : List Part) → (answer (bodyQuestions parts) ≡ 0) ↔ Fitting parts
 unfolding bodyQuestions lastQuestions question19 question8 question9
 fitting-iff parts = (there, back)
@@ -137,6 +157,7 @@ fitting-iff parts = (there, back)
         let p = asked-iff 21 (question21 parts) _ (omega arith) .0 (g .1) in
         let d = asked-iff 8 (question8 parts) _ (omega arith) .0 (p .1) in
         let f = asked-iff 9 (question9 parts) _ (omega arith) .0 (d .1) in
+        let h = asked-iff 23 (question23 parts) _ (omega arith) .0 (f .1) in
         record {
           marks = part1-iff (marksPart parts) .0 (b .0) .0;
           marks-long = part1-iff (marksPart parts) .0 (b .0) .1;
@@ -146,6 +167,7 @@ fitting-iff parts = (there, back)
           popups-right = popups-asked parts .0 (p .0);
           schedule-right = there-iff (has parts 2) scheduled .0 (d .0);
           index-right = there-iff (has parts 3) indexed .0 (f .0);
+          counts-right = counts-asked parts .0 (h .0);
         }
 
     back : Fitting parts → answer (bodyQuestions parts) ≡ 0
@@ -160,7 +182,10 @@ fitting-iff parts = (there, back)
                 popups-asked parts .1 (f .popups-right),
                 asked-iff 8 (question8 parts) _ (omega arith) .1 (
                   there-iff (has parts 2) scheduled .1 (f .schedule-right),
-                  asked-iff 9 (question9 parts) _ (omega arith) .1 (there-iff (has parts 3) indexed .1 (f .index-right), none-asked),
+                  asked-iff 9 (question9 parts) _ (omega arith) .1 (
+                    there-iff (has parts 3) indexed .1 (f .index-right),
+                    asked-iff 23 (question23 parts) _ (omega arith) .1 (counts-asked parts .1 (f .counts-right), none-asked),
+                  ),
                 ),
               ),
             ),

@@ -15,4 +15,5 @@ part1-numbered s = (omega arith, turn-numbered (oneMark s) (one-numbered s) (mar
 
 pub bodies-numbered : (parts : List Part) → Numbered (bodyQuestions parts)
 unfolding bodyQuestions lastQuestions
-bodies-numbered parts = numbered-append (part1Questions _) _ (part1-numbered _) (omega arith, (omega arith, (omega arith, (omega arith, (omega arith, tt)))))
+bodies-numbered parts = numbered-append (part1Questions _) _ (part1-numbered _)
+    (omega arith, (omega arith, (omega arith, (omega arith, (omega arith, (omega arith, tt))))))

@@ -1,12 +1,13 @@
 -- Parts that pass questions 2 and 4 to 9 are small: no body has more than 14 bytes a mark.
 use Prim.Native.Nat.{ℕ, zero, suc, _*_, _<_, _≤_}
-use mathlib.Core.Path.{_≡_}
+use mathlib.Core.Path.{_≡_, ap, _∙_}
 use mathlib.Core.Bool.{true}
 use mathlib.Core.List.{List, []}
 use native.Mathlib.Omega.{arith}
 use lib.ListN.{length, getD, length-map}
 use Rattle.lists.specs.TestLaws.{by-cases}
-use Rattle.contents.specs.Contents.{Part, codesOf, bodiesOf, has, find, editionPart, popupsPart, Writable}
+use Rattle.counting.specs.Laws.{counts-length}
+use Rattle.contents.specs.Contents.{Part, codesOf, bodiesOf, has, find, marksPart, schedulePart, editionPart, popupsPart, Writable}
 use Rattle.contents.specs.Questions.{topCode, codesRight}
 use Rattle.contents.specs.Laws.{codes-few, codes-positive, codes-most, find-none, find-own, chain-most, join-length}
 use Rattle.bodies.specs.Questions.{countOf}
@@ -30,7 +31,9 @@ module _ (parts : List Part) (fits : Fitting parts) where
   part-small (suc (suc (suc (suc zero)))) some few = if-there 4 1 (omega arith) (λ e. edition-long (editionPart parts) (fits .edition-right e))
   part-small (suc (suc (suc (suc (suc zero))))) some few =
       if-there 5 (4 * countOf parts) (omega (arith, fits .marks .few)) (λ e. popups-iff (popupsPart parts) (countOf parts) .0 (fits .popups-right e) .0)
-  part-small (suc (suc (suc (suc (suc (suc code)))))) some few = absurd (omega arith)
+  part-small (suc (suc (suc (suc (suc (suc zero)))))) some few =
+      if-there 6 170 (omega arith) (λ e. ap length (fits .counts-right e) ∙ counts-length (marksPart parts) (schedulePart parts) (popupsPart parts) (countOf parts))
+  part-small (suc (suc (suc (suc (suc (suc (suc code))))))) some few = absurd (omega arith)
 
   pub fitting-writable : codesRight (codesOf parts) ≡ true → Writable parts
   fitting-writable right =

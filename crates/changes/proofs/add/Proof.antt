@@ -67,6 +67,9 @@ part4 c = let e = c .before .before .before .before .before .before .before .bef
 part5 : (c : tie.After-part3) → now (c .part3 .result) ≡ popupsPart (split (given (c .before .before .before .before .before .before .before .before .before .before .before .before .before .before .before .before .before)))
 part5 c = let e = c .before .before .before .before .before .before .before .before .before .before .before .before in c .part3 .ensures ∙ layout-part _ (accepted e) (indexed-layout _ (e .before .indexed .ensures) (indexed e)) 5
 
+there6 : (c : tie.After-is-there2) → c .is-there2 .result ≡ has (split (given (c .before .before .before .before .before .before .before .before .before .before .before .before .before .before .before .before .before .before .before .before .before))) 6
+there6 c = let e = c .before .before .before .before .before .before .before .before .before .before .before .before .before .before .before .before in c .is-there2 .ensures ∙ layout-there _ (accepted e) (indexed-layout _ (e .before .indexed .ensures) (indexed e)) 6
+
 -- the bytes of the new mark, as they were told
 last-is : (c : tie.After-mark-bytes) → c .mark-bytes .result ≡ markBytes (mark (c .before .before .before .before .before .before .before .before .before .before .before .before .before .before))
 last-is c =
@@ -111,7 +114,7 @@ returns : tie.Need-returns
 returns c =
     let b = c .before .before .before .before .before .before in
     add-whole (given b) (mark b) (b .args .popup) (λ i. c .before .before .before .before .before .shared-slice-known .given i .fits) (fit b) _ _
-    (stopped (addChecks (given b) (mark b) (b .args .popup)) (add-numbered (given b) (mark b) (b .args .popup)) _ _ _ _
+    (stopped (addChecks (given b) (mark b) (b .args .popup)) (add-numbered (given b) (mark b) (b .args .popup)) _ _ _ _ _
     (add-refused (given b) (mark b) (b .args .popup) (indexed-number _ (c .before .before .indexed .ensures)) (omega (arith, c .before .if1 .taken))) (omega (arith, c .before .if1 .taken)) (c .refused .ensures))
     (record { long = refl; refused = λ h. refl })
 
@@ -126,7 +129,7 @@ returns-2 c =
     let b = c .before .before .before .before .before .before .before .before .before in
     let full : 4096 ≤ sheetCount (given b) = omega (arith, count (c .before .before), c .before .if2 .taken) in
     add-whole (given b) (mark b) (b .args .popup) (λ i. c .before .before .before .before .before .before .before .before .shared-slice-known .given i .fits) (fit b) _ _
-    (stopped (addChecks (given b) (mark b) (b .args .popup)) (add-numbered (given b) (mark b) (b .args .popup)) _ _ _ _
+    (stopped (addChecks (given b) (mark b) (b .args .popup)) (add-numbered (given b) (mark b) (b .args .popup)) _ _ _ _ _
     (add-full (given b) (mark b) (b .args .popup) (indexed (c .before .before .before .before)) full) (omega arith) (c .refused2 .ensures))
     (record { long = refl; refused = λ h. refl })
 
@@ -140,7 +143,7 @@ returns-3 : tie.Need-returns-3
 returns-3 c =
     let b = c .before .before .before .before .before .before .before .before .before .before .before in
     add-whole (given b) (mark b) (b .args .popup) (λ i. c .before .before .before .before .before .before .before .before .before .before .shared-slice-known .given i .fits) (fit b) _ _
-    (stopped (addChecks (given b) (mark b) (b .args .popup)) (add-numbered (given b) (mark b) (b .args .popup)) _ _ _ _
+    (stopped (addChecks (given b) (mark b) (b .args .popup)) (add-numbered (given b) (mark b) (b .args .popup)) _ _ _ _ _
     (add-fields (given b) (mark b) (b .args .popup) (indexed (c .before .before .before .before .before .before)) (few (c .before .before .before)) (c .before .before .fields-answer .ensures) (omega (arith, c .before .if3 .taken)))
     (omega (arith, c .before .if3 .taken)) (c .refused3 .ensures))
     (record { long = refl; refused = λ h. refl })
@@ -158,7 +161,7 @@ returns-4 : tie.Need-returns-4
 returns-4 c =
     let b = c .before .before .before .before .before .before .before .before .before .before .before .before .before .before in
     add-whole (given b) (mark b) (b .args .popup) (λ i. c .before .before .before .before .before .before .before .before .before .before .before .before .before .shared-slice-known .given i .fits) (fit b) _ _
-    (stopped (addChecks (given b) (mark b) (b .args .popup)) (add-numbered (given b) (mark b) (b .args .popup)) _ _ _ _
+    (stopped (addChecks (given b) (mark b) (b .args .popup)) (add-numbered (given b) (mark b) (b .args .popup)) _ _ _ _ _
     (add-popup (given b) (mark b) (b .args .popup) (indexed (c .before .before .before .before .before .before .before .before .before)) (few (c .before .before .before .before .before .before)) (sym (c .before .before .before .before .before .fields-answer .ensures) ∙ c .before .before .before .before .if3 .left)
     (popup-no (given b) (b .args .popup) (said-no (popup-asked (c .before .before)) (c .before .if4 .taken)))) (omega arith) (c .refused4 .ensures))
     (record { long = refl; refused = λ h. refl })
@@ -184,16 +187,19 @@ slice-aggregate-row-if c = search needs
 row-if-requires : tie.Need-row-if-requires
 row-if-requires c κs = search needs
 
+is-there-requires-2 : tie.Need-is-there-requires-2
+is-there-requires-2 c κs = search needs
+
 add-schedule-marks : tie.Need-add-schedule-marks
 add-schedule-marks c = search needs
 
 schedule-marks-requires : tie.Need-schedule-marks-requires
 schedule-marks-requires c κs =
-    let b = c .before .before .before .before .before .before .before .before .before .before .before .before .before .before .before .before .before .before .before .before .before .before in
-    let ok = all (c .before .before .before .before .before .before .before .before .before) in
-    let bytes : Bytes (given b) = λ i. c .before .before .before .before .before .before .before .before .before .before .before .before .before .before .before .before .before .before .before .before .before .shared-slice-known .given i .fits in
-    let lent = add-lent (given b) (mark b) (b .args .popup) bytes (fit b) ok (part1 (c .before .before .before .before .before .before .before .before .before .before .before .before .before .before .before)) (last-is (c .before .before .before .before .before .before .before .before)) in
-    (lent .0, lent .1, rw (part4 (c .before .before .before .before .before .before)) (edition-short _ (accepted (c .before .before .before .before .before .before .before .before .before .before .before .before .before .before .before .before .before))), rw (there5 (c .before .before .before .before .before .before .before .before .before .before .before), popups-are (c .before .before), count (c .before .before .before .before .before .before .before .before .before .before .before .before .before .before .before)) (add-popups-lent (given b) (mark b) (b .args .popup) bytes (fit b) ok))
+    let b = c .before .before .before .before .before .before .before .before .before .before .before .before .before .before .before .before .before .before .before .before .before .before .before in
+    let ok = all (c .before .before .before .before .before .before .before .before .before .before) in
+    let bytes : Bytes (given b) = λ i. c .before .before .before .before .before .before .before .before .before .before .before .before .before .before .before .before .before .before .before .before .before .before .shared-slice-known .given i .fits in
+    let lent = add-lent (given b) (mark b) (b .args .popup) bytes (fit b) ok (part1 (c .before .before .before .before .before .before .before .before .before .before .before .before .before .before .before .before)) (last-is (c .before .before .before .before .before .before .before .before .before)) in
+    (lent .0, lent .1, rw (part4 (c .before .before .before .before .before .before .before)) (edition-short _ (accepted (c .before .before .before .before .before .before .before .before .before .before .before .before .before .before .before .before .before .before))), rw (there5 (c .before .before .before .before .before .before .before .before .before .before .before .before), popups-are (c .before .before .before), count (c .before .before .before .before .before .before .before .before .before .before .before .before .before .before .before .before)) (add-popups-lent (given b) (mark b) (b .args .popup) bytes (fit b) ok))
 
 same-length : tie.Need-same-length
 same-length c = search needs
@@ -204,13 +210,13 @@ same-length-2 c = search needs
 returns-5 : tie.Need-returns-5
 unfolding added
 returns-5 c =
-    let p = c .before .before .before .before .before .before .before in
-    let b = c .before .before .before .before .before .before .before .before .before .before .before .before .before .before .before .before .before .before .before .before .before .before .before .before .before .before .before in
+    let p = c .before .before .before .before .before .before .before .before in
+    let b = c .before .before .before .before .before .before .before .before .before .before .before .before .before .before .before .before .before .before .before .before .before .before .before .before .before .before .before .before in
     let k = b .args .popup in
-    add-whole (given b) (mark b) k (λ i. c .before .before .before .before .before .before .before .before .before .before .before .before .before .before .before .before .before .before .before .before .before .before .before .before .before .before .shared-slice-known .given i .fits) (fit b) _ _
-    (once-passed (addChecks (given b) (mark b) k) (add-numbered (given b) (mark b) k) (all (c .before .before .before .before .before .before .before .before .before .before .before .before .before .before)) _
-    (ap₂ _++_ (part1 (c .before .before .before .before .before .before .before .before .before .before .before .before .before .before .before .before .before .before .before .before)) (last-is (c .before .before .before .before .before .before .before .before .before .before .before .before .before)))
-    (carried-lent _ (accepted (c .before .before .before .before .before .before .before .before .before .before .before .before .before .before .before .before .before .before .before .before .before .before)) (λ q. addedPopup q k) (part4 (c .before .before .before .before .before .before .before .before .before .before .before)) (there5 (c .before .before .before .before .before .before .before .before .before .before .before .before .before .before .before .before)) (more p)) (c .before .before .before .before .schedule-marks .ensures .0))
+    add-whole (given b) (mark b) k (λ i. c .before .before .before .before .before .before .before .before .before .before .before .before .before .before .before .before .before .before .before .before .before .before .before .before .before .before .before .shared-slice-known .given i .fits) (fit b) _ _
+    (once-passed (addChecks (given b) (mark b) k) (add-numbered (given b) (mark b) k) (all (c .before .before .before .before .before .before .before .before .before .before .before .before .before .before .before)) _
+    (ap₂ _++_ (part1 (c .before .before .before .before .before .before .before .before .before .before .before .before .before .before .before .before .before .before .before .before .before)) (last-is (c .before .before .before .before .before .before .before .before .before .before .before .before .before .before)))
+    (carried-lent _ (accepted (c .before .before .before .before .before .before .before .before .before .before .before .before .before .before .before .before .before .before .before .before .before .before .before)) (λ q. addedPopup q k) (part4 (c .before .before .before .before .before .before .before .before .before .before .before .before)) (there5 (c .before .before .before .before .before .before .before .before .before .before .before .before .before .before .before .before .before)) (more p)) (there6 (c .before .before .before .before .before .before .before)) (c .before .before .before .before .schedule-marks .ensures .0))
     (c .before .before .before .before .schedule-marks .ensures .1)
 
 pub add-spec : {M : Type 1} → statement M
@@ -237,6 +243,7 @@ add-spec =
     slice-aggregate-schedule-marks
     slice-aggregate-row-if
     row-if-requires
+    is-there-requires-2
     add-schedule-marks
     schedule-marks-requires
     same-length

@@ -49,6 +49,9 @@ there5 c = let e = c .before .before .before .before .before in c .is-there .ens
 part5 : (c : tie.After-part3) → now (c .part3 .result) ≡ popupsPart (split (given (c .before .before .before .before .before .before .before .before .before .before .before)))
 part5 c = let e = c .before .before .before .before .before .before in c .part3 .ensures ∙ layout-part _ (accepted e) (indexed-layout _ (e .before .indexed .ensures) (indexed e)) 5
 
+there6 : (c : tie.After-is-there2) → c .is-there2 .result ≡ has (split (given (c .before .before .before .before .before .before .before .before .before .before .before .before .before .before .before .before))) 6
+there6 c = let e = c .before .before .before .before .before .before .before .before .before .before .before in c .is-there2 .ensures ∙ layout-there _ (accepted e) (indexed-layout _ (e .before .indexed .ensures) (indexed e)) 6
+
 -- 17 was answered with yes
 all : (c : tie.Else2) → answer (takeOutChecks (given (c .before .before .before .before .before .before .before .before)) (c .before .before .before .before .before .before .before .before .args .m)) ≡ 0
 all c =
@@ -68,7 +71,7 @@ left-popups c = lent-pieces 4 (c .before .before .before .before .before .before
 whole : (s : List ℕ) (m work : ℕ) {before out w w′ : List ℕ} {r : Answer} → Bytes s → Gives (takeOutJob s m work (length before)) before r out
     → Lent r w w′
     → Gives (takeOutJob s m work (length before)) before r out
-    × (Lent r w w′ × Meets (takenOut (marksPart (split s)) m) (carried (split s) (λ q. takenOutPopup q m)) r out)
+    × (Lent r w w′ × Meets (takenOut (marksPart (split s)) m) (carried (split s) (λ q. takenOutPopup q m)) (has (split s) 6) r out)
 whole s m work {before} bytes gives lent = (gives, (lent, take-out-meets s m bytes work before gives))
 
 indexed-requires : tie.Need-indexed-requires
@@ -81,7 +84,7 @@ returns : tie.Need-returns
 returns c =
     let b = c .before .before .before .before .before .before in
     whole (given b) (b .args .m) _ (λ i. c .before .before .before .before .before .shared-slice-known .given i .fits)
-    (stopped (takeOutChecks (given b) (b .args .m)) (take-out-numbered (given b) (b .args .m)) _ _ _ _
+    (stopped (takeOutChecks (given b) (b .args .m)) (take-out-numbered (given b) (b .args .m)) _ _ _ _ _
     (take-out-refused (given b) (b .args .m) (indexed-number _ (c .before .before .indexed .ensures)) (omega (arith, c .before .if1 .taken))) (omega (arith, c .before .if1 .taken)) (c .refused .ensures))
     (record { long = refl; refused = λ h. refl })
 
@@ -96,7 +99,7 @@ returns-2 c =
     let b = c .before .before .before .before .before .before .before .before .before in
     let none : sheetCount (given b) ≤ b .args .m = omega (arith, count (c .before .before), c .before .if2 .taken) in
     whole (given b) (b .args .m) _ (λ i. c .before .before .before .before .before .before .before .before .shared-slice-known .given i .fits)
-    (stopped (takeOutChecks (given b) (b .args .m)) (take-out-numbered (given b) (b .args .m)) _ _ _ _
+    (stopped (takeOutChecks (given b) (b .args .m)) (take-out-numbered (given b) (b .args .m)) _ _ _ _ _
     (take-out-none (given b) (b .args .m) (indexed (c .before .before .before .before)) none) (omega arith) (c .refused2 .ensures))
     (record { long = refl; refused = λ h. refl })
 
@@ -121,18 +124,21 @@ before-requires-2 c κs = search needs
 behind-requires-2 : tie.Need-behind-requires-2
 behind-requires-2 c κs = search needs
 
+is-there-requires-2 : tie.Need-is-there-requires-2
+is-there-requires-2 c κs = search needs
+
 sub-schedule-marks : tie.Need-sub-schedule-marks
 sub-schedule-marks c = search needs
 
 schedule-marks-requires : tie.Need-schedule-marks-requires
 schedule-marks-requires c κs =
-    let b = c .before .before .before .before .before .before .before .before .before .before .before .before .before .before .before .before .before in
+    let b = c .before .before .before .before .before .before .before .before .before .before .before .before .before .before .before .before .before .before in
     let m = b .args .m in
-    let ok = all (c .before .before .before .before .before .before .before .before .before) in
-    let bytes : Bytes (given b) = λ i. c .before .before .before .before .before .before .before .before .before .before .before .before .before .before .before .before .shared-slice-known .given i .fits in
-    let lent = take-out-lent (given b) m bytes ok (left (c .before .before .before .before)) in
-    rw (count (c .before .before .before .before .before .before .before .before .before .before), part4 (c .before .before .before .before .before .before .before .before), there5 (c .before .before .before .before .before .before .before), left-popups (c .before .before))
-    (lent .0, lent .1, edition-short _ (accepted (c .before .before .before .before .before .before .before .before .before .before .before .before)), take-out-popups-lent (given b) m bytes ok)
+    let ok = all (c .before .before .before .before .before .before .before .before .before .before) in
+    let bytes : Bytes (given b) = λ i. c .before .before .before .before .before .before .before .before .before .before .before .before .before .before .before .before .before .shared-slice-known .given i .fits in
+    let lent = take-out-lent (given b) m bytes ok (left (c .before .before .before .before .before)) in
+    rw (count (c .before .before .before .before .before .before .before .before .before .before .before), part4 (c .before .before .before .before .before .before .before .before .before), there5 (c .before .before .before .before .before .before .before .before), left-popups (c .before .before .before))
+    (lent .0, lent .1, edition-short _ (accepted (c .before .before .before .before .before .before .before .before .before .before .before .before .before)), take-out-popups-lent (given b) m bytes ok)
 
 same-length : tie.Need-same-length
 same-length c = search needs
@@ -142,13 +148,13 @@ same-length-2 c = search needs
 
 returns-3 : tie.Need-returns-3
 returns-3 c =
-    let p = c .before .before .before .before .before .before .before in
-    let b = c .before .before .before .before .before .before .before .before .before .before .before .before .before .before .before .before .before .before .before .before .before .before in
+    let p = c .before .before .before .before .before .before .before .before in
+    let b = c .before .before .before .before .before .before .before .before .before .before .before .before .before .before .before .before .before .before .before .before .before .before .before in
     let m = b .args .m in
-    whole (given b) m _ (λ i. c .before .before .before .before .before .before .before .before .before .before .before .before .before .before .before .before .before .before .before .before .before .shared-slice-known .given i .fits)
-    (once-passed (takeOutChecks (given b) m) (take-out-numbered (given b) m) (all (c .before .before .before .before .before .before .before .before .before .before .before .before .before .before)) _ (left (p .before .before))
-    (carried-lent _ (accepted (c .before .before .before .before .before .before .before .before .before .before .before .before .before .before .before .before .before)) (λ q. takenOutPopup q m) (part4 (p .before .before .before .before .before .before)) (there5 (p .before .before .before .before .before)) (λ t. left-popups p))
-    (c .before .before .before .before .schedule-marks .ensures .0)) (c .before .before .before .before .schedule-marks .ensures .1)
+    whole (given b) m _ (λ i. c .before .before .before .before .before .before .before .before .before .before .before .before .before .before .before .before .before .before .before .before .before .before .shared-slice-known .given i .fits)
+    (once-passed (takeOutChecks (given b) m) (take-out-numbered (given b) m) (all (c .before .before .before .before .before .before .before .before .before .before .before .before .before .before .before)) _ (left (p .before .before))
+    (carried-lent _ (accepted (c .before .before .before .before .before .before .before .before .before .before .before .before .before .before .before .before .before .before)) (λ q. takenOutPopup q m) (part4 (p .before .before .before .before .before .before)) (there5 (p .before .before .before .before .before)) (λ t. left-popups p))
+    (there6 (c .before .before .before .before .before .before .before)) (c .before .before .before .before .schedule-marks .ensures .0)) (c .before .before .before .before .schedule-marks .ensures .1)
 
 pub take-out-spec : {M : Type 1} → statement M
 take-out-spec =
@@ -167,6 +173,7 @@ take-out-spec =
     behind-requires
     before-requires-2
     behind-requires-2
+    is-there-requires-2
     sub-schedule-marks
     schedule-marks-requires
     same-length

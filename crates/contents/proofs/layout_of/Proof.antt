@@ -22,6 +22,7 @@ before s i =
       index = placeBefore s i 3;
       edition = placeBefore s i 4;
       popups = placeBefore s i 5;
+      counts = placeBefore s i 6;
     }
 
 abbrev Inv-loop : tie.InvT-loop

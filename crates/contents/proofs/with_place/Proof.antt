@@ -19,9 +19,19 @@ returns-5 : tie.Need-returns-5
 returns-5 c = rw (c .match .keys5)
 
 returns-6 : tie.Need-returns-6
-returns-6 c =
+returns-6 c = rw (c .match .keys6)
+
+returns-7 : tie.Need-returns-7
+returns-7 c =
     let none = c .match .rest in
-    rw (ne-eqb _ 1 (none .0 .0 .0 .0 .1), ne-eqb _ 2 (none .0 .0 .0 .1), ne-eqb _ 3 (none .0 .0 .1), ne-eqb _ 4 (none .0 .1), ne-eqb _ 5 (none .1))
+    rw (
+      ne-eqb _ 1 (none .0 .0 .0 .0 .0 .1),
+      ne-eqb _ 2 (none .0 .0 .0 .0 .1),
+      ne-eqb _ 3 (none .0 .0 .0 .1),
+      ne-eqb _ 4 (none .0 .0 .1),
+      ne-eqb _ 5 (none .0 .1),
+      ne-eqb _ 6 (none .1),
+    )
 
 pub with-place-spec : {M : Type 1} → statement M
-with-place-spec = tie.close (tie.spec returns returns-2 returns-3 returns-4 returns-5 returns-6)
+with-place-spec = tie.close (tie.spec returns returns-2 returns-3 returns-4 returns-5 returns-6 returns-7)

@@ -9,13 +9,15 @@ use mathlib.Core.Logic.{_↔_, _⊎_, inl, inr}
 use native.Mathlib.Decide.{decLt, ℕ-discrete}
 use native.Mathlib.Numerals.{add-one}
 use native.Mathlib.Omega.{arith}
-use lib.Dec.{ltb, leb}
+use lib.Dec.{ltb, leb, eqb}
 use lib.ListN.{length, getD, drop, length-map, drop-of-length-le}
 use lib.Seq.{drop-cons}
-use borrow.Author.Tests.{ltb-true, leb-true, lt-ltb, le-ltb, le-leb, lt-leb, eq-eqb, ne-eqb}
-use Rattle.contents.specs.Contents.{Part, _holds_, codesOf, bodiesOf, names, has, find}
+use borrow.Author.Tests.{ltb-true, ltb-false, leb-true, lt-ltb, le-ltb, le-leb, lt-leb, eqb-true, eqb-false, eq-eqb, ne-eqb}
+use Rattle.contents.specs.Contents.{Part, _holds_, codesOf, bodiesOf, names, has, find, withPart}
+use Rattle.contents.specs.Asking.{ifThere}
 use Rattle.contents.specs.Questions.{topCode, rising, codesRight}
-use Rattle.lists.specs.TestLaws.{both-iff}
+use Rattle.lists.specs.TestLaws.{by-cases, both-iff}
+use Rattle.contents.specs.Lemmas.Parts.{with-there, with-other-there}
 
 -- ---- rising codes
 
@@ -73,6 +75,13 @@ module _ (low : ℕ) (codes : List ℕ) (i : ℕ) where
 
 -- ---- codes that are right
 
+-- beside part 2 parts 3 and 6 may be there or not
+pub beside-two : (three six : Bool) → ifThere three true && ifThere six true ≡ true
+beside-two true true = refl
+beside-two true false = refl
+beside-two false true = refl
+beside-two false false = refl
+
 module _ (codes : List ℕ) (right : codesRight codes ≡ true) where
   is-rising : rising 0 codes ≡ true
   unfolding codesRight
@@ -82,9 +91,16 @@ module _ (codes : List ℕ) (right : codesRight codes ≡ true) where
   unfolding codesRight
   one-there = both-iff (names codes 1) _ .0 (both-iff (rising 0 codes) _ .0 right .1) .0
 
-  pub two-there : names codes 3 ≡ true → names codes 2 ≡ true
+  -- parts 3 and 6, where they are there, are with part 2
+  with-two : (ifThere (names codes 3) (names codes 2) ≡ true) × (ifThere (names codes 6) (names codes 2) ≡ true)
   unfolding codesRight
-  two-there e = rw e at (both-iff (names codes 1) _ .0 (both-iff (rising 0 codes) _ .0 right .1) .1)
+  with-two = both-iff _ _ .0 (both-iff (names codes 1) _ .0 (both-iff (rising 0 codes) _ .0 right .1) .1)
+
+  pub two-there : names codes 3 ≡ true → names codes 2 ≡ true
+  two-there e = rw e at (with-two .0)
+
+  pub six-with-two : names codes 6 ≡ true → names codes 2 ≡ true
+  six-with-two e = rw e at (with-two .1)
 
   pub codes-some : 1 ≤ length codes
   codes-some = some codes one-there
@@ -220,3 +236,42 @@ rising-order-all low (suc k) (p ∷ parts) t e =
 
 pub in-order : (parts : List Part) → codesRight (codesOf parts) ≡ true → parts ≡ inOrder 1 topCode parts
 in-order parts right = rising-order-all 0 topCode parts (omega arith) (is-rising (codesOf parts) right)
+
+-- ---- a body under a code
+
+module _ (code : ℕ) (body : List ℕ) (within : code ≤ topCode) where
+  with-rising : (low : ℕ) (parts : List Part) → low < code → rising low (codesOf parts) ≡ true → rising low (codesOf (withPart code body parts)) ≡ true
+  with-rising low [] h e = rw (lt-ltb low code h, le-leb code topCode within)
+  with-rising low (p ∷ parts) h e =
+      let r = rises low (p .code) (codesOf parts) e in
+      by-cases (ltb (p .code) code)
+      (λ b.
+      rw (b, lt-ltb low (p .code) (r .above), le-leb (p .code) topCode (r .within))
+      (with-rising (p .code) parts (ltb-true (p .code) code b) (r .rest)))
+      (λ b.
+      by-cases (eqb (p .code) code)
+      (λ q.
+      rw (b, q, lt-ltb low code h, le-leb code topCode within, ← eqb-true (p .code) code q) (r .rest))
+      (λ q.
+      rw (b, q, lt-ltb low code h, le-leb code topCode within, lt-ltb code (p .code) (later p b q), le-leb (p .code) topCode (r .within)) (r .rest)))
+    where
+      later : (p : Part) → ltb (p .code) code ≡ false → eqb (p .code) code ≡ false → code < p .code
+      later p b q = omega (arith, ltb-false (p .code) code b, eqb-false (p .code) code q)
+
+  with-kept : (parts : List Part) (other : ℕ) → has parts other ≡ true → has (withPart code body parts) other ≡ true
+  with-kept parts other e =
+      by-cases (eqb code other)
+      (λ q. rw (← eqb-true code other q) (with-there code body parts))
+      (λ q. with-other-there code body other q parts ∙ e)
+
+  -- Beside part 2 any of the codes may stand.
+  pub with-right : (parts : List Part) → 0 < code → has parts 2 ≡ true → codesRight (codesOf parts) ≡ true
+      → codesRight (codesOf (withPart code body parts)) ≡ true
+  unfolding codesRight
+  with-right parts some two right =
+      rw (
+        with-rising 0 parts some (is-rising (codesOf parts) right),
+        with-kept parts 1 (one-there (codesOf parts) right),
+        with-kept parts 2 two,
+      )
+      (beside-two (has (withPart code body parts) 3) (has (withPart code body parts) 6))

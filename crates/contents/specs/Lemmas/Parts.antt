@@ -3,17 +3,18 @@ use Prim.Native.Nat.{ℕ, zero, suc, _+_, _*_, _<_, _≤_}
 use mathlib.Core.Path.{_≡_, refl, sym, ap, _∙_}
 use mathlib.Core.Bool.{Bool, true, false, cond, _||_}
 use mathlib.Core.List.{List, [], _∷_, _++_}
-use lib.Dec.{eqb}
+use lib.Dec.{ltb, eqb}
 use native.Mathlib.Decide.{decLt}
 use native.Mathlib.Nat.{mul-suc}
 use native.Mathlib.Numerals.{add-one}
 use native.Mathlib.Omega.{arith}
-use borrow.Author.Tests.{eq-eqb, ne-eqb}
+use borrow.Author.Tests.{ltb-true, eqb-true, eq-eqb, ne-eqb}
 use lib.ListN.{length, getD, take, drop, length-append, drop-of-length-le, List·getD-append}
 use lib.Seq.{drop-cons, drop-append-add, take-append-seam, getD-at}
+use Rattle.lists.specs.TestLaws.{by-cases}
 use Rattle.numbers.specs.Little.{Bytes}
 use Rattle.numbers.specs.Laws.{bytes-take, bytes-drop}
-use Rattle.contents.specs.Contents.{Part, _holds_, codesOf, bodiesOf, find, names, has, countAt, codeAt, offsetAt, lengthAt, bodyAt, firstParts, split, chain, together}
+use Rattle.contents.specs.Contents.{Part, _holds_, codesOf, bodiesOf, find, names, has, withPart, countAt, codeAt, offsetAt, lengthAt, bodyAt, firstParts, split, chain, together}
 
 -- ---- `split`
 
@@ -166,6 +167,42 @@ find-none (p ∷ parts) code e = go (eqb (p .code) code) (find-none parts code) 
     go : (b : Bool) → (has parts code ≡ false → find parts code ≡ []) → b || has parts code ≡ false → cond b (p .body) (find parts code) ≡ []
     go true none e = absurd (let z : _≡_ {A = ℕ} 0 1 = cc in omega arith)
     go false none e = none e
+
+-- ---- a body under a code
+
+module _ (code : ℕ) (body : List ℕ) where
+  pub with-found : (parts : List Part) → find (withPart code body parts) code ≡ body
+  with-found [] = rw (eq-eqb code code refl)
+  with-found (p ∷ parts) =
+      by-cases (ltb (p .code) code)
+      (λ b. rw (b, ne-eqb (p .code) code (λ e. omega (arith, ltb-true (p .code) code b))) (with-found parts))
+      (λ b. rw (b, eq-eqb code code refl))
+
+  pub with-there : (parts : List Part) → has (withPart code body parts) code ≡ true
+  with-there [] = rw (eq-eqb code code refl)
+  with-there (p ∷ parts) =
+      by-cases (ltb (p .code) code)
+      (λ b. rw (b, ne-eqb (p .code) code (λ e. omega (arith, ltb-true (p .code) code b))) (with-there parts))
+      (λ b. rw (b, eq-eqb code code refl))
+
+  -- another code: a part that gives way has this one
+  module _ (other : ℕ) (apart : eqb code other ≡ false) where
+    gone : (p : Part) → eqb (p .code) code ≡ true → eqb (p .code) other ≡ false
+    gone p e = rw (eqb-true (p .code) code e) apart
+
+    pub with-other-found : (parts : List Part) → find (withPart code body parts) other ≡ find parts other
+    with-other-found [] = rw apart
+    with-other-found (p ∷ parts) =
+        by-cases (ltb (p .code) code)
+        (λ b. rw (b, with-other-found parts))
+        (λ b. by-cases (eqb (p .code) code) (λ e. rw (b, apart, e, gone p e)) (λ e. rw (b, apart, e)))
+
+    pub with-other-there : (parts : List Part) → has (withPart code body parts) other ≡ has parts other
+    with-other-there [] = rw apart
+    with-other-there (p ∷ parts) =
+        by-cases (ltb (p .code) code)
+        (λ b. rw (b, with-other-there parts))
+        (λ b. by-cases (eqb (p .code) code) (λ e. rw (b, apart, e, gone p e)) (λ e. rw (b, apart, e)))
 
 -- ---- the parts of a list of bytes
 

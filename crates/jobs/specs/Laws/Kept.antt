@@ -2,31 +2,33 @@
 use Prim.Native.Nat.{ℕ, zero, suc, _+_, _*_, _<_, _≤_}
 use mathlib.Core.Path.{_≡_, refl, sym, ap, _∙_}
 use mathlib.Core.Bool.{Bool, true, false, cond, true≢false, false≢true}
-use mathlib.Core.List.{List, [], _∷_, append-nil}
+use mathlib.Core.List.{List, [], _∷_, _++_, append-nil}
 use native.Mathlib.Omega.{arith}
+use lib.Dec.{eqb}
 use lib.ListN.{length, getD, length-append}
 use Rattle.lists.specs.TestLaws.{by-cases}
 use Rattle.numbers.specs.Little.{Bytes}
 use Rattle.marks.specs.Good.{GoodMarks}
 use Rattle.marks.specs.PairLaws.{none-good}
-use Rattle.contents.specs.Contents.{Part, _holds_, codesOf, bodiesOf, has, split, chain, marksPart, schedulePart, indexPart, editionPart, popupsPart}
+use Rattle.contents.specs.Contents.{Part, _holds_, codesOf, bodiesOf, find, has, withPart, split, chain, marksPart, schedulePart, indexPart, editionPart, popupsPart, countsPart}
 use Rattle.contents.specs.Questions.{codesRight}
-use Rattle.contents.specs.Laws.{find-none, find-bytes, one-there, in-order}
+use Rattle.contents.specs.Laws.{find-none, find-bytes, one-there, in-order, with-other-found, with-other-there, with-found, with-there, with-more, with-bytes}
 use Rattle.bodies.specs.Questions.{markCount, countOf, editionOf, isEdition, isPopups}
 use Rattle.bodies.specs.Fitting.{Fitting}
 use Rattle.bodies.specs.Laws.{edition-long, popups-iff}
 use Rattle.sheet.specs.Questions.{check}
 use Rattle.sheet.specs.Laws.{accepted-iff}
-use Rattle.jobs.specs.Jobs.{keep, carried, keptParts, keptSize}
+use Rattle.jobs.specs.Jobs.{keep, carried, keptParts, keptSize, withCounts}
 use Rattle.jobs.specs.Steps.{editionFrom, keptFrom, PopupsLent}
 
--- Parts that may be kept beside n marks: behind part 1, and behind parts 1 to 3, their codes are right; they hold no schedule and no index;
--- they are right themselves; and keeping them again keeps them all.
+-- Parts that may be kept beside n marks: behind part 1, and behind parts 1 to 3, with counts and without, their codes are right; they hold no
+-- schedule, no index and no counts; they are right themselves; and keeping them again keeps them all.
 pub record KeptRight (n : ℕ) (kept : List Part) : Type 0 where
   pub behind-one : codesRight (1 ∷ codesOf kept) ≡ true
-  pub behind-three : codesRight (1 ∷ 2 ∷ 3 ∷ codesOf kept) ≡ true
+  pub behind-three : (counted : Bool) (counts : List ℕ) → codesRight (1 ∷ 2 ∷ 3 ∷ codesOf (withCounts counted counts kept)) ≡ true
   pub no-schedule : has kept 2 ≡ false
   pub no-index : has kept 3 ≡ false
+  pub no-counts : has kept 6 ≡ false
   pub edition-right : has kept 4 ≡ true → isEdition (editionPart kept) ≡ true
   pub popups-right : has kept 5 ≡ true → isPopups (popupsPart kept) n ≡ true
   pub again : keptParts kept ≡ kept
@@ -43,9 +45,10 @@ module _ (n : ℕ) where
   kept-from [] false popups e p b c =
       record {
         behind-one = refl;
-        behind-three = refl;
+        behind-three = λ counted counts. elim counted [ true ↦ refl | false ↦ refl ];
         no-schedule = refl;
         no-index = refl;
+        no-counts = refl;
         edition-right = λ h. absurd (false≢true h);
         popups-right = λ h. absurd (false≢true h);
         again = refl;
@@ -54,9 +57,10 @@ module _ (n : ℕ) where
   kept-from [] true popups e p b c =
       record {
         behind-one = refl;
-        behind-three = refl;
+        behind-three = λ counted counts. elim counted [ true ↦ refl | false ↦ refl ];
         no-schedule = refl;
         no-index = refl;
+        no-counts = refl;
         edition-right = λ h. absurd (false≢true h);
         popups-right = λ h. p refl;
         again = refl;
@@ -65,9 +69,10 @@ module _ (n : ℕ) where
   kept-from (x ∷ body) false popups e p b c =
       record {
         behind-one = refl;
-        behind-three = refl;
+        behind-three = λ counted counts. elim counted [ true ↦ refl | false ↦ refl ];
         no-schedule = refl;
         no-index = refl;
+        no-counts = refl;
         edition-right = λ h. e (omega arith);
         popups-right = λ h. absurd (false≢true h);
         again = refl;
@@ -76,14 +81,21 @@ module _ (n : ℕ) where
   kept-from (x ∷ body) true popups e p b c =
       record {
         behind-one = refl;
-        behind-three = refl;
+        behind-three = λ counted counts. elim counted [ true ↦ refl | false ↦ refl ];
         no-schedule = refl;
         no-index = refl;
+        no-counts = refl;
         edition-right = λ h. e (omega arith);
         popups-right = λ h. p refl;
         again = refl;
         bytes = λ i. elim i [ zero ↦ b | suc j ↦ elim j [ zero ↦ c | suc k ↦ none-bytes ] ];
       }
+
+pub kept-uncounted : (body : List ℕ) (there : Bool) (popups : List ℕ) → has (keptFrom body there popups) 6 ≡ false
+kept-uncounted [] true popups = refl
+kept-uncounted [] false popups = refl
+kept-uncounted (x ∷ body) true popups = refl
+kept-uncounted (x ∷ body) false popups = refl
 
 -- a change to part 5 comes to that part alone
 pub carried-from : (body : List ℕ) (there : Bool) (popups : List ℕ) (change : List ℕ → List ℕ)
@@ -194,12 +206,66 @@ alone-fits marks kept good long right =
       popups-right = right .popups-right;
       schedule-right = λ e. absurd (true≢false (sym e ∙ right .no-schedule));
       index-right = λ e. absurd (true≢false (sym e ∙ right .no-index));
+      counts-right = λ e. absurd (true≢false (sym e ∙ right .no-counts));
     }
+
+-- ---- beside counts
+
+-- what is found beside them is what is found without
+pub beside-found : (parts : List Part) (counted : Bool) (counts : List ℕ) (code : ℕ) → eqb 6 code ≡ false
+    → find (withCounts counted counts parts) code ≡ find parts code
+beside-found parts true counts code e = with-other-found 6 counts parts code e
+beside-found parts false counts code e = refl
+
+pub beside-there : (parts : List Part) (counted : Bool) (counts : List ℕ) (code : ℕ) → eqb 6 code ≡ false
+    → has (withCounts counted counts parts) code ≡ has parts code
+beside-there parts true counts code e = with-other-there 6 counts parts code e
+beside-there parts false counts code e = refl
+
+-- and they are there where they are wanted
+pub counts-there : (parts : List Part) (counted : Bool) (counts : List ℕ) → has parts 6 ≡ false → has (withCounts counted counts parts) 6 ≡ counted
+counts-there parts true counts none = with-there 6 counts parts
+counts-there parts false counts none = none
+
+pub counts-found : (parts : List Part) (counts : List ℕ) → find (withCounts true counts parts) 6 ≡ counts
+counts-found parts counts = with-found 6 counts parts
+
+pub carried-beside : (parts : List Part) (counted : Bool) (counts : List ℕ) (change : List ℕ → List ℕ)
+    → carried (withCounts counted counts parts) change ≡ carried parts change
+carried-beside parts counted counts change =
+    rw (beside-there parts counted counts 4 refl, beside-there parts counted counts 5 refl, beside-found parts counted counts 4 refl, beside-found parts counted counts 5 refl)
+
+pub kept-beside : (parts : List Part) (counted : Bool) (counts : List ℕ) → keptParts (withCounts counted counts parts) ≡ keptParts parts
+kept-beside parts counted counts = carried-beside parts counted counts (λ q. q)
+
+-- Of bodies that are lists of bytes they are so with counts too.
+pub beside-bytes : (parts : List Part) (counted : Bool) (c : List ℕ) → Bytes c → ((i : ℕ) → Bytes (getD (bodiesOf parts) i []))
+    → (i : ℕ) → Bytes (getD (bodiesOf (withCounts counted c parts)) i [])
+beside-bytes parts true c b each = with-bytes 6 c parts b each
+beside-bytes parts false c b each = each
+
+-- With counts there is one part more, and their bytes.
+pub beside-sized : (parts : List Part) (counted : Bool) (c : List ℕ) → has parts 6 ≡ false → length c ≡ 170
+    → 10 * length (withCounts counted c parts) + length (chain (bodiesOf (withCounts counted c parts))) ≡ keptSize parts + cond counted 180 0
+beside-sized parts true c none long = let more = with-more 6 c parts none in omega (arith, more .0, more .1, long)
+beside-sized parts false c none long = omega arith
 
 -- ---- a whole sheet: parts 1 to 3, and what is kept
 
+tail-order : (a b c : Bool) (x y z : List ℕ)
+    → cond a ((4 holds x) ∷ []) [] ++ (cond b ((5 holds y) ∷ []) [] ++ (cond c ((6 holds z) ∷ []) [] ++ []))
+    ≡ withCounts c z (cond a ((4 holds x) ∷ []) [] ++ cond b ((5 holds y) ∷ []) [])
+tail-order true true true x y z = refl
+tail-order true true false x y z = refl
+tail-order true false true x y z = refl
+tail-order true false false x y z = refl
+tail-order false true true x y z = refl
+tail-order false true false x y z = refl
+tail-order false false true x y z = refl
+tail-order false false false x y z = refl
+
 pub kept-whole : (parts : List Part) → codesRight (codesOf parts) ≡ true → has parts 2 ≡ true → has parts 3 ≡ true
-    → parts ≡ (1 holds marksPart parts) ∷ (2 holds schedulePart parts) ∷ (3 holds indexPart parts) ∷ keptParts parts
+    → parts ≡ (1 holds marksPart parts) ∷ (2 holds schedulePart parts) ∷ (3 holds indexPart parts) ∷ withCounts (has parts 6) (countsPart parts) (keptParts parts)
 kept-whole parts right two three =
     in-order parts right
-    ∙ rw (one-there (codesOf parts) right, two, three, append-nil (keep 5 parts))
+    ∙ rw (one-there (codesOf parts) right, two, three, tail-order (has parts 4) (has parts 5) (has parts 6) (editionPart parts) (popupsPart parts) (countsPart parts))

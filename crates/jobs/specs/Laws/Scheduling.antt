@@ -19,15 +19,18 @@ use Rattle.elimination.specs.Schedule.{schedule-length}
 use Rattle.index.specs.Index.{indexOf, indexBytes}
 use Rattle.index.specs.Laws as Index
 use Rattle.indexing.specs.Buffer.{withIndex}
-use Rattle.contents.specs.Contents.{Part, codesOf, bodiesOf, sizesOf, contentsSize, contentsOf, chain, join, popupsPart}
+use Rattle.counting.specs.Counts.{countsOf}
+use Rattle.counting.specs.Laws.{counts-length}
+use Rattle.contents.specs.Contents.{Part, codesOf, bodiesOf, has, sizesOf, contentsSize, contentsOf, chain, join, popupsPart}
 use Rattle.contents.specs.Asking.{Question, answer}
 use Rattle.contents.specs.Laws.{Numbered, none-asked, append-yes, append-no, append-iff, contents-length, join-length}
 use Rattle.bodies.specs.Questions.{markCount, editionIn, editionOf}
 use Rattle.jobs.specs.declared.Answer.{Answer}
-use Rattle.jobs.specs.Jobs.{outcome, newParts, scheduledFrom, scheduledSize, hasRoom, schedulingQuestions, schedulingJob}
+use Rattle.jobs.specs.Jobs.{outcome, withCounts, newSchedule, newIndex, newCounts, newParts, scheduledFrom, scheduledSize, hasRoom, schedulingQuestions, schedulingJob}
 use Rattle.jobs.specs.Answers.{refusal, Gives}
-use Rattle.jobs.specs.Steps.{keptFrom, PopupsLent, codesFrom, sizesFrom, resultsOver}
+use Rattle.jobs.specs.Steps.{keptFrom, PopupsLent, codesFrom, sizesFrom, bareFrom, resultsOver}
 use Rattle.jobs.specs.Laws.Outcomes.{refused-gives, written-gives}
+use Rattle.jobs.specs.Laws.Kept.{beside-sized}
 
 -- ---- the written pieces
 
@@ -69,71 +72,74 @@ module _ (s : List ℕ) (n : ℕ) (few : n ≤ 4096) (long : length s ≡ 11 * n
   abbrev schedule : ℕ → List ℕ → List ℕ
   schedule edition popups = scheduleOf (record { marks = s; count = n; edition = edition; popups = popups })
 
+  abbrev index : ℕ → List ℕ → List ℕ
+  index edition popups = indexBytes (indexOf s (schedule edition popups) n)
+
   abbrev results : ℕ → List ℕ → List ℕ
-  results edition popups = schedule edition popups ++ indexBytes (indexOf s (schedule edition popups) n)
+  results edition popups = schedule edition popups ++ index edition popups
+
+  schedule-sized : (edition : ℕ) (popups : List ℕ) → length (schedule edition popups) ≡ 14 * n
+  schedule-sized edition popups = schedule-length (record { marks = s; count = n; edition = edition; popups = popups })
 
   results-long : (edition : ℕ) (popups : List ℕ) → length (results edition popups) ≡ 16 * n
   results-long edition popups =
-      omega (
-        arith,
-        length-append (schedule edition popups) (indexBytes (indexOf s (schedule edition popups) n)),
-        schedule-length (record { marks = s; count = n; edition = edition; popups = popups }),
-        index-long s n edition popups few,
-      )
+      omega (arith, length-append (schedule edition popups) (index edition popups), schedule-sized edition popups, index-long s n edition popups few)
 
-  -- the bodies of what is written: the marks, their results, and what is kept
-  bodies-are : (kept : List Part)
-      → chain (bodiesOf (newParts s kept)) ≡ s ++ (results (editionOf kept) (popupsPart kept) ++ chain (bodiesOf kept))
+  -- the bodies of what is written: the marks, their results, what is kept, and the counts
+  bodies-are : (kept : List Part) (counted : Bool)
+      → chain (bodiesOf (newParts s kept counted))
+      ≡ s ++ (results (editionOf kept) (popupsPart kept) ++ chain (bodiesOf (withCounts counted (newCounts s kept) kept)))
   unfolding chain
-  bodies-are kept =
-      let p = schedule (editionOf kept) (popupsPart kept) in
-      rw (count-is, append-assoc p (indexBytes (indexOf s p n)) (chain (bodiesOf kept)))
+  bodies-are kept counted =
+      let rest = chain (bodiesOf (withCounts counted (newCounts s kept) kept)) in
+      let e = editionOf kept in
+      let q = popupsPart kept in
+      ap (λ (k : ℕ). s ++ (scheduleOf (record { marks = s; count = k; edition = e; popups = q })
+      ++ (indexBytes (indexOf s (scheduleOf (record { marks = s; count = k; edition = e; popups = q })) k) ++ rest))) count-is
+      ∙ ap (λ (l : List ℕ). s ++ l) (sym (append-assoc (schedule e q) (index e q) rest))
 
-  pub sheet-long : (kept : List Part) → length (join (newParts s kept)) ≡ scheduledSize n kept
-  sheet-long kept =
+  pub sheet-long : (kept : List Part) (counted : Bool) → has kept 6 ≡ false → length (join (newParts s kept counted)) ≡ scheduledSize n kept counted
+  sheet-long kept counted none =
       let r = results (editionOf kept) (popupsPart kept) in
+      let others = withCounts counted (newCounts s kept) kept in
+      let more = beside-sized kept counted (newCounts s kept) none (counts-length s (newSchedule s kept) (popupsPart kept) (markCount s)) in
       omega (
         arith,
-        join-length (newParts s kept),
-        ap length (bodies-are kept),
-        length-append s (r ++ chain (bodiesOf kept)),
-        length-append r (chain (bodiesOf kept)),
+        join-length (newParts s kept counted),
+        ap length (bodies-are kept counted),
+        length-append s (r ++ chain (bodiesOf others)),
+        length-append r (chain (bodiesOf others)),
         results-long (editionOf kept) (popupsPart kept),
         long,
+        more,
       )
 
-  -- ---- as the code writes them
-  module _ (kept : List Part) where
-    abbrev body : List ℕ
-    body = chain (bodiesOf kept)
-
-    -- the contents
-    abbrev head : List ℕ
-    head = contentsOf (codesOf (newParts s kept)) (sizesOf (bodiesOf (newParts s kept)))
-
+  -- ---- as the code writes them: the contents, be they any, the marks, and what is kept, `body`
+  module _ (head : List ℕ) (edition : ℕ) (popups body : List ℕ) where
     -- where the marks begin
     abbrev begin : ℕ
-    begin = 10 * (3 + length kept) + 2
-
-    head-long : length head ≡ begin
-    head-long =
-        let codes = length-map (newParts s kept) (λ (p : Part). p .code) in
-        let bodies = length-map (newParts s kept) (λ (p : Part). p .body) in
-        let sizes = length-map (bodiesOf (newParts s kept)) length in
-        contents-length (codesOf (newParts s kept)) (sizesOf (bodiesOf (newParts s kept))) (codes ∙ sym (sizes ∙ bodies)) ∙ omega (arith, codes)
+    begin = length head
 
     abbrev reel : Reel
-    reel = record { marks = s; count = n; edition = editionOf kept; popups = popupsPart kept }
+    reel = record { marks = s; count = n; edition = edition; popups = popups }
 
-    abbrev found : List ℕ
-    found = results (editionOf kept) (popupsPart kept)
+    -- all of it, once parts 2 and 3 are written
+    abbrev pub whole : List ℕ
+    whole = head ++ (s ++ (results edition popups ++ body))
 
-    pub sheet-is : join (newParts s kept) ≡ head ++ (s ++ (found ++ body))
-    unfolding join
-    sheet-is = rw (bodies-are kept)
+    pub whole-long : length whole ≡ begin + 27 * n + length body
+    whole-long =
+        omega (
+          arith,
+          length-append head (s ++ (results edition popups ++ body)),
+          length-append s (results edition popups ++ body),
+          length-append (results edition popups) body,
+          results-long edition popups,
+          long,
+        )
 
-    module _ (o₀ : List ℕ) (room : scheduledSize n kept ≤ length o₀) where
-      -- what stays between the marks and what is kept, and behind the sheet
+    module _ (o₀ : List ℕ) (room : begin + 27 * n + length body ≤ length o₀) where
+      -- what stays between the marks and what is kept, and behind it
       abbrev between : List ℕ
       between = take (16 * n) (drop (11 * n + begin) o₀)
 
@@ -149,9 +155,9 @@ module _ (s : List ℕ) (n : ℕ) (few : n ≤ 4096) (long : length s ≡ 11 * n
       unfolding over
       begun {o₁} {o₂} {o₃} e f g =
           let start : List ℕ = head ++ s in
-          let start-long : length start ≡ 11 * n + begin = omega (arith, length-append head s, head-long) in
+          let start-long : length start ≡ 11 * n + begin = omega (arith, length-append head s) in
           let behind : List ℕ = drop (11 * n + begin) o₀ in
-          let from : 0 + length head ≡ begin = omega (arith, head-long) in
+          let from : 0 + length head ≡ begin = omega arith in
           let both : sets o₀ 0 start ≡ sets (sets o₀ 0 head) begin s = rw from at (sets-append o₀ 0 head s) in
           let o-is : o₂ ≡ start ++ behind = rw (f, e, ← both, over-sets start o₀ (omega (arith, start-long)), start-long) in
           let o-long : length o₂ ≡ length o₀ = rw (f, e) (length-sets (sets o₀ 0 head) begin s ∙ length-sets o₀ 0 head) in
@@ -167,7 +173,7 @@ module _ (s : List ℕ) (n : ℕ) (few : n ≤ 4096) (long : length s ≡ 11 * n
           (append-assoc (start ++ between) body past ∙ append-assoc start between (body ++ past)
           ∙ append-assoc head s (between ++ (body ++ past)))
 
-      -- what a call is lent that is lent the bodies, and the sheet once it has written parts 2 and 3
+      -- what a call is lent that is lent the bodies, and all of it once it has written parts 2 and 3
       module _ (from end : ℕ) {o : List ℕ} (from-is : from ≡ begin) (end-is : end ≡ begin + 27 * n + length body)
           (o-is : o ≡ head ++ (s ++ (between ++ (body ++ past)))) where
         abbrev middle : List ℕ
@@ -176,11 +182,11 @@ module _ (s : List ℕ) (n : ℕ) (few : n ≤ 4096) (long : length s ≡ 11 * n
         middle-long : length middle ≡ end - from
         middle-long = omega (arith, length-append s (between ++ body), length-append between body, between-long)
 
-        whole : o ≡ head ++ (middle ++ past)
-        whole = o-is ∙ ap (λ (l : List ℕ). head ++ l) (rw (append-assoc s (between ++ body) past, append-assoc between body past))
+        all : o ≡ head ++ (middle ++ past)
+        all = o-is ∙ ap (λ (l : List ℕ). head ++ l) (rw (append-assoc s (between ++ body) past, append-assoc between body past))
 
         behind : drop from o ≡ middle ++ past
-        behind = rw (from-is, whole) (drop-at head (middle ++ past) begin head-long)
+        behind = rw (from-is, all) (drop-at head (middle ++ past) begin refl)
 
         lent : midOf from (end - from) o ≡ middle
         lent = rw behind (take-at middle past (end - from) middle-long)
@@ -198,27 +204,65 @@ module _ (s : List ℕ) (n : ℕ) (few : n ≤ 4096) (long : length s ≡ 11 * n
             let past-it : 16 * n + i ≡ length between + i = omega (arith, between-long) in
             rw (lent, at) (drop-append-add s (between ++ body) (16 * n + i) ∙ rw past-it (drop-append-add between body i))
 
-        pub results-put : {t : List ℕ} → t ≡ resultsOver reel (midOf from (end - from) o) → putMid from (end - from) o t ≡ over (join (newParts s kept)) o₀
+        pub results-put : {t : List ℕ} → t ≡ resultsOver reel (midOf from (end - from) o) → putMid from (end - from) o t ≡ over whole o₀
         unfolding over resultsOver
         results-put {t} t-is =
-            let p = schedule (editionOf kept) (popupsPart kept) in
-            let front : take from o ≡ head = rw (from-is, whole) (take-at head (middle ++ past) begin head-long) in
+            let p = schedule edition popups in
+            let front : take from o ≡ head = rw (from-is, all) (take-at head (middle ++ past) begin refl) in
             let rest : drop (end - from) (drop from o) ≡ past = rw behind (drop-at middle past (end - from) middle-long) in
             let none : 27 * n + 0 ≡ 27 * n = omega arith in
             let last : drop (27 * n) (midOf from (end - from) o) ≡ body = rw none at (kept-last 0) in
-            let size : length (join (newParts s kept)) ≡ 27 * n + begin + length body = omega (arith, sheet-long kept) in
+            let size : length whole ≡ 27 * n + begin + length body = omega (arith, whole-long) in
             rw (
               front,
               rest,
               t-is,
               last,
               size,
-              sheet-is,
-              append-assoc head (s ++ (found ++ body)) past,
-              append-assoc s (found ++ body) past,
-              append-assoc p (indexBytes (indexOf s p n)) body,
-              append-assoc s (p ++ (indexBytes (indexOf s p n) ++ body)) past,
+              append-assoc head (s ++ (results edition popups ++ body)) past,
+              append-assoc s (results edition popups ++ body) past,
+              append-assoc p (index edition popups) body,
+              append-assoc s (p ++ (index edition popups ++ body)) past,
             )
+
+    -- Read from a buffer that holds it: the marks, the schedule, and what is kept from any place on.
+    module _ (o : List ℕ) where
+      abbrev tail : List ℕ
+      tail = drop (length whole) o
+
+      laid-out : over whole o ≡ head ++ (s ++ (schedule edition popups ++ (index edition popups ++ (body ++ tail))))
+      unfolding over
+      laid-out =
+          rw (
+            append-assoc head (s ++ (results edition popups ++ body)) tail,
+            append-assoc s (results edition popups ++ body) tail,
+            append-assoc (results edition popups) body tail,
+            append-assoc (schedule edition popups) (index edition popups) (body ++ tail),
+          )
+
+      pub marks-read : take (11 * n) (drop begin (over whole o)) ≡ s
+      marks-read = rw (laid-out, drop-at head _ begin refl) (take-at s _ (11 * n) long)
+
+      pub schedule-read : take (14 * n) (drop (begin + 11 * n) (over whole o)) ≡ schedule edition popups
+      schedule-read =
+          let at : begin + 11 * n ≡ length head + length s = omega (arith, long) in
+          rw (laid-out, at, drop-append-add head _ (length s), drop-at s _ (length s) refl) (take-at (schedule edition popups) _ (14 * n) (schedule-sized edition popups))
+
+      pub body-read : (first last : List ℕ) → body ≡ first ++ last → take (length last) (drop (begin + 27 * n + length first) (over whole o)) ≡ last
+      body-read first last is =
+          let p = schedule edition popups in
+          let t = index edition popups in
+          let at : begin + 27 * n + length first ≡ length head + (length s + (length p + (length t + length first))) =
+          omega (arith, long, schedule-sized edition popups, index-long s n edition popups few) in
+          let behind : drop (begin + 27 * n + length first) (over whole o) ≡ last ++ tail =
+          ap (drop (begin + 27 * n + length first)) laid-out
+          ∙ ap (λ (k : ℕ). drop k (head ++ (s ++ (p ++ (t ++ (body ++ tail)))))) at
+          ∙ drop-append-add head (s ++ (p ++ (t ++ (body ++ tail)))) (length s + (length p + (length t + length first)))
+          ∙ drop-append-add s (p ++ (t ++ (body ++ tail))) (length p + (length t + length first))
+          ∙ drop-append-add p (t ++ (body ++ tail)) (length t + length first) ∙ drop-append-add t (body ++ tail) (length first)
+          ∙ ap (λ (l : List ℕ). drop (length first) (l ++ tail)) is ∙ ap (drop (length first)) (append-assoc first last tail)
+          ∙ drop-at first (last ++ tail) (length first) refl in
+          rw behind (take-at last tail (length last) refl)
 
 -- ---- from what is lent
 
@@ -231,13 +275,13 @@ none-lent [] l = refl
 none-lent (x ∷ q) l = absurd (omega (arith, l .sized))
 
 -- What is lent of a buffer `o` from `from` to `end`, in which the contents, n marks, part 4 and part 5 stand: it begins with the marks and
--- ends with the popups, and once parts 2 and 3 are written in it the buffer holds the sheet.
-pub record Standing (s : List ℕ) (n : ℕ) (b : List ℕ) (there : Bool) (q o₀ o : List ℕ) (from end : ℕ) : Type 0 where
+-- ends with the popups, and once parts 2 and 3 are written in it the buffer holds the sheet up to part 6.
+pub record Standing (s : List ℕ) (n : ℕ) (b : List ℕ) (there : Bool) (q : List ℕ) (counted : Bool) (o₀ o : List ℕ) (from end : ℕ) : Type 0 where
   pub marks : take (11 * n) (midOf from (end - from) o) ≡ s
   pub long : length (midOf from (end - from) o) ≡ 27 * n + length b + length q
   pub popups : drop (27 * n + length b) (midOf from (end - from) o) ≡ q
   pub put : (t : List ℕ) → t ≡ resultsOver (record { marks = s; count = n; edition = editionIn b; popups = q }) (midOf from (end - from) o)
-      → putMid from (end - from) o t ≡ over (join (newParts s (keptFrom b there q))) o₀
+      → putMid from (end - from) o t ≡ over (bareFrom s (keptFrom b there q) counted) o₀
 
 -- from part 4's bytes, none where it is not there, and part 5's
 lent-chain : (b : List ℕ) (there : Bool) (q : List ℕ) {n : ℕ} → PopupsLent there q n → chain (bodiesOf (keptFrom b there q)) ≡ b ++ q
@@ -258,116 +302,257 @@ lent-popups [] false q l = sym (none-lent q l)
 lent-popups (x ∷ b) true q l = refl
 lent-popups (x ∷ b) false q l = sym (none-lent q l)
 
+-- the counts come last
+counts-last : (b : List ℕ) (there : Bool) (q c : List ℕ) (counted : Bool)
+    → bodiesOf (withCounts counted c (keptFrom b there q)) ≡ bodiesOf (keptFrom b there q) ++ cond counted (c ∷ []) []
+counts-last [] true q c true = refl
+counts-last [] true q c false = refl
+counts-last [] false q c true = refl
+counts-last [] false q c false = refl
+counts-last (x ∷ b) true q c true = refl
+counts-last (x ∷ b) true q c false = refl
+counts-last (x ∷ b) false q c true = refl
+counts-last (x ∷ b) false q c false = refl
+
+chain-append : (l m : List (List ℕ)) → chain (l ++ m) ≡ chain l ++ chain m
+unfolding chain
+chain-append [] m = refl
+chain-append (x ∷ l) m = rw (chain-append l m) (sym (append-assoc x (chain l) (chain m)))
+
 module _ (s : List ℕ) (n : ℕ) (few : n ≤ 4096) (long : length s ≡ 11 * n) where
-  lent-codes : (b : List ℕ) (there : Bool) (q : List ℕ) → length b ≤ 1 → codesOf (newParts s (keptFrom b there q)) ≡ codesFrom (ltb 0 (length b)) there
-  lent-codes [] false q h = refl
-  lent-codes [] true q h = refl
-  lent-codes (x ∷ []) false q h = refl
-  lent-codes (x ∷ []) true q h = refl
-  lent-codes (x ∷ y ∷ b) there q h = absurd (omega arith)
+  lent-codes : (b : List ℕ) (there : Bool) (q : List ℕ) (counted : Bool) → length b ≤ 1
+      → codesOf (newParts s (keptFrom b there q) counted) ≡ codesFrom true (ltb 0 (length b)) there counted
+  lent-codes [] false q false h = refl
+  lent-codes [] false q true h = refl
+  lent-codes [] true q false h = refl
+  lent-codes [] true q true h = refl
+  lent-codes (x ∷ []) false q false h = refl
+  lent-codes (x ∷ []) false q true h = refl
+  lent-codes (x ∷ []) true q false h = refl
+  lent-codes (x ∷ []) true q true h = refl
+  lent-codes (x ∷ y ∷ b) there q counted h = absurd (omega arith)
 
-  schedule-sized : (edition : ℕ) (q : List ℕ) → length (schedule s n few long edition q) ≡ 14 * n
-  schedule-sized edition q = schedule-length (record { marks = s; count = n; edition = edition; popups = q })
+  -- the sizes of parts 1 to 3 and of the counts, whatever is kept
+  module _ (kept : List Part) where
+    new-schedule-sized : length (newSchedule s kept) ≡ 14 * n
+    new-schedule-sized = rw (count-is s n few long) (schedule-sized s n few long (editionOf kept) (popupsPart kept))
 
-  lent-sizes : (b : List ℕ) (there : Bool) (q : List ℕ) → length b ≤ 1 → PopupsLent there q n
-      → sizesOf (bodiesOf (newParts s (keptFrom b there q))) ≡ sizesFrom n (ltb 0 (length b)) there
-  lent-sizes [] false q h l = rw (count-is s n few long, long, schedule-sized 1 [], index-long s n 1 [] few)
-  lent-sizes [] true q h l = rw (count-is s n few long, long, schedule-sized 1 q, index-long s n 1 q few, l .sized)
-  lent-sizes (x ∷ []) false q h l = rw (count-is s n few long, long, schedule-sized x [], index-long s n x [] few)
-  lent-sizes (x ∷ []) true q h l = rw (count-is s n few long, long, schedule-sized x q, index-long s n x q few, l .sized)
-  lent-sizes (x ∷ y ∷ b) there q h l = absurd (omega arith)
+    new-index-sized : length (newIndex s kept) ≡ 2 * n
+    new-index-sized = rw (count-is s n few long) (index-long s n (editionOf kept) (popupsPart kept) few)
 
-  module _ (b : List ℕ) (there : Bool) (q : List ℕ) (short : length b ≤ 1) (lent : PopupsLent there q n) where
+    new-counts-sized : length (newCounts s kept) ≡ 170
+    new-counts-sized = counts-length s (newSchedule s kept) (popupsPart kept) (markCount s)
+
+  lent-sizes : (b : List ℕ) (there : Bool) (q : List ℕ) (counted : Bool) → length b ≤ 1 → PopupsLent there q n
+      → sizesOf (bodiesOf (newParts s (keptFrom b there q) counted)) ≡ sizesFrom n true (ltb 0 (length b)) there counted
+  lent-sizes b there q counted h l =
+      let kept = keptFrom b there q in
+      let rest = sizesOf (bodiesOf (withCounts counted (newCounts s kept) kept)) in
+      ap (λ (k : ℕ). k ∷ length (newSchedule s kept) ∷ length (newIndex s kept) ∷ rest) long
+      ∙ ap (λ (k : ℕ). 11 * n ∷ k ∷ length (newIndex s kept) ∷ rest) (new-schedule-sized kept)
+      ∙ ap (λ (k : ℕ). 11 * n ∷ 14 * n ∷ k ∷ rest) (new-index-sized kept) ∙ behind b there q counted h l
+    where
+      behind : (b : List ℕ) (there : Bool) (q : List ℕ) (counted : Bool) → length b ≤ 1 → PopupsLent there q n
+          → 11 * n ∷ 14 * n ∷ 2 * n ∷ sizesOf (bodiesOf (withCounts counted (newCounts s (keptFrom b there q)) (keptFrom b there q)))
+          ≡ sizesFrom n true (ltb 0 (length b)) there counted
+      behind [] false q false h l = refl
+      behind [] false q true h l = rw (new-counts-sized (keptFrom [] false q))
+      behind [] true q false h l = rw (l .sized)
+      behind [] true q true h l = rw (new-counts-sized (keptFrom [] true q), l .sized)
+      behind (x ∷ []) false q false h l = refl
+      behind (x ∷ []) false q true h l = rw (new-counts-sized (keptFrom (x ∷ []) false q))
+      behind (x ∷ []) true q false h l = rw (l .sized)
+      behind (x ∷ []) true q true h l = rw (new-counts-sized (keptFrom (x ∷ []) true q), l .sized)
+      behind (x ∷ y ∷ b) there q counted h l = absurd (omega arith)
+
+  module _ (b : List ℕ) (there : Bool) (q : List ℕ) (counted : Bool) (short : length b ≤ 1) (lent : PopupsLent there q n) where
     abbrev others : List Part
     others = keptFrom b there q
 
     abbrev pub lentHead : List ℕ
-    lentHead = contentsOf (codesFrom (ltb 0 (length b)) there) (sizesFrom n (ltb 0 (length b)) there)
+    lentHead = contentsOf (codesFrom true (ltb 0 (length b)) there counted) (sizesFrom n true (ltb 0 (length b)) there counted)
 
     -- where the marks begin
     abbrev pub lentBegin : ℕ
-    lentBegin = contentsSize (length (codesFrom (ltb 0 (length b)) there))
+    lentBegin = contentsSize (length (codesFrom true (ltb 0 (length b)) there counted))
 
-    lent-begin : lentBegin ≡ 10 * (3 + length others) + 2
-    lent-begin = omega (arith, ap length (lent-codes b there q short), length-map (newParts s others) (λ (p : Part). p .code))
+    head-long : length lentHead ≡ lentBegin
+    head-long =
+        contents-length (codesFrom true (ltb 0 (length b)) there counted) (sizesFrom n true (ltb 0 (length b)) there counted) (same (ltb 0 (length b)) there counted)
+      where
+        same : (e p c : Bool) → length (codesFrom true e p c) ≡ length (sizesFrom n true e p c)
+        same true true true = refl
+        same true true false = refl
+        same true false true = refl
+        same true false false = refl
+        same false true true = refl
+        same false true false = refl
+        same false false true = refl
+        same false false false = refl
 
-    pub lent-size : scheduledSize n others ≡ lentBegin + 27 * n + length b + length q
-    lent-size = omega (arith, lent-begin, ap length (lent-chain b there q lent), length-append b q)
+    pub lent-size : scheduledSize n others counted ≡ lentBegin + 27 * n + length b + length q + cond counted 170 0
+    lent-size = omega (arith, ap length (lent-chain b there q lent), length-append b q, begins b there q counted short)
+      where
+        begins : (b : List ℕ) (there : Bool) (q : List ℕ) (counted : Bool) → length b ≤ 1
+            → 32 + 10 * length (keptFrom b there q) + cond counted 180 0
+            ≡ contentsSize (length (codesFrom true (ltb 0 (length b)) there counted)) + cond counted 170 0
+        begins [] false q false h = refl
+        begins [] false q true h = refl
+        begins [] true q false h = refl
+        begins [] true q true h = refl
+        begins (x ∷ []) false q false h = refl
+        begins (x ∷ []) false q true h = refl
+        begins (x ∷ []) true q false h = refl
+        begins (x ∷ []) true q true h = refl
+        begins (x ∷ y ∷ b) there q counted h = absurd (omega arith)
+
+    -- the sheet up to part 6, and with it
+    pub bare-is : bareFrom s others counted ≡ whole s n few long lentHead (editionIn b) q (b ++ q)
+    bare-is =
+        rw (
+          lent-codes b there q counted short,
+          lent-sizes b there q counted short lent,
+          bodies-are s n few long others false,
+          lent-edition b there q,
+          lent-popups b there q lent,
+          lent-chain b there q lent,
+        )
+
+    pub bare-whole : bareFrom s others counted ++ cond counted (newCounts s others) [] ≡ scheduledFrom s others counted
+    unfolding join chain
+    bare-whole =
+        let head = contentsOf (codesOf (newParts s others counted)) (sizesOf (bodiesOf (newParts s others counted))) in
+        let c = newCounts s others in
+        append-assoc head (chain (bodiesOf (newParts s others false))) (cond counted c [])
+        ∙ ap (λ (l : List ℕ). head ++ l)
+        (ap (λ (l : List ℕ). chain (bodiesOf (newParts s others false)) ++ l) (one counted c)
+        ∙ sym (chain-append (bodiesOf (newParts s others false)) (cond counted (c ∷ []) []))
+        ∙ ap (λ (l : List (List ℕ)). chain (s ∷ newSchedule s others ∷ newIndex s others ∷ l)) (sym (counts-last b there q c counted)))
+      where
+        one : (counted : Bool) (c : List ℕ) → cond counted c [] ≡ chain (cond counted (c ∷ []) [])
+        one true c = sym (append-nil c)
+        one false c = refl
 
     -- the contents, the marks, part 4 and part 5 are written, and all but the contents is lent
-    pub standing : (o₀ : List ℕ) → scheduledSize n others ≤ length o₀ → {o₁ o₂ o₃ o₄ : List ℕ} {from end : ℕ} → o₁ ≡ sets o₀ 0 lentHead
+    pub standing : (o₀ : List ℕ) → lentBegin + 27 * n + length b + length q ≤ length o₀ → {o₁ o₂ o₃ o₄ : List ℕ} {from end : ℕ} → o₁ ≡ sets o₀ 0 lentHead
         → o₂ ≡ sets o₁ lentBegin s → o₃ ≡ sets o₂ (lentBegin + 27 * n) b → o₄ ≡ sets o₃ (lentBegin + 27 * n + length b) q → from ≡ lentBegin
-        → end ≡ lentBegin + 27 * n + length b + length q → Standing s n b there q o₀ o₄ from end
+        → end ≡ lentBegin + 27 * n + length b + length q → Standing s n b there q counted o₀ o₄ from end
     standing o₀ room {o₁} {o₂} {o₃} {o₄} {from} {end} e f g h from-is end-is =
-        let body : chain (bodiesOf others) ≡ b ++ q = lent-chain b there q lent in
-        let begins : from ≡ 10 * (3 + length others) + 2 = from-is ∙ lent-begin in
-        let ends : end ≡ 10 * (3 + length others) + 2 + 27 * n + length (chain (bodiesOf others)) =
-        omega (arith, lent-begin, ap length body, length-append b q) in
-        let stands = begun s n few long others o₀ room {o₁ = o₁} {o₂ = o₂} {o₃ = o₄} (rw (lent-codes b there q short, lent-sizes b there q short lent) e)
-        (rw (← lent-begin) f) (rw (← lent-begin, body, sets-append o₂ (lentBegin + 27 * n) b q, ← g) h) in
+        let edition = editionIn b in
+        let body = b ++ q in
+        let fits : length lentHead + 27 * n + length body ≤ length o₀ = omega (arith, head-long, length-append b q) in
+        let begins : from ≡ length lentHead = from-is ∙ sym head-long in
+        let ends : end ≡ length lentHead + 27 * n + length body = omega (arith, head-long, length-append b q) in
+        let stands = begun s n few long lentHead edition q body o₀ fits {o₁ = o₁} {o₂ = o₂} {o₃ = o₄} e (rw head-long f)
+        (rw (head-long, sets-append o₂ (lentBegin + 27 * n) b q, ← g) h) in
         record {
-          marks = marks-first s n few long others o₀ room from end begins ends stands;
-          long = omega (arith, lent-long s n few long others o₀ room from end begins ends stands, ap length body, length-append b q);
-          popups = kept-last s n few long others o₀ room from end begins ends stands (length b) ∙ ap (drop (length b)) body ∙ drop-at b q (length b) refl;
-          put = λ t t-is.
-              results-put s n few long others o₀ room from end begins ends stands {t = t} (rw (lent-edition b there q, lent-popups b there q lent) t-is);
+          marks = marks-first s n few long lentHead edition q body o₀ fits from end begins ends stands;
+          long = omega (arith, lent-long s n few long lentHead edition q body o₀ fits from end begins ends stands, length-append b q);
+          popups = kept-last s n few long lentHead edition q body o₀ fits from end begins ends stands (length b) ∙ drop-at b q (length b) refl;
+          put = λ t t-is. rw bare-is (results-put s n few long lentHead edition q body o₀ fits from end begins ends stands {t = t} t-is);
         }
+
+    -- What is read of the sheet up to part 6, for its counts: the marks, the schedule and the popups. And once the counts are written behind it,
+    -- the buffer holds the sheet.
+    module _ (o₀ : List ℕ) where
+      abbrev held : List ℕ
+      held = over (bareFrom s others counted) o₀
+
+      pub popups-read : {from end : ℕ} → from ≡ lentBegin + 27 * n + length b → end ≡ from + length q → take (end - from) (drop from held) ≡ q
+      popups-read {from} {end} from-is end-is =
+          let behind : from ≡ length lentHead + 27 * n + length b = omega (arith, head-long) in
+          let size : end - from ≡ length q = omega (arith, end-is) in
+          rw (bare-is, size, behind) (body-read s n few long lentHead (editionIn b) q (b ++ q) o₀ b q refl)
+
+      pub counts-read : {start from end : ℕ} → start ≡ lentBegin → from ≡ lentBegin + 27 * n + length b → end ≡ from + length q
+          → countsOf (take (11 * n) (drop start held)) (take (14 * n) (drop (start + 11 * n) held)) (take (end - from) (drop from held)) n ≡ newCounts s others
+      counts-read {start} {from} {end} start-is from-is end-is =
+          let edition = editionIn b in
+          let at : start ≡ length lentHead = start-is ∙ sym head-long in
+          rw (popups-read from-is end-is, bare-is, at, marks-read s n few long lentHead edition q (b ++ q) o₀, schedule-read s n few long lentHead edition q (b ++ q) o₀)
+          (rw (count-is s n few long, lent-edition b there q, lent-popups b there q lent))
+
+      pub counts-put : scheduledSize n others counted ≤ length o₀ → counted ≡ true → {o : List ℕ} {end : ℕ} → end ≡ lentBegin + 27 * n + length b + length q
+          → o ≡ sets held end (newCounts s others) → o ≡ over (scheduledFrom s others counted) o₀
+      counts-put room wanted {o} {end} end-is is =
+          let bare = bareFrom s others counted in
+          let c = newCounts s others in
+          let bare-long : length bare ≡ end =
+          ap length bare-is ∙ omega (arith, whole-long s n few long lentHead (editionIn b) q (b ++ q), head-long, length-append b q, end-is) in
+          let behind : end ≡ 0 + length bare = omega (arith, bare-long) in
+          let all : cond counted c [] ≡ c = rw wanted in
+          let more : _≡_ {A = ℕ} (cond counted 170 0) 170 = rw wanted in
+          let whole-is : bare ++ c ≡ scheduledFrom s others counted = ap (λ (l : List ℕ). bare ++ l) (sym all) ∙ bare-whole in
+          let fits : length (bare ++ c) ≤ length o₀ =
+          omega (arith, length-append bare c, bare-long, new-counts-sized others, room, end-is, more, lent-size) in
+          is ∙ ap (λ (l : List ℕ). sets l end c) (sym (over-sets bare o₀ (omega (arith, length-append bare c, fits))))
+          ∙ ap (λ (k : ℕ). sets (sets o₀ 0 bare) k c) behind
+          ∙ sym (sets-append o₀ 0 bare c) ∙ over-sets (bare ++ c) o₀ fits ∙ ap (λ (l : List ℕ). over l o₀) whole-is
+
+      pub counts-none : counted ≡ false → held ≡ over (scheduledFrom s others counted) o₀
+      counts-none unwanted =
+          let bare = bareFrom s others counted in
+          let none : cond counted (newCounts s others) [] ≡ [] = rw unwanted in
+          ap (λ (l : List ℕ). over l o₀) (sym (append-nil bare) ∙ ap (λ (l : List ℕ). bare ++ l) (sym none) ∙ bare-whole)
 
 -- ---- the ways out
 
-module _ (n : ℕ) (kept : List Part) (work room : ℕ) where
-  pub room-there : hasRoom n kept work room ≡ true → (32 * n + 1024 ≤ work) × (scheduledSize n kept ≤ room)
+module _ (n : ℕ) (kept : List Part) (counted : Bool) (work room : ℕ) where
+  pub room-there : hasRoom n kept counted work room ≡ true → (32 * n + 1024 ≤ work) × (scheduledSize n kept counted ≤ room)
   room-there e =
-      let p = both-iff (leb (32 * n + 1024) work) (leb (scheduledSize n kept) room) .0 e in
-      (leb-true (32 * n + 1024) work (p .0), leb-true (scheduledSize n kept) room (p .1))
+      let p = both-iff (leb (32 * n + 1024) work) (leb (scheduledSize n kept counted) room) .0 e in
+      (leb-true (32 * n + 1024) work (p .0), leb-true (scheduledSize n kept counted) room (p .1))
 
-  pub there-room : 32 * n + 1024 ≤ work → scheduledSize n kept ≤ room → hasRoom n kept work room ≡ true
+  pub there-room : 32 * n + 1024 ≤ work → scheduledSize n kept counted ≤ room → hasRoom n kept counted work room ≡ true
   there-room p q =
-      both-iff (leb (32 * n + 1024) work) (leb (scheduledSize n kept) room) .1 (le-leb (32 * n + 1024) work p, le-leb (scheduledSize n kept) room q)
+      both-iff (leb (32 * n + 1024) work) (leb (scheduledSize n kept counted) room) .1
+      (le-leb (32 * n + 1024) work p, le-leb (scheduledSize n kept counted) room q)
 
 -- a job that asks `checks` before 13
-module _ (checks : List Question) (numbered : Numbered checks) (marks : List ℕ) (others : List Part) (work : ℕ) where
-  pub room-asked : (room : ℕ) → answer checks ≡ 0 → answer (schedulingQuestions checks marks others work room) ≡ cond (hasRoom (markCount marks) others work room) 0 13
+module _ (checks : List Question) (numbered : Numbered checks) (marks : List ℕ) (others : List Part) (counted : Bool) (work : ℕ) where
+  pub room-asked : (room : ℕ) → answer checks ≡ 0 → answer (schedulingQuestions checks marks others counted work room) ≡ cond (hasRoom (markCount marks) others counted work room) 0 13
   unfolding schedulingQuestions answer
   room-asked room e = append-yes checks _ numbered e
 
-  pub checks-passed : (room : ℕ) → answer (schedulingQuestions checks marks others work room) ≡ 0 → answer checks ≡ 0
+  pub checks-passed : (room : ℕ) → answer (schedulingQuestions checks marks others counted work room) ≡ 0 → answer checks ≡ 0
   unfolding schedulingQuestions
   checks-passed room e = append-iff checks _ numbered .0 e .0
 
   pub stopped : (buffer : List ℕ) {r : Answer} {number : ℕ} → number ≡ answer checks → 0 < number → r ≡ refusal number
-      → Gives (schedulingJob checks marks others work (length buffer)) buffer r buffer
+      → Gives (schedulingJob checks marks others counted work (length buffer)) buffer r buffer
   unfolding schedulingJob schedulingQuestions
   stopped buffer {r} {number} e some is =
-      refused-gives (schedulingQuestions checks marks others work (length buffer)) (length (scheduledFrom marks others)) (scheduledFrom marks others) buffer number
+      refused-gives (schedulingQuestions checks marks others counted work (length buffer)) (length (scheduledFrom marks others counted)) (scheduledFrom marks others counted) buffer number
       (append-no checks _ numbered (omega arith) ∙ sym e) some is
 
 -- once these are answered with yes, 13 is all that is left to ask
-pub passed : (checks : List Question) → Numbered checks → (marks : List ℕ) (others : List Part) (work room : ℕ) → answer checks ≡ 0
-    → schedulingJob checks marks others work room ≡ schedulingJob [] marks others work room
+pub passed : (checks : List Question) → Numbered checks → (marks : List ℕ) (others : List Part) (counted : Bool) (work room : ℕ) → answer checks ≡ 0
+    → schedulingJob checks marks others counted work room ≡ schedulingJob [] marks others counted work room
 unfolding schedulingJob outcome
-passed checks numbered marks others work room e = rw (room-asked checks numbered marks others work room e, room-asked [] tt marks others work room none-asked)
+passed checks numbered marks others counted work room e =
+    rw (room-asked checks numbered marks others counted work room e, room-asked [] tt marks others counted work room none-asked)
 
 -- and so the job gives what is given once they are
-pub once-passed : (checks : List Question) → Numbered checks → answer checks ≡ 0 → (work : ℕ) {l marks : List ℕ} {k others : List Part} {before left : List ℕ}
-    {r : Answer} → l ≡ marks → k ≡ others → Gives (schedulingJob [] l k work (length before)) before r left
-    → Gives (schedulingJob checks marks others work (length before)) before r left
-once-passed checks numbered ok work {l} {marks} {k} {others} {before} e f given =
-    rw (passed checks numbered marks others work (length before) ok, ← e, ← f) given
+pub once-passed : (checks : List Question) → Numbered checks → answer checks ≡ 0 → (work : ℕ) {l marks : List ℕ} {k others : List Part} {c counted : Bool} {before left : List ℕ}
+    {r : Answer} → l ≡ marks → k ≡ others → c ≡ counted → Gives (schedulingJob [] l k c work (length before)) before r left
+    → Gives (schedulingJob checks marks others counted work (length before)) before r left
+once-passed checks numbered ok work {l} {marks} {k} {others} {c} {counted} {before} e f h given =
+    rw (passed checks numbered marks others counted work (length before) ok, ← e, ← f, ← h) given
 
 -- and the job that asks 13 alone, of n marks
-module _ (s : List ℕ) (n : ℕ) (few : n ≤ 4096) (long : length s ≡ 11 * n) (others : List Part) (work : ℕ) (buffer : List ℕ) where
-  last-asked : answer (schedulingQuestions [] s others work (length buffer)) ≡ cond (hasRoom n others work (length buffer)) 0 13
-  last-asked = rw (count-is s n few long) at (room-asked [] tt s others work (length buffer) none-asked)
+module _ (s : List ℕ) (n : ℕ) (few : n ≤ 4096) (long : length s ≡ 11 * n) (others : List Part) (counted : Bool) (none : has others 6 ≡ false) (work : ℕ)
+    (buffer : List ℕ) where
+  last-asked : answer (schedulingQuestions [] s others counted work (length buffer)) ≡ cond (hasRoom n others counted work (length buffer)) 0 13
+  last-asked = rw (count-is s n few long) at (room-asked [] tt s others counted work (length buffer) none-asked)
 
-  pub no-room : {r : Answer} → hasRoom n others work (length buffer) ≡ false → r ≡ refusal 13 → Gives (schedulingJob [] s others work (length buffer)) buffer r buffer
+  pub no-room : {r : Answer} → hasRoom n others counted work (length buffer) ≡ false → r ≡ refusal 13 → Gives (schedulingJob [] s others counted work (length buffer)) buffer r buffer
   unfolding schedulingJob
   no-room short is =
-      refused-gives (schedulingQuestions [] s others work (length buffer)) (length (scheduledFrom s others)) (scheduledFrom s others) buffer 13 (rw short at last-asked) (omega arith) is
+      refused-gives (schedulingQuestions [] s others counted work (length buffer)) (length (scheduledFrom s others counted)) (scheduledFrom s others counted) buffer 13 (rw short at last-asked) (omega arith) is
 
-  pub sheet-written : {r : Answer} → hasRoom n others work (length buffer) ≡ true → r ≡ record { number = 0; value = scheduledSize n others }
-      → {left : List ℕ} → left ≡ over (scheduledFrom s others) buffer → Gives (schedulingJob [] s others work (length buffer)) buffer r left
+  pub sheet-written : {r : Answer} → hasRoom n others counted work (length buffer) ≡ true → r ≡ record { number = 0; value = scheduledSize n others counted }
+      → {left : List ℕ} → left ≡ over (scheduledFrom s others counted) buffer → Gives (schedulingJob [] s others counted work (length buffer)) buffer r left
   unfolding schedulingJob
   sheet-written room is bytes =
-      written-gives (schedulingQuestions [] s others work (length buffer)) (length (scheduledFrom s others)) (scheduledFrom s others) buffer (rw room at last-asked)
-      (rw (sheet-long s n few long others) is) bytes
+      written-gives (schedulingQuestions [] s others counted work (length buffer)) (length (scheduledFrom s others counted)) (scheduledFrom s others counted) buffer (rw room at last-asked)
+      (rw (sheet-long s n few long others counted none) is) bytes

@@ -1,12 +1,13 @@
 -- What scheduling writes passes the questions: its records are right, and its index is the tree of its own schedule. Assumes nothing.
-use Prim.Native.Nat.{ℕ, _*_, _<_, _≤_}
+use Prim.Native.Nat.{ℕ, zero, suc, _*_, _<_, _≤_}
 use mathlib.Core.Path.{_≡_, refl, sym, ap, _∙_}
 use mathlib.Core.Bool.{Bool, true, false, true≢false}
-use mathlib.Core.List.{List}
+use mathlib.Core.List.{List, []}
 use mathlib.Core.Logic.{_↔_}
 use native.Mathlib.Omega.{arith}
 use borrow.Author.Tests.{lt-ltb, eq-eqb}
-use lib.ListN.{length}
+use lib.Dec.{eqb}
+use lib.ListN.{length, getD}
 use Rattle.lists.specs.TestLaws.{or-right, every-of}
 use Rattle.numbers.specs.Little.{Bytes}
 use Rattle.fractions.specs.declared.Fraction.{Fraction}
@@ -23,17 +24,19 @@ use Rattle.elimination.specs.Records.{isNever, markRecord, valueAt}
 use Rattle.elimination.specs.Reel.{Reel, marksOf, GoodReel}
 use Rattle.elimination.specs.Sheet.{sheet-proper}
 use Rattle.elimination.specs.Theorems.{process-eliminator}
-use Rattle.elimination.specs.Schedule.{schedule-length, schedule-reads, schedule-value}
-use Rattle.index.specs.Laws.{index-long, index-iff}
-use Rattle.contents.specs.Contents.{Part, split, marksPart, popupsPart}
-use Rattle.contents.specs.Laws.{find-bytes}
+use Rattle.elimination.specs.Schedule.{schedule-length, schedule-bytes, schedule-reads, schedule-value}
+use Rattle.index.specs.Index.{indexOf}
+use Rattle.index.specs.Laws.{index-long, index-bytes, index-iff}
+use Rattle.counting.specs.Laws.{counts-bytes}
+use Rattle.contents.specs.Contents.{Part, bodiesOf, find, has, split, join, marksPart, popupsPart}
+use Rattle.contents.specs.Laws.{find-bytes, join-bytes}
 use Rattle.bodies.specs.Laws.{popups-good}
 use Rattle.bodies.specs.Questions.{markCount, editionOf, namesRight, recordRight, isSchedule, reelFrom, reelOf}
 use Rattle.bodies.specs.Fitting.{Fitting}
 use Rattle.sheet.specs.Questions.{sheetCount, check}
 use Rattle.sheet.specs.Laws.{accepted-iff}
-use Rattle.jobs.specs.Jobs.{newSchedule, newIndex, newParts}
-use Rattle.jobs.specs.Laws.Kept.{KeptRight}
+use Rattle.jobs.specs.Jobs.{newSchedule, newIndex, newCounts, newParts, withCounts}
+use Rattle.jobs.specs.Laws.Kept.{KeptRight, beside-found, beside-there, beside-bytes, counts-found}
 
 -- ---- tests and counts
 
@@ -92,22 +95,46 @@ module _ (s : List ℕ) (kept : List Part) (good : GoodMarks s (markCount s)) (l
   unfolding isSchedule
   new-every = every-of (recordRight (reelFrom edition popups s) (newSchedule s kept)) (markCount s) new-right
 
-  -- the parts that scheduling writes fit one another: questions 4 to 9 say yes
-  pub new-fitting : Fitting (newParts s kept)
-  new-fitting =
+  -- the counts are those of the new schedule, and the popups beside them those that are kept
+  new-counts : (counted : Bool) → has (withCounts counted (newCounts s kept) kept) 6 ≡ true
+      → find (withCounts counted (newCounts s kept) kept) 6 ≡ newCounts s kept
+  new-counts true h = counts-found kept (newCounts s kept)
+  new-counts false h = absurd (true≢false (sym h ∙ kept-right .no-counts))
+
+  -- the parts that scheduling writes fit one another: questions 4 to 9 and 23 say yes
+  pub new-fitting : (counted : Bool) → Fitting (newParts s kept counted)
+  new-fitting counted =
       record {
         marks = good;
         marks-long = long;
         schedule-long = λ h. schedule-length (reelFrom edition popups s);
         index-long = λ h. index-long s (newSchedule s kept) (markCount s) few;
-        edition-right = kept-right .edition-right;
-        popups-right = kept-right .popups-right;
-        schedule-right = λ h. new-every;
+        edition-right = λ h. rw (found 4 refl) (kept-right .edition-right (rw (there 4 refl) at h));
+        popups-right = λ h. rw (found 5 refl) (kept-right .popups-right (rw (there 5 refl) at h));
+        schedule-right = λ h. rw (found 4 refl, found 5 refl) new-every;
         index-right = λ h. index-iff s (newSchedule s kept) (markCount s) few (newIndex s kept) .1 refl;
+        counts-right = λ h. rw (found 5 refl) (new-counts counted h);
       }
     where
       few : markCount s ≤ 65536
       few = omega (arith, good .few)
+
+      found : (code : ℕ) → eqb 6 code ≡ false → find (withCounts counted (newCounts s kept) kept) code ≡ find kept code
+      found code = beside-found kept counted (newCounts s kept) code
+
+      there : (code : ℕ) → eqb 6 code ≡ false → has (withCounts counted (newCounts s kept) kept) code ≡ has kept code
+      there code = beside-there kept counted (newCounts s kept) code
+
+-- its bytes are bytes
+pub new-bytes : (s : List ℕ) (kept : List Part) (counted : Bool) → Bytes s → ((i : ℕ) → Bytes (getD (bodiesOf kept) i [])) → Bytes (join (newParts s kept counted))
+new-bytes s kept counted bytes each = join-bytes (newParts s kept counted) go
+  where
+    go : (i : ℕ) → Bytes (getD (bodiesOf (newParts s kept counted)) i [])
+    go zero = bytes
+    go (suc zero) = schedule-bytes (reelFrom (editionOf kept) (popupsPart kept) s)
+    go (suc (suc zero)) = index-bytes (indexOf s (newSchedule s kept) (markCount s))
+    go (suc (suc (suc i))) =
+        beside-bytes kept counted (newCounts s kept) (counts-bytes s (newSchedule s kept) (popupsPart kept) (markCount s)) each i
 
 -- ---- an accepted sheet's marks
 

@@ -43,9 +43,14 @@ there5 c =
 part5 : (c : tie.After-part3) → now (c .part3 .result) ≡ popupsPart (split (given (c .before .before .before .before .before .before .before .before .before .before)))
 part5 c = c .part3 .ensures ∙ found-part _ (c .before .before .before .before .before .before .opened .ensures) (accepted (c .before .before .before .before .before)) 5
 
+there6 : (c : tie.After-is-there2) → c .is-there2 .result ≡ has (split (given (c .before .before .before .before .before .before .before .before .before .before .before .before .before))) 6
+there6 c =
+    let e = accepted (c .before .before .before .before .before .before .before .before) in
+    c .is-there2 .ensures ∙ layout-there _ e (found-layout _ (c .before .before .before .before .before .before .before .before .before .opened .ensures) e) 6
+
 -- what a way out gives, with demand 3 of it
 whole : (g : List ℕ) (work : ℕ) {before out w w′ : List ℕ} {r : Answer} → Bytes g → Gives (scheduleJob g work (length before)) before r out
-    → Lent r w w′ → Gives (scheduleJob g work (length before)) before r out × (Lent r w w′ × Meets (marksPart (split g)) (keptParts (split g)) r out)
+    → Lent r w w′ → Gives (scheduleJob g work (length before)) before r out × (Lent r w w′ × Meets (marksPart (split g)) (keptParts (split g)) (has (split g) 6) r out)
 whole g work {before} bytes gives lent = (gives, (lent, schedule-meets g work before bytes gives))
 
 opened-requires : tie.Need-opened-requires
@@ -59,7 +64,7 @@ unfolding check
 returns c =
     let found = found-number _ (c .before .before .opened .ensures) in
     whole _ _ (λ i. c .before .before .before .before .before .shared-slice-known .given i .fits)
-    (stopped (checkQuestions _) (check-numbered _) _ _ _ _ found (omega (arith, c .before .if1 .taken)) (c .refused .ensures))
+    (stopped (checkQuestions _) (check-numbered _) _ _ _ _ _ found (omega (arith, c .before .if1 .taken)) (c .refused .ensures))
     (record { long = refl; refused = λ h. refl })
 
 part-requires : tie.Need-part-requires
@@ -80,13 +85,16 @@ slice-aggregate-schedule-marks c = search needs
 slice-aggregate-schedule-marks-2 : tie.Need-slice-aggregate-schedule-marks-2
 slice-aggregate-schedule-marks-2 c = search needs
 
+is-there-requires-2 : tie.Need-is-there-requires-2
+is-there-requires-2 c κs = search needs
+
 schedule-marks-requires : tie.Need-schedule-marks-requires
 schedule-marks-requires c κs =
-    let p = c .before .before .before .before in
+    let p = c .before .before .before .before .before in
     let ok = accepted (p .before .before .before .before .before) in
     let fit = accepted-iff _ .0 ok .fitting in
     rw (append-nil (now (p .before .before .before .part .result)), append-nil (now (p .part3 .result)), part1 (p .before .before .before), part4 (p .before .before), there5 (p .before), part5 p)
-    (fit .marks, fit .marks-long, edition-short _ ok, popups-lent _ _ _ (fit .popups-right) (find-none (split (given (c .before .before .before .before .before .before .before .before .before .before .before .before .before .before))) 5))
+    (fit .marks, fit .marks-long, edition-short _ ok, popups-lent _ _ _ (fit .popups-right) (find-none (split (given (c .before .before .before .before .before .before .before .before .before .before .before .before .before .before .before))) 5))
 
 same-length : tie.Need-same-length
 same-length c = search needs
@@ -97,12 +105,12 @@ same-length-2 c = search needs
 returns-2 : tie.Need-returns-2
 unfolding check
 returns-2 c =
-    let p = c .before .before .before .before .before .before .before .before .before in
+    let p = c .before .before .before .before .before .before .before .before .before .before in
     let ok = accepted (p .before .before .before .before .before) in
-    whole _ _ (λ i. c .before .before .before .before .before .before .before .before .before .before .before .before .before .before .before .before .before .before .shared-slice-known .given i .fits)
+    whole _ _ (λ i. c .before .before .before .before .before .before .before .before .before .before .before .before .before .before .before .before .before .before .before .shared-slice-known .given i .fits)
     (once-passed (checkQuestions _) (check-numbered _) ok _ (append-nil (now (p .before .before .before .part .result)) ∙ part1 (p .before .before .before))
     (carried-lent _ ok (λ q. q) (part4 (p .before .before)) (there5 (p .before)) (λ t. append-nil (now (p .part3 .result)) ∙ part5 p))
-    (c .before .before .before .before .schedule-marks .ensures .0)) (c .before .before .before .before .schedule-marks .ensures .1)
+    (there6 (c .before .before .before .before .before .before .before)) (c .before .before .before .before .schedule-marks .ensures .0)) (c .before .before .before .before .schedule-marks .ensures .1)
 
 pub rollmap-schedule-spec : {M : Type 1} → statement M
 rollmap-schedule-spec =
@@ -117,6 +125,7 @@ rollmap-schedule-spec =
     part-requires-3
     slice-aggregate-schedule-marks
     slice-aggregate-schedule-marks-2
+    is-there-requires-2
     schedule-marks-requires
     same-length
     same-length-2

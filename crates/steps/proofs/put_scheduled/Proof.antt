@@ -1,7 +1,7 @@
 -- `steps::put_scheduled`: the contents, the marks and the parts that are kept are written, and parts 2 and 3 between them. Assumes nothing.
 use Prim.Native.Nat.{ℕ, _+_, _-_, _*_, _≤_}
 use mathlib.Core.Path.{_≡_}
-use mathlib.Core.Bool.{Bool, true, false}
+use mathlib.Core.Bool.{Bool, true, false, cond}
 use mathlib.Core.List.{List, _++_}
 use native.Mathlib.Omega.{arith}
 use borrow.Author.Needs.{needs}
@@ -27,19 +27,25 @@ edition b = now (b .args .edition)
 
 -- where the marks begin
 abbrev begin : tie.Start → ℕ
-begin b = contentsSize (length (codesFrom (ltb 0 (length (edition b))) (b .args .there)))
+begin b = contentsSize (length (codesFrom true (ltb 0 (length (edition b))) (b .args .there) (b .args .counted)))
 
-sized : (b : tie.Start) → scheduledSize (b .args .n) (keptFrom (edition b) (b .args .there) (popups b)) ≡ begin b + 27 * b .args .n + length (edition b) + length (popups b)
-sized b = lent-size (marks b) (b .args .n) (b .pre .0 .0 .few) (b .pre .0 .1) (edition b) (b .args .there) (popups b) (b .pre .0 .2) (b .pre .0 .3)
+sized : (b : tie.Start)
+    → scheduledSize (b .args .n) (keptFrom (edition b) (b .args .there) (popups b)) (b .args .counted)
+    ≡ begin b + 27 * b .args .n + length (edition b) + length (popups b) + cond (b .args .counted) 170 0
+sized b = lent-size (marks b) (b .args .n) (b .pre .0 .0 .few) (b .pre .0 .1) (edition b) (b .args .there) (popups b) (b .args .counted) (b .pre .0 .2) (b .pre .0 .3)
 
-few-parts : (b : tie.Start) → begin b ≤ 52
-few-parts b = few (ltb 0 (length (edition b))) (b .args .there)
+few-parts : (b : tie.Start) → begin b ≤ 62
+few-parts b = few (ltb 0 (length (edition b))) (b .args .there) (b .args .counted)
   where
-    few : (e p : Bool) → contentsSize (length (codesFrom e p)) ≤ 52
-    few true true = omega arith
-    few true false = omega arith
-    few false true = omega arith
-    few false false = omega arith
+    few : (e p c : Bool) → contentsSize (length (codesFrom true e p c)) ≤ 62
+    few true true true = omega arith
+    few true true false = omega arith
+    few true false true = omega arith
+    few true false false = omega arith
+    few false true true = omega arith
+    few false true false = omega arith
+    few false false true = omega arith
+    few false false false = omega arith
 
 abbrev start : tie.After-put-pieces2 → tie.Start
 start p = p .before .before .before .before .before .before .before .before .before .before .before .before .before .before .before .before .before .before .before .before .before
@@ -52,13 +58,13 @@ ended : (p : tie.After-put-pieces2) → p .put-pieces2 .result ≡ begin (start 
 ended p = omega (arith, p .put-pieces2 .ensures .0, p .before .before .before .before .put .ensures .0, p .before .before .before .before .before .before .before .before .before .before .before .before .put-head .ensures .0)
 
 stands : (p : tie.After-put-pieces2)
-    → Standing (marks (start p)) (start p .args .n) (edition (start p)) (start p .args .there) (popups (start p)) (now (start p .args .out)) (p .put-pieces2 .last .0)
+    → Standing (marks (start p)) (start p .args .n) (edition (start p)) (start p .args .there) (popups (start p)) (start p .args .counted) (now (start p .args .out)) (p .put-pieces2 .last .0)
     (p .before .before .before .before .before .before .before .before .before .before .before .before .put-head .result) (p .put-pieces2 .result)
 stands p =
     let b = start p in
     let h = p .before .before .before .before .before .before .before .before .before .before .before .before in
     let q = p .before .before .before .before in
-    standing (marks b) (b .args .n) (b .pre .0 .0 .few) (b .pre .0 .1) (edition b) (b .args .there) (popups b) (b .pre .0 .2) (b .pre .0 .3) (now (b .args .out)) (b .pre .1 .1)
+    standing (marks b) (b .args .n) (b .pre .0 .0 .few) (b .pre .0 .1) (edition b) (b .args .there) (popups b) (b .args .counted) (b .pre .0 .2) (b .pre .0 .3) (now (b .args .out)) (omega (arith, sized b, b .pre .1 .1))
     (h .put-head .ensures .1) (rw (h .put-head .ensures .0) at (p .before .before .before .before .before .before .before .before .put-pieces .ensures .1)) (rw (h .put-head .ensures .0) at (q .put .ensures .1))
     (rw (q .put .ensures .0, h .put-head .ensures .0) at (p .put-pieces2 .ensures .1)) (h .put-head .ensures .0) (ended p)
 
@@ -129,8 +135,10 @@ same-length-2 c = search needs
 returns : tie.Need-returns
 returns c =
     let p = c .before .before .before .before .before .before .before .before .before .before in
-    let st = stands p in
-    st .put _ (rw (st .marks, from-start p, st .popups, c .before .before .before .before .before .before .edition-of .ensures) at (c .before .before .before .before .put-results .ensures))
+    let st = stands p in (
+      c .before .before .before .before .before .before .before .before .before .before .before .before .before .before .before .before .before .before .before .before .before .before .put-head .ensures .0,
+      st .put _ (rw (st .marks, from-start p, st .popups, c .before .before .before .before .before .before .edition-of .ensures) at (c .before .before .before .before .put-results .ensures)),
+    )
 
 pub put-scheduled-spec : {M : Type 1} → statement M
 put-scheduled-spec =

@@ -9,11 +9,11 @@ use denote.Ref.{now}
 use lib.Dec.{leb}
 use lib.ListN.{length}
 use Rattle.lists.specs.TestLaws.{said-no, said-yes}
-use Rattle.contents.specs.Contents.{Part}
+use Rattle.contents.specs.Contents.{Part, has}
 use Rattle.jobs.specs.declared.Answer.{Answer}
 use Rattle.jobs.specs.Jobs.{scheduledSize, hasRoom}
 use Rattle.jobs.specs.Steps.{keptFrom}
-use Rattle.jobs.specs.Laws.Kept.{lent-kept-size}
+use Rattle.jobs.specs.Laws.Kept.{kept-uncounted, lent-kept-size}
 use Rattle.jobs.specs.Laws.Scheduling.{room-there, no-room, sheet-written}
 use Rattle.steps.proofs.schedule_marks.Statement.{statement}
 use Rattle.steps.proofs.schedule_marks.Tie as tie
@@ -24,21 +24,27 @@ kept b = keptFrom (now (b .args .edition)) (b .args .there) (now (b .args .popup
 
 -- the size that is asked for, and told
 abbrev size : tie.Start → ℕ
-size b = 27 * b .args .n + 32 + (11 * length (now (b .args .edition)) + cond (b .args .there) (10 + 4 * b .args .n) 0)
+size b = 27 * b .args .n + 32 + (11 * length (now (b .args .edition)) + cond (b .args .there) (10 + 4 * b .args .n) 0) + cond (b .args .counted) 180 0
 
-size-is : (b : tie.Start) → scheduledSize (b .args .n) (kept b) ≡ size b
+size-is : (b : tie.Start) → scheduledSize (b .args .n) (kept b) (b .args .counted) ≡ size b
 size-is b =
-    ap (λ (k : ℕ). 27 * b .args .n + 32 + k)
+    ap (λ (k : ℕ). 27 * b .args .n + 32 + k + cond (b .args .counted) 180 0)
     (lent-kept-size (now (b .args .edition)) (b .args .there) (now (b .args .popups) ++ now (b .args .last)) (b .pre .2) (b .pre .3))
 
-most : (b : tie.Start) → size b ≤ 31 * b .args .n + 53
-most b = bound (b .args .there)
+most : (b : tie.Start) → size b ≤ 31 * b .args .n + 233
+most b = bound (b .args .there) (b .args .counted)
   where
-    bound : (there : Bool) → 27 * b .args .n + 32 + (11 * length (now (b .args .edition)) + cond there (10 + 4 * b .args .n) 0) ≤ 31 * b .args .n + 53
-    bound true = omega (arith, b .pre .2)
-    bound false = omega (arith, b .pre .2)
+    bound : (there counted : Bool)
+        → 27 * b .args .n + 32 + (11 * length (now (b .args .edition)) + cond there (10 + 4 * b .args .n) 0) + cond counted 180 0 ≤ 31 * b .args .n + 233
+    bound true true = omega (arith, b .pre .2)
+    bound true false = omega (arith, b .pre .2)
+    bound false true = omega (arith, b .pre .2)
+    bound false false = omega (arith, b .pre .2)
 
-room-is : (b : tie.Start) (work out : ℕ) {r : Bool} → r ≡ (leb (32 * b .args .n + 1024) work && leb (size b) out) → r ≡ hasRoom (b .args .n) (kept b) work out
+uncounted : (b : tie.Start) → has (kept b) 6 ≡ false
+uncounted b = kept-uncounted (now (b .args .edition)) (b .args .there) (now (b .args .popups) ++ now (b .args .last))
+
+room-is : (b : tie.Start) (work out : ℕ) {r : Bool} → r ≡ (leb (32 * b .args .n + 1024) work && leb (size b) out) → r ≡ hasRoom (b .args .n) (kept b) (b .args .counted) work out
 room-is b work out e = rw (size-is b) e
 
 has-room-requires : tie.Need-has-room-requires
@@ -50,21 +56,21 @@ refused-requires c κs = search needs
 returns : tie.Need-returns
 returns c =
     let b = c .before .before .before .before .before .before .before .before .before .before in (
-      no-room _ (b .args .n) (b .pre .0 .few) (b .pre .1) _ _ _ (said-no (room-is b _ _ (c .before .before .has-room .ensures)) (c .before .if1 .taken)) (c .refused .ensures),
+      no-room _ (b .args .n) (b .pre .0 .few) (b .pre .1) _ _ (uncounted b) _ _ (said-no (room-is b _ _ (c .before .before .has-room .ensures)) (c .before .if1 .taken)) (c .refused .ensures),
       record { long = refl; refused = λ h. refl },
     )
 
-put-scheduled-requires : tie.Need-put-scheduled-requires
-put-scheduled-requires c κs =
+put-sheet-requires : tie.Need-put-sheet-requires
+put-sheet-requires c κs =
     let b = c .before .before .before .before .before .before .before .before .before .before .before in
-    let room = room-there (b .args .n) (kept b) _ _ (said-yes (room-is b _ _ (c .before .before .before .has-room .ensures)) (c .before .before .if1 .left)) in
+    let room = room-there (b .args .n) (kept b) (b .args .counted) _ _ (said-yes (room-is b _ _ (c .before .before .before .has-room .ensures)) (c .before .before .if1 .left)) in
     (b .pre, room)
 
 scheduled-size-requires : tie.Need-scheduled-size-requires
 scheduled-size-requires c κs = search needs
 
-cast-t20 : tie.Need-cast-t20
-cast-t20 c = let b = c .before .before .before .before .before .before .before .before .before .before .before .before .before .before .before .before .before in omega (arith, c .scheduled-size .ensures, most b, b .pre .0 .few)
+cast-t21 : tie.Need-cast-t21
+cast-t21 c = let b = c .before .before .before .before .before .before .before .before .before .before .before .before .before .before .before .before .before in omega (arith, c .scheduled-size .ensures, most b, b .pre .0 .few)
 
 same-length : tie.Need-same-length
 same-length c = search needs
@@ -75,8 +81,8 @@ same-length-2 c = search needs
 returns-2 : tie.Need-returns-2
 returns-2 c =
     let b = c .before .before .before .before .before .before .before .before .before .before .before .before .before .before .before .before .before in (
-      sheet-written _ (b .args .n) (b .pre .0 .few) (b .pre .1) _ _ _ (said-yes (room-is b _ _ (c .before .before .before .before .before .before .before .before .before .has-room .ensures)) (c .before .before .before .before .before .before .before .before .if1 .left))
-          (ap {B = Answer} (λ (v : ℕ). record { number = 0; value = v }) (c .scheduled-size .ensures ∙ sym (size-is b))) (c .before .before .before .before .before .put-scheduled .ensures),
+      sheet-written _ (b .args .n) (b .pre .0 .few) (b .pre .1) _ _ (uncounted b) _ _ (said-yes (room-is b _ _ (c .before .before .before .before .before .before .before .before .before .has-room .ensures)) (c .before .before .before .before .before .before .before .before .if1 .left))
+          (ap {B = Answer} (λ (v : ℕ). record { number = 0; value = v }) (c .scheduled-size .ensures ∙ sym (size-is b))) (c .before .before .before .before .before .put-sheet .ensures),
       record { long = search needs; refused = λ z. absurd (omega (arith, z)) },
     )
 
@@ -87,9 +93,9 @@ schedule-marks-spec =
     has-room-requires
     refused-requires
     returns
-    put-scheduled-requires
+    put-sheet-requires
     scheduled-size-requires
-    cast-t20
+    cast-t21
     same-length
     same-length-2
     returns-2)

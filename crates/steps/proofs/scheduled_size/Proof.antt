@@ -1,46 +1,63 @@
 -- `steps::scheduled_size`: the sizes added up. Assumes nothing.
-use native.Mathlib.Omega.{arith}
 use borrow.Author.Needs.{needs}
 use Rattle.steps.proofs.scheduled_size.Statement.{statement}
 use Rattle.steps.proofs.scheduled_size.Tie as tie
 
-mul-most : tie.Need-mul-most
-mul-most c = search needs
+mul-kept : tie.Need-mul-kept
+mul-kept c = search needs
 
-add-most : tie.Need-add-most
-add-most c = search needs
+-- src/lib.rt:136:74
+mul-size-if : tie.Need-mul-size-if
+mul-size-if c = search needs
 
-mul-most-2 : tie.Need-mul-most-2
-mul-most-2 c = search needs
+-- src/lib.rt:136:58
+add-size-if : tie.Need-add-size-if
+add-size-if c = search needs
 
-add-most-2 : tie.Need-add-most-2
-add-most-2 c = search needs
+-- src/lib.rt:136:42
+size-if-requires : tie.Need-size-if-requires
+size-if-requires c κs = search needs
 
-add-result : tie.Need-add-result
-add-result c = search needs
+-- src/lib.rt:136:16
+add-kept : tie.Need-add-kept
+add-kept c = search needs
 
+-- src/lib.rt:137:5
 mul-result : tie.Need-mul-result
 mul-result c = search needs
 
+-- src/lib.rt:137:5
+add-result : tie.Need-add-result
+add-result c = search needs
+
+-- src/lib.rt:137:5
 add-result-2 : tie.Need-add-result-2
 add-result-2 c = search needs
 
-returns : tie.Need-returns
-returns c = rw (c .if1 .taken) (omega arith)
+-- src/lib.rt:137:44
+size-if-requires-2 : tie.Need-size-if-requires-2
+size-if-requires-2 c κs = search needs
 
-returns-2 : tie.Need-returns-2
-returns-2 c = rw (c .if1 .left) (omega arith)
+-- src/lib.rt:137:5
+add-result-3 : tie.Need-add-result-3
+add-result-3 c = search needs
+
+-- src/lib.rt:132:1
+returns : tie.Need-returns
+returns c = search needs
 
 pub scheduled-size-spec : {M : Type 1} → statement M
 scheduled-size-spec =
     tie.close
     (tie.spec
-    mul-most
-    add-most
-    mul-most-2
-    add-most-2
-    add-result
+    mul-kept
+    mul-size-if
+    add-size-if
+    size-if-requires
+    add-kept
     mul-result
+    add-result
     add-result-2
-    returns
-    returns-2)
+    size-if-requires-2
+    add-result-3
+    returns)

@@ -1,6 +1,6 @@
 -- `view::is_visible` meets its contract: both tests, in their order. Assumes nothing.
 use borrow.Author.Tests.{lt-leb, le-leb}
-use Rattle.view.specs.Shown.{poppedUp}
+use Rattle.counting.specs.Lives.{poppedUp}
 use Rattle.view.specs.Turning.{visibleHere}
 use Rattle.view.proofs.is_visible.Statement.{statement}
 use Rattle.view.proofs.is_visible.Tie as tie

@@ -17,7 +17,7 @@ use Rattle.zoom.specs.Living.{livesAt}
 use Rattle.index.specs.Index.{coordinate}
 use Rattle.view.specs.declared.Bounds.{Bounds}
 use Rattle.view.specs.Turning.{gapHere, distanceHere, reachesHere, visibleHere, shownHere}
-use Rattle.view.specs.Shown.{poppedUp}
+use Rattle.counting.specs.Lives.{poppedUp}
 use Rattle.view.specs.Search.{wider, widestLiving, moved, boundsOf, Within}
 
 -- ---- a gap is no wider than a disk that reaches over it

@@ -20,7 +20,8 @@ use Rattle.turns.specs.Turns.{turnedPlace}
 use Rattle.turns.specs.Small.{UpTo, Within}
 use Rattle.turns.specs.Laws.{turned-0, turned-1, turned-2, turned-3, turned-four, turned-within}
 use Rattle.view.specs.declared.Window.{Window}
-use Rattle.view.specs.Shown.{above, gap, distanceSquared, diskReaches, placeAt, edgesOf, reaches, poppedUp, lives, shown}
+use Rattle.view.specs.Shown.{above, gap, distanceSquared, diskReaches, placeAt, edgesOf, reaches, shown}
+use Rattle.counting.specs.Lives.{poppedUp, lives}
 use Rattle.view.specs.Questions.{isEdge, IsEdge, question20, question11}
 use Rattle.view.specs.Turning.{cornerOf, lower, higher, lacking, turnedBack, Edged, gapHere, distanceHere, reachesHere, visibleHere, shownHere}
 use Rattle.view.specs.Lemmas.Edges.{edge-abs, abs-edge, edge-shifted, shifted-le, gap-here, neg-edge, place-edge}

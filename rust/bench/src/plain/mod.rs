@@ -6,6 +6,7 @@
 //! read once, by the oracle, and taken from there.
 
 pub mod columns;
+pub mod count;
 pub mod grid;
 pub mod index;
 pub mod judge;

@@ -1,7 +1,7 @@
 //! Scheduling by the rank-order algorithm, with and without cells, and by sorting all
 //! pairs.
 
-use oracle::contents::{contents_bytes, write_contents};
+use oracle::contents::{contents_bytes, write_contents, MOST_PARTS};
 use oracle::fraction::Fraction;
 use oracle::label::Label;
 use oracle::mark::{Mark, MARK_BYTES};
@@ -12,6 +12,7 @@ use oracle::sheet::{part_lengths, Rows};
 use oracle::tree::{write_number, Axis, INDEX_BYTES};
 use oracle::{ask, Refusal};
 
+use super::count::part_6;
 use super::grid::Grid;
 use super::index::{build, keys, Ordered};
 use super::sheet::open;
@@ -146,9 +147,11 @@ impl Desk {
         let part_4 = rows.named.map(Edition::write);
         let part_4 = part_4.as_ref().map(|part_4| part_4.as_slice());
         let part_5 = rows.popups.map(|popups| popups.as_flattened());
-        let mut parts = [(1, length_1), (2, length_2), (3, length_3), (0, 0), (0, 0)];
+        let mut parts = [(0, 0); MOST_PARTS];
+        parts[..3].copy_from_slice(&[(1, length_1), (2, length_2), (3, length_3)]);
         let mut count = 3;
-        for (code, body) in [(4, part_4), (5, part_5)] {
+        // The counts are renewed in the same length.
+        for (code, body) in [(4, part_4), (5, part_5), (6, rows.counts)] {
             if let Some(body) = body {
                 parts[count] = (code, body.len());
                 count += 1;
@@ -168,9 +171,13 @@ impl Desk {
         part_1.copy_from_slice(marks.as_flattened());
         self.write_records(marks, part_2.as_chunks_mut().0);
         self.write_index(part_3.as_chunks_mut().0);
-        let (named, popups) = kept.split_at_mut(part_4.map_or(0, <[u8]>::len));
+        let (named, rest) = kept.split_at_mut(part_4.map_or(0, <[u8]>::len));
+        let (popups, counts) = rest.split_at_mut(part_5.map_or(0, <[u8]>::len));
         named.copy_from_slice(part_4.unwrap_or_default());
         popups.copy_from_slice(part_5.unwrap_or_default());
+        if rows.counts.is_some() {
+            counts.copy_from_slice(&part_6(&rows, part_2.as_chunks().0));
+        }
         Ok(written)
     }
 

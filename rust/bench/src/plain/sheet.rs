@@ -1,4 +1,4 @@
-//! Questions 1 to 9, 19 and 21.
+//! Questions 1 to 9, 19, 21 and 23.
 
 use oracle::contents::split;
 use oracle::mark::{touching_value, Mark};
@@ -8,6 +8,7 @@ use oracle::record::Record;
 use oracle::sheet::{record_fits, Rows};
 use oracle::{ask, Refusal};
 
+use super::count::part_6;
 use super::index::Indexed;
 
 /// Opens a sheet. Asks 1 to 9.
@@ -29,6 +30,9 @@ pub fn open(sheet: &[u8]) -> Result<Rows<'_>, Refusal> {
     }
     if let Some(indexed) = Indexed::of(&rows) {
         ask(9, indexed.is_tree())?;
+    }
+    if let (Some(records), Some(counts)) = (rows.records, rows.counts) {
+        ask(23, counts == part_6(&rows, records))?;
     }
     Ok(rows)
 }

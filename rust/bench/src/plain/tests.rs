@@ -18,6 +18,7 @@ use oracle::zoom::Zoom;
 use oracle::Refusal;
 
 use super::columns::{from_columns, to_columns};
+use super::count::count;
 use super::schedule::Desk;
 use super::sheet::open;
 use super::view::{turned_back, view, walk};
@@ -54,6 +55,19 @@ fn with_kept(sheet: &[u8], reel: Reel) -> Vec<u8> {
     join_parts(&parts)
 }
 
+/// The sheet, of which all parts but part 6 are accepted, with its counts.
+fn with_counts(sheet: &[u8]) -> Vec<u8> {
+    oracle::count::count(sheet, usize::MAX).unwrap()
+}
+
+/// The counted sheets of a reel: one in which nobody goes, and the scheduled one.
+fn counted_sheets(reel: Reel) -> [Vec<u8>; 2] {
+    let [_, scheduled] = whole_sheets(reel);
+    let never = write_records(&vec![Record::NEVER; reel.marks.len()]);
+    let foreign = join(&[&write_marks(reel.marks), &never]);
+    [with_kept(&foreign, reel), scheduled].map(|sheet| with_counts(&sheet))
+}
+
 #[test]
 fn every_core_writes_the_scheduled_sheet() {
     let cores = [
@@ -70,9 +84,8 @@ fn every_core_writes_the_scheduled_sheet() {
             all.extend(Edition::ALL.map(|edition| whole_sheets(edition.reel(&sample))));
             for how in Popups::ALL {
                 let popups = popups(how, &sample, 1);
-                all.push(whole_sheets(
-                    Edition::Second.reel(&sample).with_popups(&popups),
-                ));
+                let reel = Edition::Second.reel(&sample).with_popups(&popups);
+                all.extend([whole_sheets(reel), counted_sheets(reel)]);
             }
             for ([sheet, expected], core) in all
                 .iter()
@@ -101,7 +114,8 @@ fn sheets_with_a_byte_changed_or_cut_short_are_refused_by_the_same_question() {
         let sample = marks(shape, 6, 3);
         let popups = popups(Popups::Touching, &sample, 3);
         let named = Edition::ALL.map(|edition| whole_sheets(edition.reel(&sample)));
-        let popping_up = whole_sheets(Edition::First.reel(&sample).with_popups(&popups));
+        let reel = Edition::First.reel(&sample).with_popups(&popups);
+        let popping_up = whole_sheets(reel).into_iter().chain(counted_sheets(reel));
         let others = named.concat().into_iter().chain(popping_up);
         for mut sheet in sheets(&sample).into_iter().chain(others) {
             assert_eq!(opened(&sheet), 0);
@@ -134,6 +148,62 @@ fn trees_with_two_numbers_exchanged_are_refused() {
                 sheet.swap(start + 2 * a, start + 2 * b);
             }
         }
+    }
+}
+
+/// Counts a sheet in so much room, and sees that the answer and every byte are the oracle's.
+fn assert_counted(sheet: &[u8], room: usize) {
+    let mut out = vec![0xee; room];
+    let answer = count(sheet, &mut out);
+    let expected = oracle::count::count(sheet, room);
+    let written = expected.as_deref().unwrap_or_default();
+    assert_eq!(answer, expected.as_ref().map(Vec::len).map_err(|no| *no));
+    assert!(out.starts_with(written), "{sheet:02x?}");
+    assert!(out[written.len()..].iter().all(|&byte| byte == 0xee));
+}
+
+#[test]
+fn counts_are_the_oracles() {
+    for (shape, n) in Shape::ALL
+        .into_iter()
+        .flat_map(|shape| [0, 1, 2, 60, 300].map(|n| (shape, n)))
+    {
+        let sample = marks(shape, n, 5);
+        let drawn = Popups::ALL.map(|how| popups(how, &sample, 5));
+        let bare = Edition::First.reel(&sample);
+        let popping_up = drawn.iter().map(|popups| bare.with_popups(popups));
+        for reel in std::iter::once(bare).chain(popping_up) {
+            let [foreign, scheduled] = counted_sheets(reel);
+            let [alone, uncounted] = whole_sheets(reel);
+            for sheet in [foreign, scheduled, alone, uncounted] {
+                let needed = sheet.len() + 180;
+                for room in [0, sheet.len() - 1, sheet.len(), needed - 1, needed + 3] {
+                    assert_counted(&sheet, room);
+                }
+            }
+        }
+    }
+}
+
+#[test]
+fn counts_about_each_stop_are_the_oracles() {
+    // Two marks that lie d apart touch at 64 times zoom 32d / radius.
+    for (d, radius) in (0..=15).flat_map(|bit| [1, 31, 32, 33].map(|radius| (1 << bit, radius))) {
+        for d in [d - 1, d, d + 1].map(|d: i32| d.min(32_767) as i16) {
+            let two = [Mark::plain(0, 0, radius, 1), Mark::plain(d, 0, radius, 0)];
+            let [_, scheduled] = sheets(&two);
+            assert_counted(&scheduled, 999);
+        }
+    }
+    let far = [
+        Mark::plain(i16::MIN, i16::MIN, 1, 1),
+        Mark::plain(i16::MAX, i16::MAX, 1, 0),
+    ];
+    assert_counted(&sheets(&far)[1], 999);
+    for popup in (0..=16).flat_map(|stop| [(1 << stop) - 1, 1 << stop, (1 << stop) + 1]) {
+        let popups = [popup.min(65_536); 2];
+        let reel = Edition::First.reel(&far).with_popups(&popups);
+        assert_counted(&whole_sheets(reel)[1], 999);
     }
 }
 

@@ -3,6 +3,7 @@
 
 #![allow(dead_code)]
 
+use oracle::count::part_6;
 use oracle::mark::{write_marks, Mark};
 use oracle::popup::write_popups;
 use oracle::process::schedule_in_rank_order;
@@ -10,11 +11,11 @@ use oracle::rank::Edition;
 use oracle::record::{write_records, Record};
 use oracle::reel::Reel;
 use oracle::sample::{marks, popups, Popups, Shape};
-use oracle::sheet::{join, join_parts, schedule, split};
+use oracle::sheet::{join, join_parts, open, schedule, split};
 use oracle::tree;
 
 /// The largest work and written buffers that scheduling asks for, the latter without
-/// parts 4 and 5.
+/// parts 4, 5 and 6.
 pub const WORK: usize = 32 * 4_096 + 1_024;
 pub const OUT: usize = 32 + 27 * 4_096;
 
@@ -26,8 +27,11 @@ pub const fn popup_bytes(n: usize) -> usize {
     10 + 4 * n
 }
 
+/// What part 6 adds to a sheet.
+pub const COUNTS: usize = 180;
+
 /// The largest written buffer that scheduling asks for.
-pub const LONGEST: usize = OUT + EDITION + popup_bytes(4_096);
+pub const LONGEST: usize = OUT + EDITION + popup_bytes(4_096) + COUNTS;
 
 /// The sheet of one part with these marks.
 pub fn one_part(marks: &[Mark]) -> Vec<u8> {
@@ -69,6 +73,13 @@ pub fn with_edition(sheet: &[u8], edition: Edition) -> Vec<u8> {
 /// The sheet with these popups in part 5.
 pub fn with_popups(sheet: &[u8], popups: &[u32]) -> Vec<u8> {
     with_part(sheet, 5, &write_popups(popups))
+}
+
+/// The accepted sheet with the counts of its own schedule in part 6, of which it has none.
+pub fn with_counts(sheet: &[u8]) -> Vec<u8> {
+    let opened = open(sheet).unwrap();
+    let records = opened.records.as_deref().expect("there is a schedule");
+    with_part(sheet, 6, &part_6(opened.reel(), records))
 }
 
 /// The sheet that scheduling a sheet writes.

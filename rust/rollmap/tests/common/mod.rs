@@ -8,19 +8,20 @@ pub mod views;
 use std::collections::BTreeMap;
 
 use oracle::contents::Part;
+use oracle::count::part_6;
 use oracle::fraction::Fraction;
-use oracle::mark::{touching_value, write_marks, Mark};
+use oracle::mark::{read_marks, touching_value, write_marks, Mark};
 use oracle::popup::write_popups;
 use oracle::process::schedule_in_rank_order;
 use oracle::rank::Edition;
-use oracle::record::{write_records, Record};
+use oracle::record::{read_records, write_records, Record};
 use oracle::reel::Reel;
 use oracle::sample::{marks, popups, Generator, Popups, Shape, CODES_TAKEN};
 use oracle::sheet::{join, join_parts, split, Opened};
 use oracle::tree;
 use rollmap::{
-    popups_bytes, scheduled_bytes, work_bytes, Code, Refusal, Work, EDITION_BYTES, MARK_BYTES,
-    POPUP_BYTES,
+    popups_bytes, scheduled_bytes, work_bytes, Code, Refusal, Work, COUNTED_BYTES, EDITION_BYTES,
+    MARK_BYTES, POPUP_BYTES,
 };
 
 /// The program, as `rt check schedule` builds it.
@@ -192,7 +193,7 @@ pub fn lengths(n: usize) -> [usize; 2] {
 pub fn longest() -> [usize; 2] {
     let n = rollmap::MOST_MARKS;
     let [work, out] = lengths(n);
-    [work, out + EDITION_BYTES + popups_bytes(n)]
+    [work, out + EDITION_BYTES + popups_bytes(n) + COUNTED_BYTES]
 }
 
 /// A length near the one that is needed.
@@ -285,28 +286,40 @@ pub fn scheduled_with(named: Option<Edition>, marks: &[Mark]) -> Vec<u8> {
     Beyond::named(named).scheduled(marks)
 }
 
-/// What a sheet has beyond part 3: an edition, where part 4 names one, and popups, where
-/// there is a part 5.
+/// What a sheet has beyond part 3: an edition, where part 4 names one, popups, where there
+/// is a part 5, and whether it has the counts of its schedule in a part 6.
 #[derive(Clone, Debug, Default, PartialEq, Eq)]
 pub struct Beyond {
     pub named: Option<Edition>,
     pub popups: Option<Vec<u32>>,
+    pub counted: bool,
 }
 
 impl Beyond {
-    /// Such a part 4, and no part 5.
-    pub fn named(named: Option<Edition>) -> Self {
+    /// Such a part 4 and such popups, and no part 6.
+    pub fn uncounted(named: Option<Edition>, popups: Option<Vec<u32>>) -> Self {
         Self {
             named,
-            popups: None,
+            popups,
+            counted: false,
         }
     }
 
-    /// These popups, and no part 4.
+    /// Such a part 4, and no part 5 or 6.
+    pub fn named(named: Option<Edition>) -> Self {
+        Self::uncounted(named, None)
+    }
+
+    /// These popups, and no part 4 or 6.
     pub fn popping_up(popups: Vec<u32>) -> Self {
+        Self::uncounted(None, Some(popups))
+    }
+
+    /// The same parts 4 and 5, and a part 6.
+    pub fn counted(self) -> Self {
         Self {
-            named: None,
-            popups: Some(popups),
+            counted: true,
+            ..self
         }
     }
 
@@ -315,6 +328,7 @@ impl Beyond {
         Self {
             named: opened.bodies.get(4).map(|_| opened.edition),
             popups: opened.popups.clone(),
+            counted: opened.bodies.get(6).is_some(),
         }
     }
 
@@ -324,6 +338,7 @@ impl Beyond {
         Self {
             named: generator.choose(&NAMED),
             popups: (generator.below(3) > 0).then_some(drawn),
+            counted: generator.below(3) == 0,
         }
     }
 
@@ -342,15 +357,34 @@ impl Beyond {
             Some(edition) => with_part_4(&sheet, &edition.write()),
             None => sheet,
         };
-        match &self.popups {
+        let whole = match &self.popups {
             Some(popups) => with_popups(&named, popups),
             None => named,
+        };
+        if self.counted {
+            self.count(&whole)
+        } else {
+            whole
         }
     }
 
-    /// The sheet of these marks alone, with the parts.
+    /// The sheet, which has these parts and part 2, with the counts of its schedule.
+    fn count(&self, sheet: &[u8]) -> Vec<u8> {
+        let bodies = split(sheet).expect("its parts are joined");
+        let marks = read_marks(bodies.part_1());
+        let records = read_records(bodies.get(2).expect("there is a schedule"));
+        with_part(sheet, 6, &part_6(self.reel(&marks), &records))
+    }
+
+    /// The sheet of these marks alone, with the parts; where it is counted, which needs a
+    /// schedule, with the one in which nobody goes.
     pub fn bare(&self, marks: &[Mark]) -> Vec<u8> {
-        self.put_behind(one_part(marks))
+        if self.counted {
+            let never = write_records(&vec![Record::NEVER; marks.len()]);
+            self.put_behind(join(&[&write_marks(marks), &never]))
+        } else {
+            self.put_behind(one_part(marks))
+        }
     }
 
     /// The sheet of these marks and records, with the parts.
@@ -368,16 +402,19 @@ impl Beyond {
         let [work, mut out] = lengths(n);
         out += self.named.map_or(0, |_| EDITION_BYTES);
         out += self.popups.as_ref().map_or(0, |_| popups_bytes(n));
+        out += if self.counted { COUNTED_BYTES } else { 0 };
         [work, out]
     }
 }
 
 /// The sheet of these codes, which question 2 takes, that scheduling these marks gives: by
-/// the first edition and these popups, where the sheet has part 4 and part 5.
+/// the first edition and these popups, where the sheet has part 4 and part 5, and counted,
+/// where it has part 6.
 pub fn scheduled_of(codes: &[u16], marks: &[Mark], popups: &[u32]) -> Vec<u8> {
     let beyond = Beyond {
         named: codes.contains(&4).then_some(Edition::First),
         popups: codes.contains(&5).then(|| popups.to_vec()),
+        counted: codes.contains(&6),
     };
     let whole = beyond.scheduled(marks);
     let mut parts = split(&whole).expect("its parts are joined").present();
@@ -519,11 +556,20 @@ pub fn odd_number(generator: &mut Generator, own: u64) -> u64 {
 /// the sheet has.
 pub struct SomeBodies {
     pub codes: &'static [u16],
-    pub bodies: [Vec<u8>; 5],
+    pub bodies: [Vec<u8>; 6],
 }
 
 /// The codes of a sheet that has an index.
-const INDEXED: [&[u16]; 4] = [&[1, 2, 3], &[1, 2, 3, 4], &[1, 2, 3, 5], &[1, 2, 3, 4, 5]];
+const INDEXED: [&[u16]; 8] = [
+    &[1, 2, 3],
+    &[1, 2, 3, 4],
+    &[1, 2, 3, 5],
+    &[1, 2, 3, 6],
+    &[1, 2, 3, 4, 5],
+    &[1, 2, 3, 4, 6],
+    &[1, 2, 3, 5, 6],
+    &[1, 2, 3, 4, 5, 6],
+];
 
 impl SomeBodies {
     /// Bodies with none, one or two faults.
@@ -540,10 +586,8 @@ impl SomeBodies {
             _ => generator.choose(&INDEXED),
         };
         let drawn = popups(generator.choose(&Popups::ALL), &marks, generator.draw());
-        let beyond = Beyond {
-            named: codes.contains(&4).then(|| generator.choose(&Edition::ALL)),
-            popups: codes.contains(&5).then_some(drawn),
-        };
+        let named = codes.contains(&4).then(|| generator.choose(&Edition::ALL));
+        let beyond = Beyond::uncounted(named, codes.contains(&5).then_some(drawn));
         let reel = beyond.reel(&marks);
         let mut records = some_records(generator, reel);
         if !marks.is_empty() && generator.below(3) == 0 {
@@ -553,7 +597,8 @@ impl SomeBodies {
         let [part_1, part_2, part_3] = bodies_of(&marks, &records);
         let part_4 = reel.edition.write().to_vec();
         let part_5 = write_popups(reel.popups.unwrap_or_default());
-        let mut bodies = [part_1, part_2, part_3, part_4, part_5];
+        let part_6 = part_6(reel, &records);
+        let mut bodies = [part_1, part_2, part_3, part_4, part_5, part_6];
         for _ in 0..generator.choose(&[0, 0, 1, 1, 2]) {
             damage_body(generator, &mut bodies);
         }
@@ -615,8 +660,8 @@ fn put_fault(generator: &mut Generator, rows: &mut [u8], width: usize, faults: &
 }
 
 /// Puts one fault into one of the bodies.
-fn damage_body(generator: &mut Generator, bodies: &mut [Vec<u8>; 5]) {
-    let body = generator.choose(&[0, 1, 2, 2, 3, 3, 4, 4]);
+fn damage_body(generator: &mut Generator, bodies: &mut [Vec<u8>; 6]) {
+    let body = generator.choose(&[0, 1, 2, 2, 3, 3, 4, 4, 5, 5]);
     let length = bodies[body].len();
     match generator.below(8) {
         0 => {
@@ -661,8 +706,8 @@ pub fn some_sheet(generator: &mut Generator) -> Vec<u8> {
         0 => sheet.truncate(generator.below(sheet.len() as u32) as usize),
         1 => sheet.extend(vec![0; 1 + generator.below(20) as usize]),
         2 => {
-            let at = generator.below(52.min(sheet.len() as u32)) as usize;
-            sheet[at] = generator.choose(&[0, 1, 2, 3, 4, 5, 6, 12, 22, 32, 42, 52, 128, 255]);
+            let at = generator.below(62.min(sheet.len() as u32)) as usize;
+            sheet[at] = generator.choose(&[0, 1, 2, 3, 4, 5, 6, 7, 12, 22, 32, 42, 52, 62, 255]);
         }
         3 => {
             let at = generator.below(sheet.len() as u32) as usize;
