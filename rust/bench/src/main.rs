@@ -605,6 +605,19 @@ fn time_checking_two(without: &[u8], with: &[u8]) -> [Micros; 3] {
     )
 }
 
+/// Prints the row of checking a sheet with a further part, against the same without it.
+fn print_checked(name: &str, popups: &str, bare: &[u8], sheet: &[u8]) {
+    let [without, with, plain] = time_checking_two(bare, sheet);
+    println!(
+        "| {name} | {popups} | {:.1} | {:.1} | {:.2} | {:.1} | {:.2} |",
+        without.0,
+        with.0,
+        with.over(without),
+        plain.0,
+        with.over(plain),
+    );
+}
+
 fn checking_popups() {
     table(
         "Checking a scheduled sheet of 4,096 marks with popups, against the same marks without",
@@ -622,15 +635,7 @@ fn checking_popups() {
         let bare = scheduled(shape, MOST);
         for (popups, how) in POPPING_UP {
             let sheet = scheduled_popping_up(how, shape);
-            let [without, with, plain] = time_checking_two(&bare, &sheet);
-            println!(
-                "| {name} | {popups} | {:.1} | {:.1} | {:.2} | {:.1} | {:.2} |",
-                without.0,
-                with.0,
-                with.over(without),
-                plain.0,
-                with.over(plain),
-            );
+            print_checked(name, popups, &bare, &sheet);
         }
     }
 }
@@ -660,15 +665,7 @@ fn checking_counts() {
     for (name, shape) in [("uniform", Shape::Uniform), ("clustered", Shape::Clustered)] {
         for (popups, sheet) in sheets_to_count(shape) {
             let counted = rollmap::count_to_vec(&sheet).expect("it has a schedule");
-            let [without, with, plain] = time_checking_two(&sheet, &counted);
-            println!(
-                "| {name} | {popups} | {:.1} | {:.1} | {:.2} | {:.1} | {:.2} |",
-                without.0,
-                with.0,
-                with.over(without),
-                plain.0,
-                with.over(plain),
-            );
+            print_checked(name, popups, &sheet, &counted);
         }
     }
 }

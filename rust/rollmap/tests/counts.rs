@@ -4,9 +4,9 @@
 mod common;
 
 use common::{
-    bound, code, foreign_records, longest, number, one_part, rivals, schedule_in, scheduled,
-    scheduled_of, some_marks, some_records, some_room, some_sheet, three_parts, tied_marks,
-    with_part, with_popups, Beyond, Lent, Tally, Written, NAMED,
+    add, bound, code, foreign_records, longest, number, one_part, rivals, schedule_in, scheduled,
+    scheduled_of, some_marks, some_records, some_room, some_sheet, take_out, three_parts,
+    tied_marks, with_part, with_popups, Beyond, Lent, Tally, NAMED,
 };
 use oracle::contents::Part;
 use oracle::count::part_6;
@@ -22,7 +22,7 @@ use oracle::sample::{
 use oracle::sheet::{join, join_parts, split};
 use oracle::tree::{self, write_tree};
 use rollmap::{
-    Code, Counts, Group, Refusal, View, Work, Zoom, COUNTED_BYTES, COUNTS_BYTES, GROUPS, STOPS,
+    Code, Counts, Group, Refusal, View, Zoom, COUNTED_BYTES, COUNTS_BYTES, GROUPS, STOPS,
 };
 
 /// Counts a sheet in a buffer of so many bytes, and sees that the answer and every byte are
@@ -389,20 +389,6 @@ fn the_counts_of_the_largest_sheets_are_renewed() {
         assert_eq!([work, out], longest());
         schedule(&beyond.bare(&sample), [work, out], &expected);
         schedule(&beyond.bare(&sample), [work, out - 1], &Err(13));
-    }
-}
-
-/// Adds a mark with a popup.
-fn add(mark: Mark, popup: u32) -> impl Fn(&[u8], Work<'_>, &mut [u8]) -> Written {
-    move |sheet: &[u8], work: Work<'_>, out: &mut [u8]| {
-        rollmap::add(sheet, bound(&mark), popup, work, out)
-    }
-}
-
-/// Takes a mark out.
-fn take_out(m: usize) -> impl Fn(&[u8], Work<'_>, &mut [u8]) -> Written {
-    move |sheet: &[u8], work: Work<'_>, out: &mut [u8]| {
-        rollmap::take_out(sheet, m as u32, work, out)
     }
 }
 

@@ -4,9 +4,9 @@ mod common;
 
 use common::views::{assert_alike, assert_view, in_64ths, view, wheel, window, Scheduled, WHOLE};
 use common::{
-    bound, foreign_records, longest, number, one_part, rivals, schedule_in, scheduled,
-    scheduled_with, some_records, three_parts, tied_marks, with_named, with_part, with_part_4,
-    with_popups, Beyond, Lent, Tally, Written, NAMED,
+    add, bound, foreign_records, longest, number, one_part, rivals, schedule_in, scheduled,
+    scheduled_with, some_records, take_out, three_parts, tied_marks, with_named, with_part,
+    with_part_4, with_popups, Beyond, Lent, Tally, NAMED,
 };
 use oracle::fraction::{Fraction, Removal};
 use oracle::mark::{touching_value, write_marks, Mark};
@@ -660,20 +660,6 @@ fn every_stop_and_its_wheel_value() {
 }
 
 // ---- marks that come and go
-
-/// Adds a mark with a popup.
-fn add(mark: Mark, popup: u32) -> impl Fn(&[u8], Work<'_>, &mut [u8]) -> Written {
-    move |sheet: &[u8], work: Work<'_>, out: &mut [u8]| {
-        rollmap::add(sheet, bound(&mark), popup, work, out)
-    }
-}
-
-/// Takes a mark out.
-fn take_out(m: usize) -> impl Fn(&[u8], Work<'_>, &mut [u8]) -> Written {
-    move |sheet: &[u8], work: Work<'_>, out: &mut [u8]| {
-        rollmap::take_out(sheet, m as u32, work, out)
-    }
-}
 
 /// Adds the last of these marks to the others, and takes mark m out of all, with such a
 /// part 4, in buffers that are just long enough, and in shorter ones.

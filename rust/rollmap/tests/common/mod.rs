@@ -208,6 +208,20 @@ pub fn some_room(generator: &mut Generator, needed: usize) -> usize {
 
 // ---- accepted sheets
 
+/// The call that adds a mark with a popup.
+pub fn add(mark: Mark, popup: u32) -> impl Fn(&[u8], Work<'_>, &mut [u8]) -> Written {
+    move |sheet: &[u8], work: Work<'_>, out: &mut [u8]| {
+        rollmap::add(sheet, bound(&mark), popup, work, out)
+    }
+}
+
+/// The call that takes a mark out.
+pub fn take_out(m: usize) -> impl Fn(&[u8], Work<'_>, &mut [u8]) -> Written {
+    move |sheet: &[u8], work: Work<'_>, out: &mut [u8]| {
+        rollmap::take_out(sheet, m as u32, work, out)
+    }
+}
+
 /// A mark of the oracle as the bindings have it.
 pub fn bound(mark: &Mark) -> rollmap::Mark {
     rollmap::Mark {
