@@ -381,8 +381,9 @@ struct rollmap_answer rollmap_is_shown(const uint8_t *map, size_t map_length,
                                        uint32_t n, uint32_t m);
 
 /* Where the part of that code (1 the marks, 2 the schedule, 3 the index, 4 the edition, 5
-   the popups, 6 the counts) stands in an accepted sheet. Both numbers are 0 where there is no such part or
-   the sheet is refused; a part that is there has an offset above 0, and may be empty. */
+   the popups, 6 the counts) stands in an accepted sheet. Both numbers are 0 where there is
+   no such part or the sheet is refused; a part that is there has an offset above 0, and may
+   be empty. */
 struct rollmap_extent rollmap_part(const uint8_t *sheet, size_t sheet_length, uint32_t code);
 
 #ifdef __cplusplus

@@ -3,6 +3,7 @@ use Prim.Native.Nat.{ℕ, zero, suc, _+_, _-_, _*_, _%_}
 use mathlib.Core.List.{List, _++_}
 use Rattle.numbers.specs.Little.{leAt, leBytes}
 use Rattle.rows.specs.Rows.{rows}
+use Rattle.marks.specs.Marks.{markSize, yOffset, radiusOffset, priorityOffset, kindOffset, tagOffset}
 
 -- the six values that each mark has
 pub record Values : Type 0 where
@@ -27,17 +28,17 @@ asMarks v n = rows (markOf v) n
 
 -- the value of `width` bytes that stands at byte `at` of a mark
 abbrev pub field : ℕ → ℕ → List ℕ → ℕ → ℕ
-field width at s m = leAt width s (11 * m + at)
+field width at s m = leAt width s (markSize * m + at)
 
 abbrev pub inMarks : List ℕ → Values
 inMarks s =
     record {
       x = field 2 0 s;
-      y = field 2 2 s;
-      radius = field 2 4 s;
-      priority = field 2 6 s;
-      kind = field 1 8 s;
-      tag = field 2 9 s;
+      y = field 2 yOffset s;
+      radius = field 2 radiusOffset s;
+      priority = field 2 priorityOffset s;
+      kind = field 1 kindOffset s;
+      tag = field 2 tagOffset s;
     }
 
 -- ---- columns: "all x, then all y, radii, priorities, kinds, tags"
@@ -55,7 +56,7 @@ asColumns v n =
     ++ (column 1 (v .kind) n
     ++ column 2 (v .tag) n))))
 
--- the value that mark m has in the column of `width` bytes each that begins at `start`
+-- the value that mark m has in the column of `width` bytes each that begins at `start`; that of n marks begins at n times the offset of its field
 abbrev pub entry : ℕ → ℕ → List ℕ → ℕ → ℕ
 entry width start c m = leAt width c (start + width * m)
 
@@ -63,11 +64,11 @@ abbrev pub inColumns : List ℕ → ℕ → Values
 inColumns c n =
     record {
       x = entry 2 0 c;
-      y = entry 2 (2 * n) c;
-      radius = entry 2 (4 * n) c;
-      priority = entry 2 (6 * n) c;
-      kind = entry 1 (8 * n) c;
-      tag = entry 2 (9 * n) c;
+      y = entry 2 (yOffset * n) c;
+      radius = entry 2 (radiusOffset * n) c;
+      priority = entry 2 (priorityOffset * n) c;
+      kind = entry 1 (kindOffset * n) c;
+      tag = entry 2 (tagOffset * n) c;
     }
 
 -- ---- differences

@@ -6,6 +6,7 @@ use lib.ListN.{length}
 use lib.Seq.{sets}
 use Rattle.numbers.specs.Little.{leBytes}
 use Rattle.rows.specs.Rows.{rows}
+use Rattle.marks.specs.Marks.{yOffset, radiusOffset, priorityOffset, kindOffset, tagOffset}
 use Rattle.columns.specs.Columns.{Values, mark, field, column, entry}
 
 -- the value of the mark before, and 0 for the first
@@ -15,7 +16,7 @@ before value (suc m) = value m
 
 -- mark m's bytes by its columns, at a place that is worked out
 abbrev pub markAt : List ℕ → ℕ → ℕ → ℕ → ℕ → List ℕ
-markAt c n m x y = mark x y (entry 2 (4 * n) c m) (entry 2 (6 * n) c m) (entry 1 (8 * n) c m) (entry 2 (9 * n) c m)
+markAt c n m x y = mark x y (entry 2 (radiusOffset * n) c m) (entry 2 (priorityOffset * n) c m) (entry 1 (kindOffset * n) c m) (entry 2 (tagOffset * n) c m)
 
 -- ---- columns that are filled side by side
 
@@ -28,11 +29,11 @@ pub record Column : Type 0 where
 abbrev pub columnsOf : Values → ℕ → List Column
 columnsOf v n =
     record { start = 0; width = 2; value = v .x }
-    ∷ record { start = 2 * n; width = 2; value = v .y }
-    ∷ record { start = 4 * n; width = 2; value = v .radius }
-    ∷ record { start = 6 * n; width = 2; value = v .priority }
-    ∷ record { start = 8 * n; width = 1; value = v .kind }
-    ∷ record { start = 9 * n; width = 2; value = v .tag }
+    ∷ record { start = yOffset * n; width = 2; value = v .y }
+    ∷ record { start = radiusOffset * n; width = 2; value = v .radius }
+    ∷ record { start = priorityOffset * n; width = 2; value = v .priority }
+    ∷ record { start = kindOffset * n; width = 1; value = v .kind }
+    ∷ record { start = tagOffset * n; width = 2; value = v .tag }
     ∷ []
 
 -- the first m values of each stand in what was l
@@ -52,7 +53,7 @@ alike x y radius priority kind tag =
 
 -- mark m's values in their columns, at a place that is worked out
 abbrev pub enteredAt : List ℕ → ℕ → ℕ → ℕ → ℕ → List ℕ → List ℕ
-enteredAt s n m x y l = entered (columnsOf (alike x y (field 2 4 s m) (field 2 6 s m) (field 1 8 s m) (field 2 9 s m)) n) m l
+enteredAt s n m x y l = entered (columnsOf (alike x y (field 2 radiusOffset s m) (field 2 priorityOffset s m) (field 1 kindOffset s m) (field 2 tagOffset s m)) n) m l
 
 -- ---- marks that are written one by one
 

@@ -1,9 +1,9 @@
 // The contents of a sheet: questions 1 to 3, where the parts lie, and writing.
 ghost use mathlib.Core.Path.{_≡_};
-ghost use mathlib.Core.Bool.{true};
+ghost use mathlib.Core.Bool.{true, cond};
 ghost use mathlib.Core.List.{[], map};
 ghost use Prim.Native.Nat.{ℕ, _+_, _<_, _≤_};
-ghost use lib.Dec.{leb};
+ghost use lib.Dec.{leb, eqb};
 ghost use lib.ListN.{length, getD, take};
 ghost use lib.Seq.{sets};
 ghost use Rattle.contents.specs.Contents.{codesOf, bodiesOf, names, countAt, codeAt, offsetAt, lengthAt, contentsSize, split};
@@ -246,73 +246,25 @@ pub fn no_parts() -> Layout
     }
 }
 
+// The place of the part `own`: this one where that is the code, and else the old one.
+fn placed(own: u16, code: u16, place: Extent, old: Extent) -> Extent
+    ensures { λ r. ⌜ r ≡ cond (eqb code own) place old ⌝ }
+{
+    if code == own { place } else { old }
+}
+
 // A layout with this place for this code.
 fn with_place(l: Layout, code: u16, place: Extent) -> Layout
     ensures { λ r. ⌜ r ≡ withPlace l code place ⌝ }
 {
-    let count = l.count;
-    let marks = l.marks;
-    let schedule = l.schedule;
-    let index = l.index;
-    let edition = l.edition;
-    let popups = l.popups;
-    let counts = l.counts;
-    match code {
-        1 => Layout {
-            count,
-            marks: place,
-            schedule,
-            index,
-            edition,
-            popups,
-            counts,
-        },
-        2 => Layout {
-            count,
-            marks,
-            schedule: place,
-            index,
-            edition,
-            popups,
-            counts,
-        },
-        3 => Layout {
-            count,
-            marks,
-            schedule,
-            index: place,
-            edition,
-            popups,
-            counts,
-        },
-        4 => Layout {
-            count,
-            marks,
-            schedule,
-            index,
-            edition: place,
-            popups,
-            counts,
-        },
-        5 => Layout {
-            count,
-            marks,
-            schedule,
-            index,
-            edition,
-            popups: place,
-            counts,
-        },
-        6 => Layout {
-            count,
-            marks,
-            schedule,
-            index,
-            edition,
-            popups,
-            counts: place,
-        },
-        _ => l,
+    Layout {
+        count: l.count,
+        marks: placed(1, code, place, l.marks),
+        schedule: placed(2, code, place, l.schedule),
+        index: placed(3, code, place, l.index),
+        edition: placed(4, code, place, l.edition),
+        popups: placed(5, code, place, l.popups),
+        counts: placed(6, code, place, l.counts),
     }
 }
 

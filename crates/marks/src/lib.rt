@@ -21,7 +21,9 @@ pub const RADIUS_OFFSET: usize = 4;
 
 pub const PRIORITY_OFFSET: usize = 6;
 
-const KIND_OFFSET: usize = 8;
+pub const KIND_OFFSET: usize = 8;
+
+pub const TAG_OFFSET: usize = 9;
 
 // The bytes of a popup.
 pub const POPUP_SIZE: usize = 4;

@@ -1,37 +1,45 @@
--- `contents::with_place` meets its contract: the code picks the place. Assumes nothing.
-use borrow.Author.Tests.{ne-eqb}
+-- `contents::with_place` meets its contract: place by place. Assumes nothing.
+use borrow.Author.Needs.{needs}
 use Rattle.contents.proofs.with_place.Statement.{statement}
 use Rattle.contents.proofs.with_place.Tie as tie
 
+placed-requires : tie.Need-placed-requires
+placed-requires c κs = search needs
+
+placed-requires-2 : tie.Need-placed-requires-2
+placed-requires-2 c κs = search needs
+
+placed-requires-3 : tie.Need-placed-requires-3
+placed-requires-3 c κs = search needs
+
+placed-requires-4 : tie.Need-placed-requires-4
+placed-requires-4 c κs = search needs
+
+placed-requires-5 : tie.Need-placed-requires-5
+placed-requires-5 c κs = search needs
+
+placed-requires-6 : tie.Need-placed-requires-6
+placed-requires-6 c κs = search needs
+
 returns : tie.Need-returns
-returns c = rw (c .match .keys1)
-
-returns-2 : tie.Need-returns-2
-returns-2 c = rw (c .match .keys2)
-
-returns-3 : tie.Need-returns-3
-returns-3 c = rw (c .match .keys3)
-
-returns-4 : tie.Need-returns-4
-returns-4 c = rw (c .match .keys4)
-
-returns-5 : tie.Need-returns-5
-returns-5 c = rw (c .match .keys5)
-
-returns-6 : tie.Need-returns-6
-returns-6 c = rw (c .match .keys6)
-
-returns-7 : tie.Need-returns-7
-returns-7 c =
-    let none = c .match .rest in
+returns c =
     rw (
-      ne-eqb _ 1 (none .0 .0 .0 .0 .0 .1),
-      ne-eqb _ 2 (none .0 .0 .0 .0 .1),
-      ne-eqb _ 3 (none .0 .0 .0 .1),
-      ne-eqb _ 4 (none .0 .0 .1),
-      ne-eqb _ 5 (none .0 .1),
-      ne-eqb _ 6 (none .1),
+      c .before .before .before .before .before .placed .ensures,
+      c .before .before .before .before .placed2 .ensures,
+      c .before .before .before .placed3 .ensures,
+      c .before .before .placed4 .ensures,
+      c .before .placed5 .ensures,
+      c .placed6 .ensures,
     )
 
 pub with-place-spec : {M : Type 1} → statement M
-with-place-spec = tie.close (tie.spec returns returns-2 returns-3 returns-4 returns-5 returns-6 returns-7)
+with-place-spec =
+    tie.close
+    (tie.spec
+    placed-requires
+    placed-requires-2
+    placed-requires-3
+    placed-requires-4
+    placed-requires-5
+    placed-requires-6
+    returns)
