@@ -80,14 +80,9 @@ fn all_agree_on_every_choice_of_a_few_popups() {
 
 #[test]
 fn all_agree_on_every_sheet_of_three_marks_from_a_small_choice() {
-    let choice = small_choice();
-    for &a in &choice {
-        for &b in &choice {
-            for &c in &choice {
-                schedule(&[a, b, c]);
-            }
-        }
-    }
+    each_list(&small_choice(), 3, &mut |marks| {
+        schedule(marks);
+    });
 }
 
 #[test]

@@ -270,10 +270,10 @@ fn stops_case(sheet: &[u8], window: Window, map_length: usize) -> (Vec<u8>, Stri
     (input, (0..=17).map(line).collect())
 }
 
-/// Sees that the program `stops.c` prints what is expected for each case.
-fn assert_stops(name: &str, cases: Vec<(Vec<u8>, String)>) {
+/// Sees that a program prints the lines that are expected for each case.
+fn assert_prints(source: &str, name: &str, cases: Vec<(Vec<u8>, String)>) {
     let (inputs, expected): (Vec<_>, Vec<_>) = cases.into_iter().unzip();
-    let program = compile("stops.c", name, "cc", &["-std=c99"]);
+    let program = compile(source, name, "cc", &["-std=c99"]);
     let printed = run(&mut Command::new(program), &inputs.concat());
     let expected = expected.concat();
     let lines = printed.lines().zip(expected.lines()).enumerate();
@@ -310,7 +310,7 @@ fn every_stop_is_its_wheel_value_through_c() {
         let sheet = some_sheet(&mut generator);
         cases.push(stops_case(&sheet, Window::WHOLE, 6));
     }
-    assert_stops("stops", cases);
+    assert_prints("stops.c", "stops", cases);
 }
 
 #[test]
@@ -339,7 +339,7 @@ fn every_turn_through_c() {
         let turn = generator.draw() as u8;
         cases.push(stops_case(&sheet, whole.of_turned(turn), 6));
     }
-    assert_stops("turns", cases);
+    assert_prints("stops.c", "turns", cases);
 }
 
 #[test]
@@ -359,7 +359,7 @@ fn every_bit_of_an_edge_counts_through_c() {
             }
         }
     }
-    assert_stops("edges", cases);
+    assert_prints("stops.c", "edges", cases);
 }
 
 /// A number as the program `parts.c` reads it.
@@ -395,17 +395,6 @@ fn part_case(sheet: &[u8], code: u32) -> (Vec<u8>, String) {
     (input, format!("{offset} {length}\n"))
 }
 
-/// Sees that the program `parts.c` prints what is expected for each case.
-fn assert_printed(name: &str, cases: Vec<(Vec<u8>, String)>) {
-    let (inputs, expected): (Vec<_>, Vec<_>) = cases.into_iter().unzip();
-    let program = compile("parts.c", name, "cc", &["-std=c99"]);
-    let printed = run(&mut Command::new(program), &inputs.concat());
-    let lines = printed.split_inclusive('\n').zip(&expected).enumerate();
-    let differing = lines.into_iter().find(|(_, (ours, theirs))| ours != theirs);
-    assert_eq!(differing, None);
-    assert_eq!(printed.lines().count(), expected.len());
-}
-
 #[test]
 fn every_list_of_codes_through_c() {
     let bodies: [&[u8]; 7] = [&[], &[], &[], &[2], &[], &[0; 170], &[0xff; 5]];
@@ -430,7 +419,7 @@ fn every_list_of_codes_through_c() {
         cases.push(assemble_case(&[code], &[&[]], 50));
         cases.push(assemble_case(&[1, code], &[&[], &[1]], 50));
     }
-    assert_printed("codes", cases);
+    assert_prints("parts.c", "codes", cases);
 }
 
 #[test]
@@ -455,7 +444,7 @@ fn other_numbers_of_bodies_than_of_codes_through_c() {
         let length = some_room(&mut generator, needed.min(4_000));
         cases.push(assemble_case(&codes, &bodies, length));
     }
-    assert_printed("bodies", cases);
+    assert_prints("parts.c", "bodies", cases);
 }
 
 #[test]
@@ -472,5 +461,5 @@ fn every_code_of_a_part_through_c() {
             cases.push(part_case(&sheet, code));
         }
     }
-    assert_printed("parts", cases);
+    assert_prints("parts.c", "parts", cases);
 }

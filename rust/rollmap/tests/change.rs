@@ -2,15 +2,16 @@
 
 mod common;
 
+use common::jobs::{assert_made, records};
 use common::{
-    bound, foreign_records, lengths, longest, number, one_part, schedule_in, scheduled, some_marks,
+    bound, foreign_records, lengths, longest, one_part, schedule_in, scheduled, some_marks,
     some_room, some_sheet, three_parts, tied_marks, Beyond, Expected, Tally, Written,
 };
 use oracle::mark::Mark;
 use oracle::rank::Edition::First;
-use oracle::record::{read_records, Record};
+use oracle::record::Record;
 use oracle::sample::{marks, refused_sheets, small_choice, Generator, Shape, P1};
-use rollmap::{work_bytes, Code, Refusal, Work};
+use rollmap::{work_bytes, Refusal, Work};
 
 /// A mark with something in every field.
 const NEW: Mark = Mark {
@@ -142,7 +143,6 @@ fn p1_comes_and_goes_mark_by_mark() {
 
 #[test]
 fn eliminators_go_by_the_new_numbers() {
-    let records = |sheet: &[u8]| read_records(rollmap::part(sheet, Code::Schedule).unwrap());
     let fewer = changed(&scheduled(&P1), [TakeOut(0)]);
     let expected = [
         Record::NEVER,
@@ -548,11 +548,8 @@ fn the_buffers_of_its_own_are_long_enough() {
         });
         let next = Change::draw(&mut generator, n, part_5);
         let made = next.make_to_vec(&sheet);
-        match next.expected(&sheet, longest()) {
-            Ok(expected) => assert_eq!(made.as_ref(), Ok(&expected)),
-            Err(expected) => assert_eq!(number(&made), expected),
-        }
-        numbers.add(number(&made));
+        let expected = next.expected(&sheet, longest());
+        numbers.add(assert_made(&sheet, made, &expected));
     }
     numbers.assert_reached((0..=10).chain([17, 19, 21, 23]), 5);
     let full = three_parts(&marks(Shape::Line, 4_096, 5), &[Record::NEVER; 4_096]);

@@ -2,9 +2,10 @@
 
 mod common;
 
+use common::jobs::check;
 use common::{
-    bodies_of, joined, number, one_part, our_records, scheduled, scheduled_of, scheduled_with,
-    some_sheet, three_parts, with_part_4, Beyond, Tally,
+    bodies_of, joined, one_part, our_records, scheduled, scheduled_having, scheduled_of,
+    scheduled_with, some_sheet, three_parts, with_part_4, Beyond, Tally,
 };
 use oracle::fraction::Fraction;
 use oracle::mark::{touching_value, write_marks, Mark};
@@ -18,14 +19,6 @@ use oracle::sample::{
 use oracle::sheet::{join, join_parts};
 use oracle::tree::write_tree;
 
-/// The number of a sheet, once both are seen to give it.
-fn check(sheet: &[u8]) -> u32 {
-    let number = number(&rollmap::check(sheet));
-    let expected = oracle::sheet::check(sheet);
-    assert_eq!(number, expected, "{sheet:02x?}");
-    number
-}
-
 /// Accepted sheets of one to six parts: P1, no marks, and a few samples.
 fn small_sheets() -> Vec<Vec<u8>> {
     let samples = [
@@ -37,8 +30,8 @@ fn small_sheets() -> Vec<Vec<u8>> {
     ];
     let mut sheets = Vec::new();
     for sample in samples {
-        let popups = popups(Popups::Touching, &sample, 9);
-        sheets.extend(CODES_TAKEN.map(|codes| scheduled_of(codes, &sample, &popups)));
+        // Every list of codes has part 1.
+        sheets.extend(scheduled_having(1, &sample));
         sheets.push(scheduled_with(Some(Second), &sample));
     }
     sheets

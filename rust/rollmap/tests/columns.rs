@@ -2,6 +2,7 @@
 
 mod common;
 
+use common::jobs::{every_length, first_no, Way, AS_WIDE};
 use common::{
     damage_rows, number, one_part, scheduled, some_marks, some_room, some_sheet, turn, Beyond,
     Tally, FAULTS_OF_A_MARK,
@@ -23,9 +24,6 @@ fn from_columns(columns: &[u8], out_length: usize, seed: u64) -> u32 {
     let expected = oracle::columns::from_columns;
     turn(rollmap::from_columns, expected, columns, out_length, seed)
 }
-
-/// A way to rearrange some bytes in a buffer of so many, compared with the oracle's.
-type Way = fn(&[u8], usize, u64) -> u32;
 
 /// Both ways, of which each undoes the other.
 const WAYS: [Way; 2] = [to_columns, from_columns];
@@ -197,17 +195,7 @@ fn every_length_of_the_input_and_of_the_written_buffer() {
     let mut generator = Generator::new(112);
     let given = some_bytes(&mut generator, 60);
     for way in WAYS {
-        for length in 0..=60 {
-            for room in 0..=70 {
-                let expected = match () {
-                    () if length % 11 != 0 => 4,
-                    () if room < length => 13,
-                    () => 0,
-                };
-                let seed = (71 * length + room) as u64;
-                assert_eq!(way(&given[..length], room, seed), expected);
-            }
-        }
+        every_length(way, &given, AS_WIDE);
     }
 }
 
@@ -219,11 +207,7 @@ fn every_length_about_multiples_of_11() {
         for length in (MARK_BYTES * marks).saturating_sub(2)..MARK_BYTES * marks + 3 {
             let given = some_bytes(&mut generator, length);
             for room in [0, length.saturating_sub(1), length, length + 1, length + 40] {
-                let expected = match () {
-                    () if length != MARK_BYTES * marks => 4,
-                    () if room < length => 13,
-                    () => 0,
-                };
+                let expected = first_no(&[(4, length != MARK_BYTES * marks), (13, room < length)]);
                 let seed = generator.draw();
                 for way in WAYS {
                     assert_eq!(way(&given, room, seed), expected, "{length} {room}");

@@ -3,10 +3,16 @@
 
 mod common;
 
+use common::jobs::{
+    assert_made, becomes_scheduled, check, come_and_go, come_in_buffers_of_its_own, first_no,
+    is_rescheduled, refused_by_every_job, schedule,
+};
+use common::views::OUTSIDE;
 use common::{
-    add, bound, code, foreign_records, longest, number, one_part, rivals, schedule_in, scheduled,
-    scheduled_of, some_marks, some_records, some_room, some_sheet, take_out, three_parts,
-    tied_marks, with_part, with_popups, Beyond, Lent, Tally, NAMED,
+    add, bound, foreign_records, longest, named_parts, number, one_part, rivals, schedule_in,
+    scheduled, scheduled_having, scheduled_of, some_marks, some_records, some_room, some_sheet,
+    take_out, three_parts, tied_marks, with_part, with_popups, write_in, Beyond, Lent, Tally,
+    NAMED,
 };
 use oracle::contents::Part;
 use oracle::count::part_6;
@@ -33,11 +39,7 @@ fn assert_counted(
     expected: &Result<impl AsRef<[u8]>, u32>,
 ) -> u32 {
     let seed = (sheet.len() + out_length) as u64;
-    let mut out = Lent::new(out_length, seed);
-    let mut lent = Lent::holding(sheet, seed >> 1);
-    let answer = rollmap::count(lent.slice(), out.slice());
-    lent.assert_untouched();
-    out.assert_answered(&answer, expected)
+    write_in(rollmap::count, sheet, out_length, seed, expected)
 }
 
 /// Counts a sheet as the oracle does. Answers the number.
@@ -53,13 +55,6 @@ fn becomes_counted(sheet: &[u8], expected: &[u8]) {
     assert_counted(sheet, needed, &Ok(expected));
     assert_counted(sheet, needed + 9, &Ok(expected));
     assert_counted(sheet, needed - 1, &Err::<Vec<u8>, _>(13));
-}
-
-/// The number of a sheet, once both are seen to give it.
-fn check(sheet: &[u8]) -> u32 {
-    let number = number(&rollmap::check(sheet));
-    assert_eq!(number, oracle::sheet::check(sheet), "{sheet:02x?}");
-    number
 }
 
 /// The sheet with its counts, which it has none of, by the library.
@@ -96,6 +91,14 @@ fn compare_with_views(sheet: &[u8]) -> Vec<[u16; GROUPS]> {
     assert_eq!(counts, shown_of_groups(sheet));
     assert_eq!(counts, shown_of_groups(&expected));
     counts
+}
+
+/// Some parts for these marks, without counts.
+fn some_uncounted(generator: &mut Generator, marks: &[Mark]) -> Beyond {
+    Beyond {
+        counted: false,
+        ..Beyond::draw(generator, marks)
+    }
 }
 
 /// Whether a count of some group grows from one stop to the next, and whether one falls.
@@ -195,10 +198,7 @@ fn many_sheets_of_every_shape() {
             1 => rivals(&mut generator, n),
             _ => marks(shape, n, round as u64),
         };
-        let beyond = Beyond {
-            counted: false,
-            ..Beyond::draw(&mut generator, &sample)
-        };
+        let beyond = some_uncounted(&mut generator, &sample);
         let records = some_records(&mut generator, beyond.reel(&sample));
         let counts = compare_with_views(&beyond.with_records(&sample, &records));
         let [grows, falls] = grows_and_falls(&counts);
@@ -232,10 +232,7 @@ fn a_sheet_is_counted_by_its_own_schedule() {
     for _ in 0..600 {
         let n = 2 + generator.below(20) as usize;
         let sample = rivals(&mut generator, n);
-        let beyond = Beyond {
-            counted: false,
-            ..Beyond::draw(&mut generator, &sample)
-        };
+        let beyond = some_uncounted(&mut generator, &sample);
         let reel = beyond.reel(&sample);
         let foreign = foreign_records(&mut generator, reel);
         let ours = schedule_in_rank_order(reel);
@@ -261,8 +258,7 @@ fn counting_again_gives_the_same_bytes() {
         becomes_counted(&join_parts(&parts), &sheet);
         // And so are the counts of the sheet that is put together of them all.
         let counts = rollmap::counts(&sheet).unwrap().to_bytes();
-        let mut named: Vec<(Code, &[u8])> =
-            parts.iter().map(|&(it, body)| (code(it), body)).collect();
+        let mut named = named_parts(&parts);
         named.push((Code::Counts, &counts));
         assert_eq!(rollmap::assemble_to_vec(&named), Ok(sheet));
     }
@@ -346,12 +342,6 @@ fn the_most_marks() {
 
 // ---- renewal
 
-/// Schedules a sheet in buffers of these lengths, and sees that the answer and every byte
-/// are as expected.
-fn schedule(sheet: &[u8], lengths: [usize; 2], expected: &Result<Vec<u8>, u32>) {
-    schedule_in(sheet, lengths, rollmap::schedule, expected);
-}
-
 #[test]
 fn scheduling_renews_the_counts() {
     let mut generator = Generator::new(143);
@@ -367,12 +357,9 @@ fn scheduling_renews_the_counts() {
         );
         differing += usize::from(stops(&foreign) != stops(&ours));
         let [work, out] = beyond.lengths(n);
-        assert_eq!(ours.len(), out);
         for sheet in [&foreign, &ours, &beyond.bare(&sample)] {
-            schedule(sheet, [work, out], &Ok(ours.clone()));
-            schedule(sheet, [work, out - 1], &Err(13));
-            schedule(sheet, [work, out - COUNTED_BYTES], &Err(13));
-            schedule(sheet, [work - 1, out], &Err(13));
+            is_rescheduled(&beyond, n, sheet, &ours);
+            schedule(sheet, [work, out - COUNTED_BYTES], Err(13));
         }
     }
     assert!(differing > 500, "{differing}");
@@ -384,53 +371,9 @@ fn the_counts_of_the_largest_sheets_are_renewed() {
         let sample = marks(shape, 4_096, 16);
         let popups = Some(popups(Popups::Few, &sample, 16));
         let beyond = Beyond::uncounted(NAMED[2], popups).counted();
-        let expected = Ok(beyond.scheduled(&sample));
-        let [work, out] = beyond.lengths(4_096);
-        assert_eq!([work, out], longest());
-        schedule(&beyond.bare(&sample), [work, out], &expected);
-        schedule(&beyond.bare(&sample), [work, out - 1], &Err(13));
+        assert_eq!(beyond.lengths(4_096), longest());
+        becomes_scheduled(&beyond, &sample);
     }
-}
-
-/// The counted parts beyond 3 of the first so many of some marks that pop up, or do not.
-fn counted_parts(named: Option<Edition>, popups: &Option<Vec<u32>>, n: usize) -> Beyond {
-    let popups = popups.as_ref().map(|popups| popups[..n].to_vec());
-    Beyond::uncounted(named, popups).counted()
-}
-
-/// Adds the last of these marks to the others, and takes mark m out of all, in buffers that
-/// are just long enough and in shorter ones: from a sheet that is scheduled and counted, and
-/// from one in which nobody goes.
-fn come_and_go(all: &[Mark], named: Option<Edition>, popups: Option<Vec<u32>>, m: usize) {
-    let n = all.len();
-    let of = |n| counted_parts(named, &popups, n);
-    let (last, others) = all.split_last().expect("there is a mark");
-    let popup = popups.as_ref().map_or(0, |popups| popups[n - 1]);
-    let short = &Err::<Vec<u8>, _>(13);
-    let never = vec![Record::NEVER; n];
-    let more = of(n).scheduled(all);
-    for old in [
-        of(n - 1).scheduled(others),
-        of(n - 1).with_records(others, &never[1..]),
-    ] {
-        let [work, out] = of(n).lengths(n);
-        schedule_in(&old, [work, out], add(*last, popup), &Ok(&more));
-        schedule_in(&old, [work, out - 1], add(*last, popup), short);
-        schedule_in(&old, [work - 1, out], add(*last, popup), short);
-    }
-    let (mut left, mut rest) = (all.to_vec(), popups.clone());
-    left.remove(m);
-    rest.iter_mut().for_each(|popups| _ = popups.remove(m));
-    let fewer = counted_parts(named, &rest, n - 1);
-    let expected = fewer.scheduled(&left);
-    let [work, out] = fewer.lengths(n - 1);
-    for old in [more.clone(), of(n).with_records(all, &never)] {
-        schedule_in(&old, [work, out], take_out(m), &Ok(&expected));
-        schedule_in(&old, [work, out - 1], take_out(m), short);
-        schedule_in(&old, [work - 1, out], take_out(m), short);
-    }
-    let back = rollmap::take_out_to_vec(&more, n as u32 - 1);
-    assert_eq!(back, Ok(of(n - 1).scheduled(others)));
 }
 
 #[test]
@@ -445,12 +388,14 @@ fn adding_and_taking_out_renew_the_counts() {
         let m = generator.below(n as u32) as usize;
         let drawn = popups(generator.choose(&Popups::ALL), &sample, round);
         let popups = (generator.below(2) == 0).then_some(drawn);
-        come_and_go(&sample, generator.choose(&NAMED), popups, m);
+        let beyond = Beyond::uncounted(generator.choose(&NAMED), popups);
+        come_and_go(&beyond.counted(), &sample, m);
     }
     for n in [256, 4_096] {
         let sample = rivals(&mut generator, n);
         let popups = popups(Popups::Any, &sample, 1);
-        come_and_go(&sample, NAMED[2], Some(popups), n / 2);
+        let beyond = Beyond::uncounted(NAMED[2], Some(popups));
+        come_and_go(&beyond.counted(), &sample, n / 2);
     }
 }
 
@@ -458,14 +403,8 @@ fn adding_and_taking_out_renew_the_counts() {
 fn the_buffers_of_its_own_have_room_for_part_6() {
     for named in NAMED {
         for popups in [None, Some(vec![64, 65_536])] {
-            let of = |n| counted_parts(named, &popups, n);
-            let popup = |m: usize| popups.as_ref().map_or(0, |popups| popups[m]);
-            let empty = rollmap::schedule_to_vec(&of(0).bare(&[])).unwrap();
-            assert_eq!(empty, of(0).scheduled(&[]));
-            let one = rollmap::add_to_vec(&empty, bound(&P5[0]), popup(0)).unwrap();
-            let two = rollmap::add_to_vec(&one, bound(&P5[1]), popup(1)).unwrap();
-            assert_eq!(two, of(2).scheduled(&P5));
-            assert_eq!(rollmap::take_out_to_vec(&two, 1), Ok(one));
+            let beyond = Beyond::uncounted(named, popups).counted();
+            let two = come_in_buffers_of_its_own(&beyond, &P5);
             assert_eq!(rollmap::count_to_vec(&two), Ok(two));
         }
     }
@@ -476,10 +415,7 @@ fn a_sheet_without_part_6_is_given_none() {
     let mut generator = Generator::new(145);
     for _ in 0..300 {
         let sample = some_marks(&mut generator);
-        let beyond = Beyond {
-            counted: false,
-            ..Beyond::draw(&mut generator, &sample)
-        };
+        let beyond = some_uncounted(&mut generator, &sample);
         let sheet = rollmap::schedule_to_vec(&beyond.bare(&sample)).unwrap();
         let more = rollmap::add_to_vec(&sheet, bound(&P1[0]), 0).unwrap();
         let fewer = rollmap::take_out_to_vec(&more, 0).unwrap();
@@ -509,34 +445,9 @@ fn the_judge_takes_counts_along() {
 
 // ---- damaged
 
-/// Sees that every job refuses a sheet by this number, in buffers of any length, and writes
-/// nothing.
-fn refused_by_every_job(sheet: &[u8], refused: u32) {
-    assert_eq!(check(sheet), refused);
-    assert_eq!(number(&rollmap::judge(sheet)), refused);
-    let answer = &Err::<Vec<u8>, _>(refused);
-    for [work, out] in [[0, 0], longest()] {
-        schedule_in(sheet, [work, out], rollmap::schedule, answer);
-        schedule_in(sheet, [work, out], add(P1[0], u32::MAX), answer);
-        schedule_in(sheet, [work, out], take_out(u32::MAX as usize), answer);
-        assert_counted(sheet, out, answer);
-    }
-    let mut map = Lent::new(2, 1);
-    let asked = View {
-        x0: 1 << 20,
-        ..View::whole(Zoom::Stop(17))
-    };
-    assert_eq!(number(&rollmap::view(sheet, asked, map.slice())), refused);
-    map.assert_untouched();
-    let part = |&code| rollmap::part(sheet, code);
-    assert!(Code::ALL.iter().all(|code| part(code).is_none()));
-    assert!(rollmap::counts(sheet).is_none());
-}
-
 /// Putting the parts of a sheet together, which 23 refuses, writes nothing either.
 fn not_put_together(sheet: &[u8]) {
-    let parts = split(sheet).unwrap().present();
-    let named: Vec<(Code, &[u8])> = parts.iter().map(|&(it, body)| (code(it), body)).collect();
+    let named = named_parts(&split(sheet).unwrap().present());
     for length in [0, sheet.len()] {
         let mut out = Lent::new(length, 3);
         let answer = rollmap::assemble(&named, out.slice());
@@ -547,13 +458,9 @@ fn not_put_together(sheet: &[u8]) {
 
 /// Counted sheets of a few marks with every list of codes that has part 6.
 fn small_sheets() -> Vec<Vec<u8>> {
-    let mut sheets = Vec::new();
-    for sample in [&P1[..], &P5, &[]] {
-        let popups = popups(Popups::Touching, sample, 9);
-        let codes = CODES_TAKEN.iter().filter(|codes| codes.contains(&6));
-        sheets.extend(codes.map(|codes| scheduled_of(codes, sample, &popups)));
-    }
-    sheets
+    let samples = [&P1[..], &P5, &[]];
+    let sheets = samples.map(|sample| scheduled_having(6, sample));
+    sheets.concat()
 }
 
 #[test]
@@ -618,10 +525,7 @@ fn counts_by_another_schedule_or_other_popups_are_refused() {
     for _ in 0..2_000 {
         let n = 1 + generator.below(12) as usize;
         let sample = rivals(&mut generator, n);
-        let [one, other] = [(); 2].map(|()| Beyond {
-            counted: false,
-            ..Beyond::draw(&mut generator, &sample)
-        });
+        let [one, other] = [(); 2].map(|()| some_uncounted(&mut generator, &sample));
         let [own, others] =
             [&one, &other].map(|beyond| some_records(&mut generator, beyond.reel(&sample)));
         let part_6 = part_6(other.reel(&sample), &others);
@@ -651,11 +555,8 @@ fn the_buffer_of_its_own_is_long_enough() {
     for _ in 0..4_000 {
         let sheet = some_sheet(&mut generator);
         let counted = rollmap::count_to_vec(&sheet);
-        match oracle::count::count(&sheet, usize::MAX) {
-            Ok(expected) => assert_eq!(counted.as_ref(), Ok(&expected)),
-            Err(expected) => assert_eq!(number(&counted), expected),
-        }
-        numbers.add(number(&counted));
+        let expected = oracle::count::count(&sheet, usize::MAX);
+        numbers.add(assert_made(&sheet, counted, &expected));
     }
     numbers.assert_reached((0..=10).chain([19, 21, 23]), 10);
 }
@@ -737,7 +638,7 @@ fn questions_7_19_21_8_9_23_10_and_13_are_put_in_turn() {
                         let more = if part_6.is_some() { 0 } else { COUNTED_BYTES };
                         let needed = sheet.len() + more;
                         for (room, no_13) in [(needed, false), (needed - 1, true), (0, true)] {
-                            let questions = [
+                            let expected = first_no(&[
                                 (7, no_7),
                                 (19, no_19),
                                 (21, no_21),
@@ -746,9 +647,7 @@ fn questions_7_19_21_8_9_23_10_and_13_are_put_in_turn() {
                                 (23, no_23),
                                 (10, records.is_none()),
                                 (13, no_13),
-                            ];
-                            let refused = questions.into_iter().find(|(_, no)| *no);
-                            let expected = refused.map_or(0, |(number, _)| number);
+                            ]);
                             assert_eq!(count(&sheet, room), expected);
                             numbers.add(expected);
                         }
@@ -774,11 +673,7 @@ fn question_23_comes_before_those_of_a_view_and_of_changes() {
     let refused = |number| Err::<Vec<u8>, u32>(number);
     schedule_in(&counted, [0, 0], add(P1[0], 0), &refused(18));
     schedule_in(&counted, [0, 0], take_out(4_096), &refused(17));
-    let outside = View {
-        x0: 1 << 20,
-        ..View::whole(Zoom::Stop(17))
-    };
-    let viewed = rollmap::view(&counted, outside, &mut []);
+    let viewed = rollmap::view(&counted, OUTSIDE, &mut []);
     assert_eq!(viewed, Err(Refusal::Window));
     assert_eq!(rollmap::judge(&counted), Err(Refusal::Judgement));
     assert_eq!(

@@ -3,16 +3,21 @@
 
 mod common;
 
+use common::jobs::{
+    self, check, come_and_go, come_in_buffers_of_its_own, records, refused_by_every_job, schedule,
+};
 use common::views::{assert_alike, view};
 use common::{
-    bound, foreign_records, longest, number, one_part, rivals, schedule_in, scheduled,
-    scheduled_with, some_records, three_parts, with_named, with_part_4, Beyond, Lent, Tally, NAMED,
+    foreign_records, one_part, rivals, scheduled, scheduled_with, some_records, three_parts,
+    with_named, with_part_4, Beyond, Tally, NAMED,
 };
 use oracle::mark::Mark;
 use oracle::process::schedule_by_process;
 use oracle::rank::Edition::{self, First, Second};
-use oracle::record::{read_records, Record};
-use oracle::sample::{marks, small_choice, Generator, Shape, TIED_IN_TREE, TIED_RECORDS};
+use oracle::record::Record;
+use oracle::sample::{
+    each_list, marks, small_choice, Generator, Shape, TIED_IN_TREE, TIED_RECORDS,
+};
 use oracle::tree;
 use rollmap::{Code, Turn, View, Zoom};
 
@@ -27,33 +32,9 @@ fn bare_with(named: Option<Edition>, marks: &[Mark]) -> Vec<u8> {
     with_named(one_part(marks), named)
 }
 
-/// Schedules a sheet in buffers of these lengths, and sees that the answer and every byte
-/// are as expected. Answers the number.
-fn schedule(sheet: &[u8], lengths: [usize; 2], expected: &Result<Vec<u8>, u32>) -> u32 {
-    schedule_in(sheet, lengths, rollmap::schedule, expected)
-}
-
-/// Sees that scheduling these marks with such a part 4 writes what the order of rank gives,
-/// in buffers that are just long enough, and that it is refused in shorter ones.
+/// Sees that scheduling these marks with such a part 4 writes what the order of rank gives.
 fn becomes_scheduled(named: Option<Edition>, marks: &[Mark]) {
-    let (sheet, expected) = (bare_with(named, marks), scheduled_with(named, marks));
-    let [work, out] = Beyond::named(named).lengths(marks.len());
-    assert_eq!(expected.len(), out);
-    schedule(&sheet, [work, out], &Ok(expected));
-    schedule(&sheet, [work, out - 1], &Err(13));
-    schedule(&sheet, [work - 1, out], &Err(13));
-}
-
-/// The records of a sheet.
-fn records(sheet: &[u8]) -> Vec<Record> {
-    read_records(rollmap::part(sheet, Code::Schedule).unwrap())
-}
-
-/// The number of a sheet, once both are seen to give it.
-fn check(sheet: &[u8]) -> u32 {
-    let number = number(&rollmap::check(sheet));
-    assert_eq!(number, oracle::sheet::check(sheet), "{sheet:02x?}");
-    number
+    jobs::becomes_scheduled(&Beyond::named(named), marks);
 }
 
 // ---- scheduling
@@ -92,14 +73,9 @@ fn many_small_sheets() {
 
 #[test]
 fn every_sheet_of_three_marks_from_a_small_choice() {
-    let choice = small_choice();
-    for &a in &choice {
-        for &b in &choice {
-            for &c in &choice {
-                becomes_scheduled(Some(Second), &[a, b, c]);
-            }
-        }
-    }
+    each_list(&small_choice(), 3, &mut |marks| {
+        becomes_scheduled(Some(Second), marks);
+    });
 }
 
 #[test]
@@ -147,8 +123,8 @@ fn a_schedule_that_is_there_is_replaced_and_part_4_is_kept() {
             let foreign = with_named(three_parts(&sample, &records), named);
             let ours = scheduled_with(named, &sample);
             let lengths = Beyond::named(named).lengths(n);
-            schedule(&foreign, lengths, &Ok(ours.clone()));
-            schedule(&ours, lengths, &Ok(ours.clone()));
+            schedule(&foreign, lengths, Ok(&ours));
+            schedule(&ours, lengths, Ok(&ours));
         }
     }
 }
@@ -221,34 +197,11 @@ fn every_eliminator_in_both_editions() {
 #[test]
 fn a_damaged_part_4_is_refused_by_every_job() {
     let mut generator = Generator::new(87);
-    let new = LARGER_SECOND[0];
     for part_4 in NO_EDITIONS {
         for n in [0, 1, 2, 9] {
             let sample = rivals(&mut generator, n);
             for sheet in [one_part(&sample), scheduled(&sample)] {
-                let damaged = with_part_4(&sheet, part_4);
-                assert_eq!(check(&damaged), 19);
-                assert_eq!(number(&rollmap::judge(&damaged)), 19);
-                assert_eq!(number(&rollmap::count_to_vec(&damaged)), 19);
-                for lengths in [[0, 0], longest()] {
-                    schedule(&damaged, lengths, &Err(19));
-                    let refused = Err::<Vec<u8>, _>(19);
-                    let add = |sheet: &[u8], work: rollmap::Work<'_>, out: &mut [u8]| {
-                        rollmap::add(sheet, bound(&new), 0, work, out)
-                    };
-                    schedule_in(&damaged, lengths, add, &refused);
-                    let take_out = |sheet: &[u8], work: rollmap::Work<'_>, out: &mut [u8]| {
-                        rollmap::take_out(sheet, 0, work, out)
-                    };
-                    schedule_in(&damaged, lengths, take_out, &refused);
-                }
-                let mut map = Lent::new(2, 1);
-                let view = rollmap::view(&damaged, View::whole(Zoom::Stop(17)), map.slice());
-                assert_eq!(number(&view), 19);
-                map.assert_untouched();
-                assert!(Code::ALL
-                    .iter()
-                    .all(|&code| rollmap::part(&damaged, code).is_none()));
+                refused_by_every_job(&with_part_4(&sheet, part_4), 19);
             }
         }
     }
@@ -282,33 +235,6 @@ fn views_go_by_the_sheets_own_schedule() {
 
 // ---- marks that come and go
 
-/// Adds the last of these marks to the others, and takes mark m out of all, with such a
-/// part 4, in buffers that are just long enough, and in shorter ones.
-fn come_and_go(named: Option<Edition>, all: &[Mark], m: usize) {
-    let (last, others) = all.split_last().expect("there is a mark");
-    let (fewer, more) = (scheduled_with(named, others), scheduled_with(named, all));
-    let mut left = all.to_vec();
-    left.remove(m);
-    let add = |sheet: &[u8], work: rollmap::Work<'_>, out: &mut [u8]| {
-        rollmap::add(sheet, bound(last), 0, work, out)
-    };
-    let take_out = |sheet: &[u8], work: rollmap::Work<'_>, out: &mut [u8]| {
-        rollmap::take_out(sheet, m as u32, work, out)
-    };
-    let [work, out] = Beyond::named(named).lengths(all.len());
-    schedule_in(&fewer, [work, out], add, &Ok(&more));
-    let short = &Err::<Vec<u8>, _>(13);
-    schedule_in(&fewer, [work, out - 1], add, short);
-    schedule_in(&fewer, [work - 1, out], add, short);
-    let [work, out] = Beyond::named(named).lengths(left.len());
-    let expected = &Ok(scheduled_with(named, &left));
-    schedule_in(&more, [work, out], take_out, expected);
-    schedule_in(&more, [work, out - 1], take_out, short);
-    schedule_in(&more, [work - 1, out], take_out, short);
-    let back = rollmap::take_out_to_vec(&more, others.len() as u32);
-    assert_eq!(back, Ok(fewer));
-}
-
 #[test]
 fn marks_come_and_go_by_the_sheets_own_edition() {
     let mut generator = Generator::new(89);
@@ -317,23 +243,18 @@ fn marks_come_and_go_by_the_sheets_own_edition() {
         let sample = rivals(&mut generator, n as usize);
         let m = generator.below(n) as usize;
         for named in NAMED {
-            come_and_go(named, &sample, m);
+            come_and_go(&Beyond::named(named), &sample, m);
         }
     }
     for n in [192, 256, 700, 4_096] {
         let sample = rivals(&mut generator, n);
-        come_and_go(Some(Second), &sample, n / 2);
+        come_and_go(&Beyond::named(Some(Second)), &sample, n / 2);
     }
 }
 
 #[test]
 fn the_buffers_of_its_own_have_room_for_part_4() {
     for named in NAMED {
-        let empty = rollmap::schedule_to_vec(&bare_with(named, &[])).unwrap();
-        assert_eq!(empty, scheduled_with(named, &[]));
-        let one = rollmap::add_to_vec(&empty, bound(&LARGER_SECOND[0]), 0).unwrap();
-        let two = rollmap::add_to_vec(&one, bound(&LARGER_SECOND[1]), 0).unwrap();
-        assert_eq!(two, scheduled_with(named, &LARGER_SECOND));
-        assert_eq!(rollmap::take_out_to_vec(&two, 1), Ok(one));
+        come_in_buffers_of_its_own(&Beyond::named(named), &LARGER_SECOND);
     }
 }

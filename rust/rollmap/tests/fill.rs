@@ -2,6 +2,7 @@
 
 mod common;
 
+use common::jobs::{assert_made, every_length, AS_WIDE};
 use common::{
     bodies_of, damage_rows, number, one_part, our_records, some_marks, some_room, some_sheet, turn,
     with_part, Tally, FAULTS_OF_A_MARK,
@@ -64,17 +65,7 @@ fn every_kind_with_some_radii() {
 #[test]
 fn every_length_of_the_marks_and_of_the_written_buffer() {
     let part_1 = write_marks(&marks(Shape::Uniform, 5, 1));
-    for length in 0..=55 {
-        for room in 0..=70 {
-            let expected = match () {
-                () if length % 11 != 0 => 4,
-                () if room < length => 13,
-                () => 0,
-            };
-            let seed = (71 * length + room) as u64;
-            assert_eq!(fill(&part_1[..length], room, seed), expected);
-        }
-    }
+    every_length(fill, &part_1, AS_WIDE);
 }
 
 #[test]
@@ -199,11 +190,8 @@ fn a_rescue_asks_1_to_6() {
     for _ in 0..40_000 {
         let sheet = some_sheet(&mut generator);
         let rescued = rollmap::rescue(&sheet);
-        match oracle::fill::rescue(&sheet) {
-            Ok(expected) => assert_eq!(rescued.as_ref(), Ok(&expected)),
-            Err(expected) => assert_eq!(number(&rescued), expected, "{sheet:02x?}"),
-        }
-        numbers.add(number(&rescued));
+        let expected = oracle::fill::rescue(&sheet);
+        numbers.add(assert_made(&sheet, rescued, &expected));
     }
     numbers.assert_reached(0..=6, 50);
 }

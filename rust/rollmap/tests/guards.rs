@@ -5,6 +5,7 @@ mod common;
 use std::io::Write;
 use std::process::{Command, Stdio};
 
+use common::jobs::records;
 use common::{
     bound, one_part, rivals, some_records, three_parts, with_part_4, with_popups, Beyond, PROGRAM,
 };
@@ -267,7 +268,7 @@ fn an_eliminator_may_be_gone_and_nobody_need_touch() {
 fn following_eliminators_ends_at_a_mark_that_lives() {
     for (sheet, _) in sheets_of_every_kind(120, 4) {
         let eliminators = eliminators(&sheet);
-        let part_2 = read_records(rollmap::part(&sheet, Code::Schedule).unwrap());
+        let part_2 = records(&sheet);
         for stop in 0..=16 {
             let shown = shown(&sheet, Zoom::Stop(stop));
             // From a mark that is removed: one that has not popped up is not gone.

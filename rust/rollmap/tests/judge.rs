@@ -3,10 +3,11 @@
 
 mod common;
 
+use common::jobs::first_no;
 use common::{
-    bound, foreign_records, number, one_part, rivals, scheduled, scheduled_of, some_marks,
-    some_records, some_sheet, three_parts, tied_marks, with_part_4, with_popups, Beyond, Lent,
-    Tally, NAMED,
+    bound, foreign_records, number, one_part, rivals, scheduled, scheduled_having, scheduled_of,
+    some_marks, some_records, some_sheet, three_parts, tied_marks, with_part_4, with_popups,
+    Beyond, Lent, Tally, NAMED,
 };
 use oracle::count::part_6;
 use oracle::mark::{write_marks, Mark};
@@ -65,6 +66,14 @@ fn some_tied_marks(generator: &mut Generator, n: usize) -> Vec<Mark> {
         0 => tied_marks(generator, n),
         1 => rivals(generator, n),
         _ => marks(Shape::Grid, n, generator.draw()),
+    }
+}
+
+/// Marks of some shape in one round of so many, and in the others some that tie.
+fn some_of_round(generator: &mut Generator, n: usize, round: u64, one_in: u64) -> Vec<Mark> {
+    match round % one_in {
+        0 => marks(generator.choose(&Shape::ALL), n, round),
+        _ => some_tied_marks(generator, n),
     }
 }
 
@@ -343,10 +352,7 @@ fn one_record_that_is_not_ours() {
     let mut differences = Differences::default();
     for round in 0..20_000 {
         let n = 2 + generator.below(14) as usize;
-        let sample = match round % 3 {
-            0 => marks(generator.choose(&Shape::ALL), n, round),
-            _ => some_tied_marks(&mut generator, n),
-        };
+        let sample = some_of_round(&mut generator, n, round, 3);
         let beyond = Beyond::draw(&mut generator, &sample);
         differences.add(judge_changed(&mut generator, &beyond, &sample));
     }
@@ -359,10 +365,7 @@ fn one_record_that_is_not_ours_among_a_few_hundred() {
     let mut differences = Differences::default();
     for round in 0..500 {
         let n = 50 + generator.below(300) as usize;
-        let sample = match round % 2 {
-            0 => marks(generator.choose(&Shape::ALL), n, round),
-            _ => some_tied_marks(&mut generator, n),
-        };
+        let sample = some_of_round(&mut generator, n, round, 2);
         let beyond = Beyond::draw(&mut generator, &sample);
         differences.add(judge_changed(&mut generator, &beyond, &sample));
     }
@@ -400,10 +403,7 @@ fn schedules_that_are_nearly_ours() {
     let mut numbers = Tally::default();
     for round in 0..6_000 {
         let n = 2 + generator.below(24) as usize;
-        let sample = match round % 2 {
-            0 => marks(generator.choose(&Shape::ALL), n, round),
-            _ => some_tied_marks(&mut generator, n),
-        };
+        let sample = some_of_round(&mut generator, n, round, 2);
         let beyond = Beyond::draw(&mut generator, &sample);
         let one_in = generator.choose(&[2, 8, 30]);
         let records = nearly_ours(&mut generator, beyond.reel(&sample), one_in);
@@ -418,10 +418,7 @@ fn schedules_of_some_other_kind() {
     let mut numbers = Tally::default();
     for round in 0..4_000 {
         let n = generator.below(30) as usize;
-        let sample = match round % 2 {
-            0 => marks(generator.choose(&Shape::ALL), n, round),
-            _ => some_tied_marks(&mut generator, n),
-        };
+        let sample = some_of_round(&mut generator, n, round, 2);
         let beyond = Beyond::draw(&mut generator, &sample);
         let records = some_records(&mut generator, beyond.reel(&sample));
         numbers.add(judge_records(&beyond, &sample, &records));
@@ -614,13 +611,7 @@ fn small_sheets() -> Vec<Vec<u8>> {
         P5.to_vec(),
         marks(Shape::Extreme, 3, 5),
     ];
-    let mut sheets = Vec::new();
-    for sample in samples {
-        let popups = popups(Popups::Touching, &sample, 9);
-        let codes = CODES_TAKEN.iter().filter(|codes| codes.contains(&3));
-        sheets.extend(codes.map(|codes| scheduled_of(codes, &sample, &popups)));
-    }
-    sheets
+    samples.map(|sample| scheduled_having(3, &sample)).concat()
 }
 
 /// The sheet with the contents, part 2, part 3 and part 6 left out: what decides a schedule,
@@ -775,7 +766,7 @@ fn questions_7_19_21_8_9_23_10_and_22_are_put_in_turn() {
                     parts.push((5, &part_5));
                     parts.extend(part_6.as_ref().map(|part_6| (6, part_6.as_slice())));
                     parts.sort_unstable_by_key(|&(code, _)| code);
-                    let questions = [
+                    let expected = first_no(&[
                         (7, no_7),
                         (19, no_19),
                         (21, no_21),
@@ -784,10 +775,9 @@ fn questions_7_19_21_8_9_23_10_and_22_are_put_in_turn() {
                         (23, no_23),
                         (10, part_3.is_none()),
                         (22, no_22),
-                    ];
-                    let refused = questions.into_iter().find(|(_, no)| *no);
+                    ]);
                     let number = judge(&join_parts(&parts));
-                    assert_eq!(number, refused.map_or(0, |(number, _)| number));
+                    assert_eq!(number, expected);
                     numbers.add(number);
                 }
             }

@@ -2,6 +2,7 @@
 
 mod common;
 
+use common::jobs::every_length;
 use common::{damage_rows, some_marks, some_room, turn, Tally, FAULTS_OF_A_MARK};
 use oracle::log::write_packed;
 use oracle::mark::{write_marks, Mark};
@@ -123,23 +124,8 @@ fn a_record_is_asked_by_x_y_kind_and_radius_before_the_next_one() {
 fn every_length_of_the_input_and_of_the_written_buffer() {
     let sample = marks(Shape::Uniform, 4, 1);
     let (part_1, log) = (write_marks(&sample), log_of(&sample));
-    let expected = |length: usize, width: usize, room: usize, needed: usize| match () {
-        () if !length.is_multiple_of(width) => 4,
-        () if room < length / width * needed => 13,
-        () => 0,
-    };
-    for length in 0..=log.len() {
-        for room in 0..=60 {
-            let number = log_to_marks(&log[..length], room, (61 * length + room) as u64);
-            assert_eq!(number, expected(length, LOG_RECORD_BYTES, room, 11));
-        }
-    }
-    for length in 0..=part_1.len() {
-        for room in 0..=70 {
-            let number = marks_to_log(&part_1[..length], room, (71 * length + room) as u64);
-            assert_eq!(number, expected(length, 11, room, LOG_RECORD_BYTES));
-        }
-    }
+    every_length(log_to_marks, &log, [LOG_RECORD_BYTES, MARK_BYTES]);
+    every_length(marks_to_log, &part_1, [MARK_BYTES, LOG_RECORD_BYTES]);
 }
 
 #[test]

@@ -2,18 +2,21 @@
 
 mod common;
 
+use common::jobs::{
+    becomes_scheduled, check, come_and_go, come_in_buffers_of_its_own, first_no, records,
+    refused_by_every_job, schedule,
+};
 use common::views::{assert_alike, assert_view, in_64ths, view, wheel, window, Scheduled, WHOLE};
 use common::{
-    add, bound, foreign_records, longest, number, one_part, rivals, schedule_in, scheduled,
-    scheduled_with, some_records, take_out, three_parts, tied_marks, with_named, with_part,
-    with_part_4, with_popups, Beyond, Lent, Tally, NAMED,
+    add, bound, foreign_records, longest, one_part, rivals, schedule_in, scheduled, scheduled_with,
+    some_records, three_parts, tied_marks, with_named, with_part, with_part_4, with_popups, Beyond,
+    Tally, NAMED,
 };
 use oracle::fraction::{Fraction, Removal};
 use oracle::mark::{touching_value, write_marks, Mark};
 use oracle::popup::{read_popups, write_popups};
 use oracle::process::{schedule_by_process, schedule_in_rank_order};
-use oracle::rank::Edition;
-use oracle::record::{read_records, removals, write_records, Record};
+use oracle::record::{removals, write_records, Record};
 use oracle::rules::{keep_both, Breach};
 use oracle::sample::{
     each_list, marks, popups, small_choice, Generator, PopupExample, Popups, Shape, P1, P5,
@@ -23,24 +26,7 @@ use oracle::sheet::{join, join_parts, open};
 use oracle::tree::{self, write_tree};
 use oracle::view::map_and_count;
 use oracle::zoom::zoom_squared;
-use rollmap::{Code, Refusal, Turn, View, Work, Zoom, LARGEST_POPUP, NO_POPUP};
-
-/// Schedules a sheet in buffers of these lengths, and sees that the answer and every byte
-/// are as expected. Answers the number.
-fn schedule(sheet: &[u8], lengths: [usize; 2], expected: &Result<Vec<u8>, u32>) -> u32 {
-    schedule_in(sheet, lengths, rollmap::schedule, expected)
-}
-
-/// Sees that scheduling these marks with these parts beyond 3 writes what the order of rank
-/// gives, in buffers that are just long enough, and that it is refused in shorter ones.
-fn becomes_scheduled(beyond: &Beyond, marks: &[Mark]) {
-    let (sheet, expected) = (beyond.bare(marks), beyond.scheduled(marks));
-    let [work, out] = beyond.lengths(marks.len());
-    assert_eq!(expected.len(), out);
-    schedule(&sheet, [work, out], &Ok(expected));
-    schedule(&sheet, [work, out - 1], &Err(13));
-    schedule(&sheet, [work - 1, out], &Err(13));
-}
+use rollmap::{Code, Refusal, Turn, View, Zoom, LARGEST_POPUP, NO_POPUP};
 
 /// These marks' popups of a kind, and no part 4.
 fn popping_up(how: Popups, marks: &[Mark], seed: u64) -> Beyond {
@@ -55,18 +41,6 @@ fn each_sample(n: impl Fn(u64) -> usize, seeds: u64, mut visit: impl FnMut(&[Mar
             visit(&sample, &popups(how, &sample, seed), seed);
         }
     }
-}
-
-/// The records of a sheet.
-fn records(sheet: &[u8]) -> Vec<Record> {
-    read_records(rollmap::part(sheet, Code::Schedule).unwrap())
-}
-
-/// The number of a sheet, once both are seen to give it.
-fn check(sheet: &[u8]) -> u32 {
-    let number = number(&rollmap::check(sheet));
-    assert_eq!(number, oracle::sheet::check(sheet), "{sheet:02x?}");
-    number
 }
 
 /// The view of all places at k/64.
@@ -261,12 +235,8 @@ fn the_largest_sheets() {
         let sample = marks(shape, 4_096, 9);
         for how in Popups::ALL {
             let beyond = popping_up(how, &sample, 9);
-            let lengths = beyond.lengths(4_096);
-            schedule(
-                &beyond.bare(&sample),
-                lengths,
-                &Ok(beyond.scheduled(&sample)),
-            );
+            let (bare, ours) = (beyond.bare(&sample), beyond.scheduled(&sample));
+            schedule(&bare, beyond.lengths(4_096), Ok(&ours));
         }
     }
     let sample = marks(Shape::OnePlace, 4_096, 9);
@@ -309,8 +279,8 @@ fn a_schedule_that_is_there_is_replaced_and_part_5_is_kept() {
             beyond.scheduled(&sample),
         );
         let lengths = beyond.lengths(n);
-        schedule(&foreign, lengths, &Ok(ours.clone()));
-        schedule(&ours, lengths, &Ok(ours.clone()));
+        schedule(&foreign, lengths, Ok(&ours));
+        schedule(&ours, lengths, Ok(&ours));
     }
 }
 
@@ -471,37 +441,6 @@ fn the_popup_of_either_mark_counts_in_a_record() {
 
 // ---- damaged
 
-/// Sees that every job refuses a sheet by this number, in buffers of any length, and writes
-/// nothing.
-fn refused_by_every_job(sheet: &[u8], refused: u32) {
-    assert_eq!(check(sheet), refused);
-    assert_eq!(number(&rollmap::judge(sheet)), refused);
-    assert_eq!(number(&rollmap::count_to_vec(sheet)), refused);
-    let answer = &Err::<Vec<u8>, _>(refused);
-    for lengths in [[0, 0], longest()] {
-        schedule_in(sheet, lengths, rollmap::schedule, answer);
-        let add = |sheet: &[u8], work: Work<'_>, out: &mut [u8]| {
-            rollmap::add(sheet, bound(&P1[0]), u32::MAX, work, out)
-        };
-        schedule_in(sheet, lengths, add, answer);
-        let take_out = |sheet: &[u8], work: Work<'_>, out: &mut [u8]| {
-            rollmap::take_out(sheet, u32::MAX, work, out)
-        };
-        schedule_in(sheet, lengths, take_out, answer);
-    }
-    let mut map = Lent::new(2, 1);
-    let asked = View {
-        x0: 1 << 20,
-        ..View::whole(Zoom::Stop(17))
-    };
-    assert_eq!(number(&rollmap::view(sheet, asked, map.slice())), refused);
-    map.assert_untouched();
-    let part = |&code| rollmap::part(sheet, code);
-    assert!(Code::ALL.iter().all(|code| part(code).is_none()));
-    assert!(rollmap::popups(sheet).is_none());
-    assert!(rollmap::counts(sheet).is_none());
-}
-
 #[test]
 fn a_damaged_part_5_is_refused_by_every_job() {
     for n in [0, 1, 2, 9] {
@@ -587,20 +526,16 @@ fn part_5_is_asked_after_7_and_19_and_before_8() {
                 (&part_2[1..], true, true),
             ] {
                 for (tree, no_9) in [(&part_3[..], false), (&no_tree, true)] {
-                    let first = |questions: [(u32, bool); 5]| {
-                        let refused = questions.into_iter().find(|(_, no)| *no);
-                        refused.map_or(0, |(number, _)| number)
-                    };
                     let (seven, eight) = ((7, no_7), (8, no_8));
                     let whole = join(&[&part_1, records, tree, part_4, part_5]);
                     let questions = [seven, (19, no_19), (21, no_21), eight, (9, no_9)];
-                    assert_eq!(check(&whole), first(questions));
+                    assert_eq!(check(&whole), first_no(&questions));
                     let unnamed = [(1, &part_1[..]), (2, records), (3, tree), (5, part_5)];
                     let questions = [seven, (19, false), (21, no_21), eight, (9, no_9)];
-                    assert_eq!(check(&join_parts(&unnamed)), first(questions));
+                    assert_eq!(check(&join_parts(&unnamed)), first_no(&questions));
                     let unindexed = [(1, &part_1[..]), (2, records), (4, part_4), (5, part_5)];
                     let questions = [seven, (19, no_19), (21, no_21), eight, (9, false)];
-                    assert_eq!(check(&join_parts(&unindexed)), first(questions));
+                    assert_eq!(check(&join_parts(&unindexed)), first_no(&questions));
                 }
             }
         }
@@ -661,30 +596,6 @@ fn every_stop_and_its_wheel_value() {
 
 // ---- marks that come and go
 
-/// Adds the last of these marks to the others, and takes mark m out of all, with such a
-/// part 4, in buffers that are just long enough, and in shorter ones.
-fn come_and_go(named: Option<Edition>, all: &[Mark], popups: &[u32], m: usize) {
-    let of = |popups: &[u32]| Beyond::uncounted(named, Some(popups.to_vec()));
-    let (&last, others) = all.split_last().expect("there is a mark");
-    let (&popup, earlier) = popups.split_last().expect("and its popup");
-    let (fewer, more) = (of(earlier).scheduled(others), of(popups).scheduled(all));
-    let short = &Err::<Vec<u8>, _>(13);
-    let [work, out] = of(popups).lengths(all.len());
-    schedule_in(&fewer, [work, out], add(last, popup), &Ok(&more));
-    schedule_in(&fewer, [work, out - 1], add(last, popup), short);
-    schedule_in(&fewer, [work - 1, out], add(last, popup), short);
-    let (mut left, mut rest) = (all.to_vec(), popups.to_vec());
-    left.remove(m);
-    rest.remove(m);
-    let [work, out] = of(&rest).lengths(left.len());
-    let expected = &Ok(of(&rest).scheduled(&left));
-    schedule_in(&more, [work, out], take_out(m), expected);
-    schedule_in(&more, [work, out - 1], take_out(m), short);
-    schedule_in(&more, [work - 1, out], take_out(m), short);
-    let back = rollmap::take_out_to_vec(&more, others.len() as u32);
-    assert_eq!(back, Ok(fewer));
-}
-
 #[test]
 fn marks_come_and_go_with_their_popups() {
     let mut generator = Generator::new(116);
@@ -693,13 +604,14 @@ fn marks_come_and_go_with_their_popups() {
         40,
         |marks, popups, seed| {
             let m = generator.below(marks.len() as u32) as usize;
-            come_and_go(NAMED[seed as usize % 3], marks, popups, m);
+            let named = NAMED[seed as usize % 3];
+            come_and_go(&Beyond::uncounted(named, Some(popups.to_vec())), marks, m);
         },
     );
     for n in [192, 256, 700, 4_096] {
         let sample = rivals(&mut generator, n);
         let popups = popups(Popups::Any, &sample, 1);
-        come_and_go(NAMED[2], &sample, &popups, n / 2);
+        come_and_go(&Beyond::uncounted(NAMED[2], Some(popups)), &sample, n / 2);
     }
 }
 
@@ -768,13 +680,12 @@ fn questions_18_5_6_21_and_13_are_put_in_turn() {
                     ..Mark::plain(1, 2, radius, 3)
                 };
                 for lengths in [[0, 0], [longest()[0], 0], [0, longest()[1]]] {
-                    let questions = [
+                    let expected = first_no(&[
                         (5, kind >= 200),
                         (6, radius > 16_383),
                         (21, no_21),
                         (13, true),
-                    ];
-                    let (expected, _) = questions.into_iter().find(|(_, no)| *no).unwrap();
+                    ]);
                     let refused = |number| Err::<Vec<u8>, u32>(number);
                     schedule_in(&fewer, lengths, add(mark, popup), &refused(expected));
                     schedule_in(&full, lengths, add(mark, popup), &refused(18));
@@ -787,13 +698,8 @@ fn questions_18_5_6_21_and_13_are_put_in_turn() {
 #[test]
 fn the_buffers_of_its_own_have_room_for_parts_4_and_5() {
     for named in NAMED {
-        let of = |popups: &[u32]| Beyond::uncounted(named, Some(popups.to_vec()));
-        let empty = rollmap::schedule_to_vec(&of(&[]).bare(&[])).unwrap();
-        assert_eq!(empty, of(&[]).scheduled(&[]));
-        let one = rollmap::add_to_vec(&empty, bound(&P5[0]), 64).unwrap();
-        let two = rollmap::add_to_vec(&one, bound(&P5[1]), 65_536).unwrap();
-        assert_eq!(two, of(&[64, 65_536]).scheduled(&P5));
-        assert_eq!(rollmap::take_out_to_vec(&two, 1), Ok(one));
+        let beyond = Beyond::uncounted(named, Some(vec![64, 65_536]));
+        let two = come_in_buffers_of_its_own(&beyond, &P5);
         let other = rollmap::take_out_to_vec(&two, 0).unwrap();
         assert!(rollmap::popups(&other).unwrap().eq([65_536]));
     }

@@ -2,35 +2,29 @@
 
 mod common;
 
+use common::jobs::{self, schedule};
 use common::{
-    bodies_of, foreign_records, joined, number, one_part, schedule_in, scheduled, some_sheet,
+    bodies_of, foreign_records, joined, lengths, number, one_part, scheduled, some_sheet,
     tied_marks, Beyond, Tally,
 };
 use oracle::mark::Mark;
 use oracle::process::{schedule_by_process, schedule_by_sorted_pairs};
 use oracle::rank::Edition::First;
-use oracle::record::{read_records, Record};
-use oracle::sample::{marks, small_choice, Generator, Shape, P1, P5, P6};
+use oracle::record::Record;
+use oracle::sample::{each_list, marks, small_choice, Generator, Shape, P1, P5, P6};
 use oracle::tree::read_tree;
 use rollmap::{schedule_to_vec, scheduled_bytes, work_bytes, Code, Work};
-
-/// Schedules a sheet in buffers of these lengths, and sees that nothing but the
-/// scheduled sheet is written, or nothing at all. Answers the number.
-fn schedule(sheet: &[u8], work: usize, out: usize, expected: Result<&[u8], u32>) -> u32 {
-    schedule_in(sheet, [work, out], rollmap::schedule, &expected)
-}
 
 /// Schedules a sheet in buffers that are just long enough, and sees that it becomes
 /// the expected one.
 fn becomes(sheet: &[u8], expected: &[u8]) {
     let n = (expected.len() - 32) / 27;
-    schedule(sheet, work_bytes(n), scheduled_bytes(n), Ok(expected));
+    schedule(sheet, lengths(n), Ok(expected));
 }
 
 /// The records that scheduling these marks writes.
 fn records(marks: &[Mark]) -> Vec<Record> {
-    let sheet = schedule_to_vec(&one_part(marks)).unwrap();
-    read_records(rollmap::part(&sheet, Code::Schedule).unwrap())
+    jobs::records(&schedule_to_vec(&one_part(marks)).unwrap())
 }
 
 #[test]
@@ -78,14 +72,9 @@ fn many_small_sheets() {
 
 #[test]
 fn every_sheet_of_three_marks_from_a_small_choice() {
-    let choice = small_choice();
-    for &a in &choice {
-        for &b in &choice {
-            for &c in &choice {
-                becomes(&one_part(&[a, b, c]), &scheduled(&[a, b, c]));
-            }
-        }
-    }
+    each_list(&small_choice(), 3, &mut |marks| {
+        becomes(&one_part(marks), &scheduled(marks));
+    });
 }
 
 #[test]
@@ -194,14 +183,14 @@ fn lengths_of_both_buffers() {
         assert_eq!((work, out), (32 * n + 1_024, 32 + 27 * n));
         for (longer_work, longer_out) in [(0, 0), (1, 0), (0, 1), (100, 3), (7, 500)] {
             let answer = Ok(expected.as_slice());
-            schedule(&sheet, work + longer_work, out + longer_out, answer);
+            schedule(&sheet, [work + longer_work, out + longer_out], answer);
         }
         for short_work in [0, 1, 1_023, 1_023 + n, 32 * n + 1_023] {
-            schedule(&sheet, short_work, out + 50, Err(13));
-            schedule(&sheet, short_work, 0, Err(13));
+            schedule(&sheet, [short_work, out + 50], Err(13));
+            schedule(&sheet, [short_work, 0], Err(13));
         }
         for short_out in 0..out {
-            schedule(&sheet, work + 50, short_out, Err(13));
+            schedule(&sheet, [work + 50, short_out], Err(13));
         }
     }
 }
@@ -217,13 +206,13 @@ fn refused_sheets_write_nothing() {
             number => number,
         };
         let (work, out) = generator.choose(&[(0, 4_000), (4_000, 0), (0, 0), (1_023, 2_000)]);
-        schedule(&sheet, work, out, Err(refused));
+        schedule(&sheet, [work, out], Err(refused));
         let number = match oracle::sheet::open(&sheet) {
             Ok(opened) => {
                 let expected = Beyond::of(&opened).scheduled(&opened.marks);
-                schedule(&sheet, 2_400, 1_600, Ok(&expected))
+                schedule(&sheet, [2_400, 1_600], Ok(&expected))
             }
-            Err(number) => schedule(&sheet, 2_400, 1_600, Err(number)),
+            Err(number) => schedule(&sheet, [2_400, 1_600], Err(number)),
         };
         numbers.add(number);
     }

@@ -2,6 +2,7 @@
 
 mod common;
 
+use common::jobs::first_no;
 use common::views::{
     anywhere, assert_view, beside_a_disk, in_64ths, some_zoom, touches, view, wheel, window, zoom,
     Scheduled, WHOLE,
@@ -270,15 +271,13 @@ fn questions_9_to_13_20_and_23_are_put_in_turn_with_every_turn() {
                     turn,
                     zoom: if fault(2) { refused } else { taken },
                 };
-                let questions = [
+                let expected = first_no(&[
                     (first, first > 0),
                     (20, fault(4) || fault(5)),
                     (11, fault(0) || fault(1)),
                     (12, fault(2)),
                     (13, fault(3)),
-                ];
-                let refused = questions.into_iter().find(|(_, no)| *no);
-                let expected = refused.map_or(0, |(number, _)| number);
+                ]);
                 let length = if fault(3) { 1 } else { 2 };
                 assert_eq!(view(sheet, asked, length), expected);
             }

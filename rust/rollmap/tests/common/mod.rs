@@ -3,6 +3,7 @@
 
 #![allow(dead_code)]
 
+pub mod jobs;
 pub mod views;
 
 use std::collections::BTreeMap;
@@ -21,7 +22,7 @@ use oracle::sheet::{join, join_parts, split, Opened};
 use oracle::tree;
 use rollmap::{
     popups_bytes, scheduled_bytes, work_bytes, Code, Refusal, Work, COUNTED_BYTES, EDITION_BYTES,
-    MARK_BYTES, POPUP_BYTES,
+    MARK_BYTES, NO_POPUP, POPUP_BYTES,
 };
 
 /// The program, as `rt check schedule` builds it.
@@ -144,6 +145,22 @@ impl Lent {
     }
 }
 
+/// Lends some bytes, and a buffer of so many bytes to write to, to a call, and sees that the
+/// answer and every byte are as expected. Answers the number.
+pub fn write_in(
+    call: fn(&[u8], &mut [u8]) -> Written,
+    given: &[u8],
+    out_length: usize,
+    seed: u64,
+    expected: &Result<impl AsRef<[u8]>, u32>,
+) -> u32 {
+    let mut out = Lent::new(out_length, seed);
+    let mut lent = Lent::holding(given, seed >> 3);
+    let answer = call(lent.slice(), out.slice());
+    lent.assert_untouched();
+    out.assert_answered(&answer, expected)
+}
+
 /// Turns some bytes in a buffer of so many bytes by a call, and sees that the answer and
 /// every byte are the oracle's. Answers the number.
 pub fn turn(
@@ -153,11 +170,8 @@ pub fn turn(
     out_length: usize,
     seed: u64,
 ) -> u32 {
-    let mut out = Lent::new(out_length, seed);
-    let mut lent = Lent::holding(given, seed >> 3);
-    let answer = call(lent.slice(), out.slice());
-    lent.assert_untouched();
-    out.assert_answered(&answer, &expected(given, out_length))
+    let expected = expected(given, out_length);
+    write_in(call, given, out_length, seed, &expected)
 }
 
 /// Lends a sheet, and buffers of these lengths for work and to write to, to a call that
@@ -356,6 +370,20 @@ impl Beyond {
         }
     }
 
+    /// The same without mark m.
+    pub fn without(&self, m: usize) -> Self {
+        let mut rest = self.clone();
+        if let Some(popups) = &mut rest.popups {
+            popups.remove(m);
+        }
+        rest
+    }
+
+    /// The popup with which mark m is added.
+    pub fn popup(&self, m: usize) -> u32 {
+        self.popups.as_ref().map_or(NO_POPUP, |popups| popups[m])
+    }
+
     /// These marks as the parts have them.
     pub fn reel<'a>(&'a self, marks: &'a [Mark]) -> Reel<'a> {
         Reel {
@@ -434,6 +462,15 @@ pub fn scheduled_of(codes: &[u16], marks: &[Mark], popups: &[u32]) -> Vec<u8> {
     let mut parts = split(&whole).expect("its parts are joined").present();
     parts.retain(|(code, _)| codes.contains(code));
     join_parts(&parts)
+}
+
+/// The sheets that scheduling these marks gives, with every list of codes that has this one.
+pub fn scheduled_having(code: u16, marks: &[Mark]) -> Vec<Vec<u8>> {
+    let popups = popups(Popups::Touching, marks, 9);
+    let lists = CODES_TAKEN.iter().filter(|codes| codes.contains(&code));
+    lists
+        .map(|codes| scheduled_of(codes, marks, &popups))
+        .collect()
 }
 
 /// Records that question 8 takes and that are most likely not ours: each mark
@@ -637,6 +674,12 @@ pub fn code(number: u16) -> Code {
     codes
         .find(|code| code.number() == number)
         .expect("there is such a code")
+}
+
+/// These parts, of which question 2 takes the codes, by the codes' names.
+pub fn named_parts<'a>(parts: &[Part<'a>]) -> Vec<(Code, &'a [u8])> {
+    let named = |&(number, body): &Part<'a>| (code(number), body);
+    parts.iter().map(named).collect()
 }
 
 /// Bytes of a mark by which its radius or its kind is refused.

@@ -14,6 +14,12 @@ use super::{number, Beyond, Lent};
 /// All places at stop 0, without a turn.
 pub const WHOLE: View = View::whole(Zoom::Stop(0));
 
+/// A view that is refused of every sheet, by its edges, their order and its zoom.
+pub const OUTSIDE: View = View {
+    x0: 1 << 20,
+    ..View::whole(Zoom::Stop(17))
+};
+
 /// Sees that two sheets have the same bytes under these codes, and show the same of all
 /// places.
 pub fn assert_alike(one: &[u8], other: &[u8], codes: &[Code], zoom: Zoom) {
