@@ -22,41 +22,39 @@ use rollmap::{
 use plain::schedule::Desk;
 use race::{race, Micros};
 
+/// A shape of data, by the words for it.
+type Data = (&'static str, Shape);
+
+const UNIFORM: Data = ("uniform", Shape::Uniform);
+const CLUSTERED: Data = ("clustered", Shape::Clustered);
+const REEL: Data = ("reel", Shape::Reel);
+const LINE: Data = ("line", Shape::Line);
+const ONE_PLACE: Data = ("one place", Shape::OnePlace);
+const HUGE_RADIUS: Data = ("huge radius", Shape::HugeRadius);
+const FEW_HUGE: Data = ("1 % huge radius", Shape::FewHuge);
+
 /// The data that scheduling is timed on.
-const DATA: [(&str, Shape); 6] = [
-    ("uniform", Shape::Uniform),
-    ("clustered", Shape::Clustered),
-    ("line", Shape::Line),
-    ("one place", Shape::OnePlace),
-    ("huge radius", Shape::HugeRadius),
-    ("1 % huge radius", Shape::FewHuge),
-];
+const DATA: [Data; 6] = [UNIFORM, CLUSTERED, LINE, ONE_PLACE, HUGE_RADIUS, FEW_HUGE];
 
 /// The data that changes are timed on.
-const CHANGED: [(&str, Shape); 3] = [
-    ("uniform", Shape::Uniform),
-    ("clustered", Shape::Clustered),
-    ("reel", Shape::Reel),
-];
+const CHANGED: [Data; 3] = [UNIFORM, CLUSTERED, REEL];
 
 /// The data that judging is timed on.
-const JUDGED: [(&str, Shape); 7] = [
-    ("uniform", Shape::Uniform),
-    ("clustered", Shape::Clustered),
-    ("reel", Shape::Reel),
-    ("line", Shape::Line),
-    ("one place", Shape::OnePlace),
-    ("huge radius", Shape::HugeRadius),
-    ("1 % huge radius", Shape::FewHuge),
+const JUDGED: [Data; 7] = [
+    UNIFORM,
+    CLUSTERED,
+    REEL,
+    LINE,
+    ONE_PLACE,
+    HUGE_RADIUS,
+    FEW_HUGE,
 ];
 
 /// The data that viewing is timed on.
-const VIEWED: [(&str, Shape); 4] = [
-    ("uniform", Shape::Uniform),
-    ("clustered", Shape::Clustered),
-    ("reel", Shape::Reel),
-    ("1 % huge radius", Shape::FewHuge),
-];
+const VIEWED: [Data; 4] = [UNIFORM, CLUSTERED, REEL, FEW_HUGE];
+
+/// The data that growth, checking and counting are timed on.
+const ORDINARY: [Data; 2] = [UNIFORM, CLUSTERED];
 
 /// The popups that scheduling, judging and checking are timed with, beside the same marks
 /// without.
@@ -68,10 +66,7 @@ const POPPING_UP: [(&str, Popups); 4] = [
 ];
 
 /// Those that viewing is timed with.
-const VIEWED_POPPING_UP: [(&str, Popups); 2] = [
-    ("one in four", Popups::Few),
-    ("all, at any zoom", Popups::Any),
-];
+const VIEWED_POPPING_UP: [(&str, Popups); 2] = [POPPING_UP[1], POPPING_UP[2]];
 
 /// The numbers of marks that growth is seen over.
 const SIZES: [usize; 3] = [256, 1_024, 4_096];
@@ -260,6 +255,18 @@ fn time_two(first: &[u8], second: &[u8]) -> [Micros; 3] {
     times
 }
 
+/// The cells of a row for the times of scheduling two sheets.
+fn scheduling_cells([first, second, plain]: [Micros; 3]) -> String {
+    format!(
+        "{:.2} | {:.2} | {:.2} | {:.2} | {:.2}",
+        first.millis(),
+        second.millis(),
+        second.over(first),
+        plain.millis(),
+        second.over(plain),
+    )
+}
+
 fn editions() {
     table(
         "Scheduling 4,096 marks by the second edition, against the first on the same marks",
@@ -277,15 +284,8 @@ fn editions() {
         for priorities in [1, 16] {
             let marks = with_priorities(shape, priorities);
             let [first, second] = Edition::ALL.map(|edition| named_sheet_of(edition, &marks));
-            let [first, second, plain] = time_two(&first, &second);
-            println!(
-                "| {name} | {priorities} | {:.2} | {:.2} | {:.2} | {:.2} | {:.2} |",
-                first.millis(),
-                second.millis(),
-                second.over(first),
-                plain.millis(),
-                second.over(plain),
-            );
+            let cells = scheduling_cells(time_two(&first, &second));
+            println!("| {name} | {priorities} | {cells} |");
         }
     }
 }
@@ -319,15 +319,8 @@ fn popping_up() {
         let marks = marks(shape, MOST, 1);
         for (popups, how) in POPPING_UP {
             let sheet = popping_sheet_of(how, &marks);
-            let [without, with, plain] = time_two(&one_part(&marks), &sheet);
-            println!(
-                "| {name} | {popups} | {:.2} | {:.2} | {:.2} | {:.2} | {:.2} |",
-                without.millis(),
-                with.millis(),
-                with.over(without),
-                plain.millis(),
-                with.over(plain),
-            );
+            let cells = scheduling_cells(time_two(&one_part(&marks), &sheet));
+            println!("| {name} | {popups} | {cells} |");
         }
     }
 }
@@ -354,7 +347,7 @@ fn growth() {
             "plain Rust by a scan, µs",
         ],
     );
-    for (name, shape) in [("uniform", Shape::Uniform), ("clustered", Shape::Clustered)] {
+    for (name, shape) in ORDINARY {
         let (mut proved, mut plain) = (Vec::new(), Vec::new());
         for n in SMALL.into_iter().chain(SIZES) {
             let calls = (MOST / n) as u32;
@@ -571,7 +564,7 @@ fn checking() {
             "ratio",
         ],
     );
-    for (name, shape) in [("uniform", Shape::Uniform), ("clustered", Shape::Clustered)] {
+    for (name, shape) in ORDINARY {
         let mut proved = Vec::new();
         for n in SIZES {
             let calls = (MOST / n) as u32;
@@ -605,39 +598,51 @@ fn time_checking_two(without: &[u8], with: &[u8]) -> [Micros; 3] {
     )
 }
 
-/// Prints the row of checking a sheet with a further part, against the same without it.
-fn print_checked(name: &str, popups: &str, bare: &[u8], sheet: &[u8]) {
-    let [without, with, plain] = time_checking_two(bare, sheet);
-    println!(
-        "| {name} | {popups} | {:.1} | {:.1} | {:.2} | {:.1} | {:.2} |",
+/// The columns of the times with a further part, against those without it.
+const FURTHER_COLUMNS: [&str; 5] = [
+    "proved without, µs",
+    "proved with, µs",
+    "ratio",
+    "plain Rust with, µs",
+    "ratio",
+];
+
+/// The cells of these columns.
+fn further_cells([without, with, plain]: [Micros; 3]) -> String {
+    format!(
+        "{:.1} | {:.1} | {:.2} | {:.1} | {:.2}",
         without.0,
         with.0,
         with.over(without),
         plain.0,
         with.over(plain),
+    )
+}
+
+/// Prints the table of checking sheets with a further part, against the same without it: those
+/// of a shape that are given here, by the words for their popups, without the part and with it.
+fn checking_further(heading: &str, sheets: impl Fn(Shape) -> Vec<(&'static str, [Vec<u8>; 2])>) {
+    table(
+        heading,
+        &[&["data", "popups"], &FURTHER_COLUMNS[..]].concat(),
     );
+    for (name, shape) in ORDINARY {
+        for (popups, [without, with]) in sheets(shape) {
+            let cells = further_cells(time_checking_two(&without, &with));
+            println!("| {name} | {popups} | {cells} |");
+        }
+    }
 }
 
 fn checking_popups() {
-    table(
+    checking_further(
         "Checking a scheduled sheet of 4,096 marks with popups, against the same marks without",
-        &[
-            "data",
-            "popups",
-            "proved without, µs",
-            "proved with, µs",
-            "ratio",
-            "plain Rust with, µs",
-            "ratio",
-        ],
+        |shape| {
+            let bare = scheduled(shape, MOST);
+            let both = |how| [bare.clone(), scheduled_popping_up(how, shape)];
+            POPPING_UP.map(|(popups, how)| (popups, both(how))).to_vec()
+        },
     );
-    for (name, shape) in [("uniform", Shape::Uniform), ("clustered", Shape::Clustered)] {
-        let bare = scheduled(shape, MOST);
-        for (popups, how) in POPPING_UP {
-            let sheet = scheduled_popping_up(how, shape);
-            print_checked(name, popups, &bare, &sheet);
-        }
-    }
 }
 
 /// The scheduled sheets of a sample that are counted: without popups, and with popups of each
@@ -650,24 +655,19 @@ fn sheets_to_count(shape: Shape) -> Vec<(&'static str, Vec<u8>)> {
 }
 
 fn checking_counts() {
-    table(
+    checking_further(
         "Checking a scheduled sheet of 4,096 marks with counts, against the same without",
-        &[
-            "data",
-            "popups",
-            "proved without, µs",
-            "proved with, µs",
-            "ratio",
-            "plain Rust with, µs",
-            "ratio",
-        ],
+        |shape| {
+            let both = |sheet: Vec<u8>| {
+                let counted = rollmap::count_to_vec(&sheet).expect("it has a schedule");
+                [sheet, counted]
+            };
+            let sheets = sheets_to_count(shape).into_iter();
+            sheets
+                .map(|(popups, sheet)| (popups, both(sheet)))
+                .collect()
+        },
     );
-    for (name, shape) in [("uniform", Shape::Uniform), ("clustered", Shape::Clustered)] {
-        for (popups, sheet) in sheets_to_count(shape) {
-            let counted = rollmap::count_to_vec(&sheet).expect("it has a schedule");
-            print_checked(name, popups, &sheet, &counted);
-        }
-    }
 }
 
 /// The least times of counting a sheet: proved, plain, and of the proved check alone. Both
@@ -704,7 +704,7 @@ fn counting() {
             "times the check alone",
         ],
     );
-    for (name, shape) in [("uniform", Shape::Uniform), ("clustered", Shape::Clustered)] {
+    for (name, shape) in ORDINARY {
         for (popups, sheet) in sheets_to_count(shape) {
             let [ours, theirs, check] = time_counting(&sheet);
             println!(
@@ -786,30 +786,39 @@ fn time_view(sheet: &[u8], edges: Edges, k: u32) -> ([usize; 2], [Micros; 5]) {
     ([count, visited.expect("the view is taken")], times)
 }
 
+/// The columns that say which view it is, and of how many marks.
+const VIEW_COLUMNS: [&str; 4] = ["rectangle", "64 times the zoom", "shown", "looked at"];
+
+/// The rectangles that are viewed of a sample, by the words for them: one about its first mark,
+/// and all places.
+fn rectangles(shape: Shape) -> [(&'static str, Edges); 2] {
+    let first = marks(shape, MOST, 1)[0];
+    let small = square_about(first.x, first.y, 500);
+    [("1,000 wide", small), ("whole", Edges::WHOLE)]
+}
+
 fn viewing() {
     table(
         "Viewing 4,096 marks; both check the sheet in each call",
         &[
-            "data",
-            "rectangle",
-            "64 times the zoom",
-            "shown",
-            "looked at",
-            "proved, µs",
-            "plain Rust, µs",
-            "ratio",
-            "times the check alone",
-            "proved with a quarter turn, µs",
-            "times the view without it",
-            "plain Rust with it, µs",
-            "ratio",
-        ],
+            &["data"],
+            &VIEW_COLUMNS[..],
+            &[
+                "proved, µs",
+                "plain Rust, µs",
+                "ratio",
+                "times the check alone",
+                "proved with a quarter turn, µs",
+                "times the view without it",
+                "plain Rust with it, µs",
+                "ratio",
+            ],
+        ]
+        .concat(),
     );
     for (name, shape) in VIEWED {
         let sheet = scheduled(shape, MOST);
-        let first = marks(shape, MOST, 1)[0];
-        let small = square_about(first.x, first.y, 500);
-        for (size, edges) in [("1,000 wide", small), ("whole", Edges::WHOLE)] {
+        for (size, edges) in rectangles(shape) {
             for k in [1, 64, 1_024, 16_384] {
                 let ([count, visited], times) = time_view(&sheet, edges, k);
                 let [ours, theirs, check, turned, theirs_turned] = times;
@@ -863,38 +872,18 @@ fn viewing_popups() {
     table(
         "Viewing 4,096 marks with popups, against the same marks without; all check the sheet in \
          each call",
-        &[
-            "data",
-            "popups",
-            "rectangle",
-            "64 times the zoom",
-            "shown",
-            "looked at",
-            "proved without, µs",
-            "proved with, µs",
-            "ratio",
-            "plain Rust with, µs",
-            "ratio",
-        ],
+        &[&["data", "popups"], &VIEW_COLUMNS[..], &FURTHER_COLUMNS].concat(),
     );
     for (name, shape) in VIEWED {
         let bare = scheduled(shape, MOST);
-        let first = marks(shape, MOST, 1)[0];
-        let small = square_about(first.x, first.y, 500);
         for (popups, how) in VIEWED_POPPING_UP {
             let sheet = scheduled_popping_up(how, shape);
-            for (size, edges) in [("1,000 wide", small), ("whole", Edges::WHOLE)] {
+            for (size, edges) in rectangles(shape) {
                 for k in [64, 1_024] {
                     let ([shown, visited], times) = time_viewing_two(&bare, &sheet, edges, k);
-                    let [without, with, plain] = times;
+                    let cells = further_cells(times);
                     println!(
-                        "| {name} | {popups} | {size} | {k} | {shown} | {visited} | {:.1} | {:.1} \
-                         | {:.2} | {:.1} | {:.2} |",
-                        without.0,
-                        with.0,
-                        with.over(without),
-                        plain.0,
-                        with.over(plain),
+                        "| {name} | {popups} | {size} | {k} | {shown} | {visited} | {cells} |"
                     );
                 }
             }
