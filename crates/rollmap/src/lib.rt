@@ -2,7 +2,6 @@
 use contents::Extent;
 use contents::Layout;
 use jobs::Answer;
-use logs::LOG_RECORD_SIZE;
 use marks::MARK_SIZE;
 use sheet::Assembled;
 use view::Window;
@@ -219,20 +218,7 @@ pub extern "C" fn rollmap_fill(marks: &[u8], out: &mut [u8]) -> Answer
     ensures { λ r. ⌜ Gives (fillJob (now (marks .entry)) (length (now (out .entry)))) (now (out .entry)) r (now (out .exit)) ⌝ }
     ensures { λ r. ⌜ MeetsFilling (now (marks .entry)) r (now (out .exit)) ⌝ }
 {
-    let number = bodies::part1_answer(marks);
-    if number != 0 {
-        return steps::refused(number);
-    }
-    let n = marks.len() / MARK_SIZE;
-    let size = MARK_SIZE * n;
-    if out.len() < size {
-        return steps::refused(13);
-    }
-    filling::fill(out, marks, n);
-    Answer {
-        number: 0,
-        value: size as u32,
-    }
+    conversions::fill(marks, out)
 }
 
 // ---- logs
@@ -244,20 +230,7 @@ pub extern "C" fn rollmap_log_to_marks(log: &[u8], out: &mut [u8]) -> Answer
     ensures { λ r. ⌜ Gives (logToMarksJob (now (log .entry)) (length (now (out .entry)))) (now (out .entry)) r (now (out .exit)) ⌝ }
     ensures { λ r. ⌜ MeetsLog (now (log .entry)) r (now (out .exit)) ⌝ }
 {
-    let number = logs::log_answer(log);
-    if number != 0 {
-        return steps::refused(number);
-    }
-    let n = log.len() / LOG_RECORD_SIZE;
-    let marks_size = MARK_SIZE * n;
-    if out.len() < marks_size {
-        return steps::refused(13);
-    }
-    logs::put_marks(out, log, n);
-    Answer {
-        number: 0,
-        value: marks_size as u32,
-    }
+    conversions::log_to_marks(log, out)
 }
 
 // Turns marks into a log at the start of `out`, and answers how many bytes it has: questions 4, then 5 and 6 mark by mark, and 13. Turned
@@ -267,20 +240,7 @@ pub extern "C" fn rollmap_marks_to_log(marks: &[u8], out: &mut [u8]) -> Answer
     ensures { λ r. ⌜ Gives (marksToLogJob (now (marks .entry)) (length (now (out .entry)))) (now (out .entry)) r (now (out .exit)) ⌝ }
     ensures { λ r. ⌜ MeetsMarks (now (marks .entry)) r (now (out .exit)) ⌝ }
 {
-    let number = bodies::part1_answer(marks);
-    if number != 0 {
-        return steps::refused(number);
-    }
-    let n = marks.len() / MARK_SIZE;
-    let log_size = LOG_RECORD_SIZE * n;
-    if out.len() < log_size {
-        return steps::refused(13);
-    }
-    logs::put_records(out, marks, n);
-    Answer {
-        number: 0,
-        value: log_size as u32,
-    }
+    conversions::marks_to_log(marks, out)
 }
 
 // ---- columns
@@ -292,19 +252,7 @@ pub extern "C" fn rollmap_to_columns(marks: &[u8], out: &mut [u8]) -> Answer
     ensures { λ r. ⌜ Gives (toColumnsJob (now (marks .entry)) (length (now (out .entry)))) (now (out .entry)) r (now (out .exit)) ⌝ }
     ensures { λ r. ⌜ MeetsColumns (now (marks .entry)) r (now (out .exit)) ⌝ }
 {
-    if !bodies::is_marks(marks) {
-        return steps::refused(4);
-    }
-    let n = marks.len() / MARK_SIZE;
-    let columns_size = MARK_SIZE * n;
-    if out.len() < columns_size {
-        return steps::refused(13);
-    }
-    columns::put_columns(out, marks, n);
-    Answer {
-        number: 0,
-        value: columns_size as u32,
-    }
+    conversions::to_columns(marks, out)
 }
 
 // Rearranges columns into marks at the start of `out`, and answers how many bytes these are: questions 4 and 13. Rearranged by columns again they
@@ -314,19 +262,7 @@ pub extern "C" fn rollmap_from_columns(columns: &[u8], out: &mut [u8]) -> Answer
     ensures { λ r. ⌜ Gives (fromColumnsJob (now (columns .entry)) (length (now (out .entry)))) (now (out .entry)) r (now (out .exit)) ⌝ }
     ensures { λ r. ⌜ MeetsRows (now (columns .entry)) r (now (out .exit)) ⌝ }
 {
-    if !bodies::is_marks(columns) {
-        return steps::refused(4);
-    }
-    let n = columns.len() / MARK_SIZE;
-    let rows_size = MARK_SIZE * n;
-    if out.len() < rows_size {
-        return steps::refused(13);
-    }
-    columns::put_marks(out, columns, n);
-    Answer {
-        number: 0,
-        value: rows_size as u32,
-    }
+    conversions::from_columns(columns, out)
 }
 
 // ---- viewing

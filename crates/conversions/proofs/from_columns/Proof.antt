@@ -1,4 +1,4 @@
--- `rollmap::rollmap_from_columns`: each way out by the question that ended it, and else the marks of the columns. Assumes nothing.
+-- `conversions::from_columns`: each way out by the question that ended it, and else the marks of the columns. Assumes nothing.
 use Prim.Native.Nat.{_*_}
 use mathlib.Core.Path.{_≡_, refl, sym}
 use native.Mathlib.Omega.{arith}
@@ -12,8 +12,8 @@ use Rattle.bodies.specs.Questions.{markCount}
 use Rattle.jobs.specs.Jobs.{columnChecks, columnQuestions, fromColumnsJob}
 use Rattle.jobs.specs.Laws.Rooms.{stopped, no-room, wrote}
 use Rattle.jobs.specs.Laws.Archiving.{column-numbered, taken-asked, refused-asked, few-marks, rows-whole}
-use Rattle.rollmap.proofs.rollmap_from_columns.Statement.{statement}
-use Rattle.rollmap.proofs.rollmap_from_columns.Tie as tie
+use Rattle.conversions.proofs.from_columns.Statement.{statement}
+use Rattle.conversions.proofs.from_columns.Tie as tie
 
 -- 4 was passed
 accepted : (c : tie.Else1) → answer (columnChecks (now (c .before .before .before .before .args .columns))) ≡ 0
@@ -70,8 +70,8 @@ returns-3 c =
     (wrote (columnChecks s) (column-numbered s) (11 * markCount s) (fromColumns s (markCount s)) _ (accepted (at-if2 .before)) (at-if2 .if2 .left)
     (sym (from-length s (markCount s))) refl (at-put .put-marks .ensures))
 
-pub rollmap-from-columns-spec : {M : Type 1} → statement M
-rollmap-from-columns-spec =
+pub from-columns-spec : {M : Type 1} → statement M
+from-columns-spec =
     tie.close
     (tie.spec
     is-marks-requires

@@ -1,4 +1,4 @@
--- `rollmap::rollmap_log_to_marks`: each way out by the question that ended it, and else the marks as they were written. Assumes nothing.
+-- `conversions::log_to_marks`: each way out by the question that ended it, and else the marks as they were written. Assumes nothing.
 use Prim.Native.Nat.{_*_}
 use mathlib.Core.Path.{_≡_, refl, sym, _∙_}
 use native.Mathlib.Omega.{arith}
@@ -11,8 +11,8 @@ use Rattle.logs.specs.Theorems.{log-numbered, log-right, marks-length}
 use Rattle.jobs.specs.Jobs.{logToMarksJob}
 use Rattle.jobs.specs.Laws.Rooms.{stopped, no-room, wrote}
 use Rattle.jobs.specs.Laws.Logs.{log-whole}
-use Rattle.rollmap.proofs.rollmap_log_to_marks.Statement.{statement}
-use Rattle.rollmap.proofs.rollmap_log_to_marks.Tie as tie
+use Rattle.conversions.proofs.log_to_marks.Statement.{statement}
+use Rattle.conversions.proofs.log_to_marks.Tie as tie
 
 -- all questions but 13 were passed
 accepted : (c : tie.Else1) → answer (logChecks (now (c .before .before .before .before .args .log))) ≡ 0
@@ -63,8 +63,8 @@ returns-3 c =
     log-whole (wrote (logChecks s) (log-numbered s) (11 * recordCount s) (marksOfLog s) _ ok (at-if2 .if2 .left) (sym (marks-length s ok)) refl
     (at-put .put-marks .ensures))
 
-pub rollmap-log-to-marks-spec : {M : Type 1} → statement M
-rollmap-log-to-marks-spec =
+pub log-to-marks-spec : {M : Type 1} → statement M
+log-to-marks-spec =
     tie.close
     (tie.spec
     log-answer-requires

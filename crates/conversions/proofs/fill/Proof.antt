@@ -1,4 +1,4 @@
--- `rollmap::rollmap_marks_to_log`: each way out by the question that ended it, and else the log as it was written. Assumes nothing.
+-- `conversions::fill`: each way out by the question that ended it, and else the marks as they were written. Assumes nothing.
 use Prim.Native.Nat.{_*_}
 use mathlib.Core.Path.{_≡_, refl, sym, _∙_}
 use native.Mathlib.Omega.{arith}
@@ -7,14 +7,13 @@ use denote.Ref.{now}
 use Rattle.contents.specs.Asking.{answer}
 use Rattle.bodies.specs.Questions.{markCount, part1Questions}
 use Rattle.bodies.specs.Laws.{part1-numbered, part1-iff}
-use Rattle.logs.specs.Log.{logOfMarks}
-use Rattle.logs.specs.Questions.{marksQuestions}
-use Rattle.logs.specs.Theorems.{log-length}
-use Rattle.jobs.specs.Jobs.{marksToLogJob}
+use Rattle.filling.specs.Filling.{filled, fillQuestions}
+use Rattle.filling.specs.Theorems.{filled-length}
+use Rattle.jobs.specs.Jobs.{fillJob}
 use Rattle.jobs.specs.Laws.Rooms.{stopped, no-room, wrote}
-use Rattle.jobs.specs.Laws.Logs.{marks-whole}
-use Rattle.rollmap.proofs.rollmap_marks_to_log.Statement.{statement}
-use Rattle.rollmap.proofs.rollmap_marks_to_log.Tie as tie
+use Rattle.jobs.specs.Laws.Filling.{fill-whole}
+use Rattle.conversions.proofs.fill.Statement.{statement}
+use Rattle.conversions.proofs.fill.Tie as tie
 
 -- 4 to 6 were passed
 accepted : (c : tie.Else1) → answer (part1Questions (now (c .before .before .before .before .args .marks))) ≡ 0
@@ -27,29 +26,27 @@ refused-requires : tie.Need-refused-requires
 refused-requires c κs = search needs
 
 returns : tie.Need-returns
-unfolding marksToLogJob marksQuestions
+unfolding fillJob fillQuestions
 returns c =
     let s = now (c .before .before .before .before .before .args .marks) in
-    marks-whole (λ i. c .before .before .before .before .shared-slice-known .given i .fits)
-    (stopped (part1Questions s) (part1-numbered s) (13 * markCount s) (logOfMarks s) _ (c .before .before .part1-answer .ensures)
+    fill-whole (stopped (part1Questions s) (part1-numbered s) (11 * markCount s) (filled s) _ (c .before .before .part1-answer .ensures)
     (omega (arith, c .before .if1 .taken)) (c .refused .ensures))
 
-mul-log-size : tie.Need-mul-log-size
-mul-log-size c = search needs
+mul-size : tie.Need-mul-size
+mul-size c = search needs
 
 refused-requires-2 : tie.Need-refused-requires-2
 refused-requires-2 c κs = search needs
 
 returns-2 : tie.Need-returns-2
-unfolding marksToLogJob marksQuestions
+unfolding fillJob fillQuestions
 returns-2 c =
     let s = now (c .before .before .before .before .before .before .args .marks) in
-    marks-whole (λ i. c .before .before .before .before .before .shared-slice-known .given i .fits)
-    (no-room (part1Questions s) (part1-numbered s) (13 * markCount s) (logOfMarks s) _ (accepted (c .before .before)) (c .before .if2 .taken)
+    fill-whole (no-room (part1Questions s) (part1-numbered s) (11 * markCount s) (filled s) _ (accepted (c .before .before)) (c .before .if2 .taken)
     (c .refused2 .ensures))
 
-put-records-requires : tie.Need-put-records-requires
-put-records-requires c κs = search needs
+fill-requires : tie.Need-fill-requires
+fill-requires c κs = search needs
 
 cast-t11 : tie.Need-cast-t11
 cast-t11 c = omega (arith, part1-iff _ .0 (accepted (c .before .before .before .before .before)) .0 .few)
@@ -58,27 +55,26 @@ same-length : tie.Need-same-length
 same-length c = search needs
 
 returns-3 : tie.Need-returns-3
-unfolding marksToLogJob marksQuestions logOfMarks
+unfolding fillJob fillQuestions filled
 returns-3 c =
-    let at-put = c .before .before in
-    let at-if2 = at-put .before .before in
+    let at-fill = c .before .before in
+    let at-if2 = at-fill .before .before in
     let s = now (at-if2 .before .before .before .before .before .args .marks) in
     let ok = accepted (at-if2 .before) in
-    marks-whole (λ i. at-if2 .before .before .before .before .shared-slice-known .given i .fits)
-    (wrote (part1Questions s) (part1-numbered s) (13 * markCount s) (logOfMarks s) _ ok (at-if2 .if2 .left) (sym (log-length s ok)) refl
-    (at-put .put-records .ensures))
+    fill-whole (wrote (part1Questions s) (part1-numbered s) (11 * markCount s) (filled s) _ ok (at-if2 .if2 .left) (sym (filled-length s ok)) refl
+    (at-fill .fill .ensures))
 
-pub rollmap-marks-to-log-spec : {M : Type 1} → statement M
-rollmap-marks-to-log-spec =
+pub fill-spec : {M : Type 1} → statement M
+fill-spec =
     tie.close
     (tie.spec
     part1-answer-requires
     refused-requires
     returns
-    mul-log-size
+    mul-size
     refused-requires-2
     returns-2
-    put-records-requires
+    fill-requires
     cast-t11
     same-length
     returns-3)

@@ -1,4 +1,4 @@
--- `rollmap::rollmap_to_columns`: each way out by the question that ended it, and else the columns of the marks. Assumes nothing.
+-- `conversions::to_columns`: each way out by the question that ended it, and else the columns of the marks. Assumes nothing.
 use Prim.Native.Nat.{_*_}
 use mathlib.Core.Path.{_≡_, refl, sym}
 use native.Mathlib.Omega.{arith}
@@ -12,8 +12,8 @@ use Rattle.bodies.specs.Questions.{markCount}
 use Rattle.jobs.specs.Jobs.{columnChecks, columnQuestions, toColumnsJob}
 use Rattle.jobs.specs.Laws.Rooms.{stopped, no-room, wrote}
 use Rattle.jobs.specs.Laws.Archiving.{column-numbered, taken-asked, refused-asked, few-marks, columns-whole}
-use Rattle.rollmap.proofs.rollmap_to_columns.Statement.{statement}
-use Rattle.rollmap.proofs.rollmap_to_columns.Tie as tie
+use Rattle.conversions.proofs.to_columns.Statement.{statement}
+use Rattle.conversions.proofs.to_columns.Tie as tie
 
 -- 4 was passed
 accepted : (c : tie.Else1) → answer (columnChecks (now (c .before .before .before .before .args .marks))) ≡ 0
@@ -70,8 +70,8 @@ returns-3 c =
     (wrote (columnChecks s) (column-numbered s) (11 * markCount s) (toColumns s (markCount s)) _ (accepted (at-if2 .before)) (at-if2 .if2 .left)
     (sym (to-length s (markCount s))) refl (at-put .put-columns .ensures))
 
-pub rollmap-to-columns-spec : {M : Type 1} → statement M
-rollmap-to-columns-spec =
+pub to-columns-spec : {M : Type 1} → statement M
+to-columns-spec =
     tie.close
     (tie.spec
     is-marks-requires
