@@ -1,26 +1,18 @@
 // The public library, for C and Rust.
 use contents::Extent;
-use contents::Layout;
 use jobs::Answer;
-use marks::MARK_SIZE;
-use sheet::Assembled;
 use view::Window;
 use zoom::Zoom;
 ghost use mathlib.Core.Path.{_≡_};
-ghost use mathlib.Core.Bool.{_&&_};
 ghost use mathlib.Core.List.{map};
-ghost use lib.Dec.{leb};
 ghost use lib.ListN.{length};
 ghost use Rattle.changing.specs.Changing.{added, takenOut, addedPopup, takenOutPopup};
 ghost use Rattle.contents.specs.Contents.{has, split, marksPart};
-ghost use Rattle.contents.specs.Questions.{isCount};
-ghost use Rattle.contents.specs.Asking.{answer};
-ghost use Rattle.contents.specs.Places.{layoutOf, placeOf, Located};
-ghost use Rattle.sheet.specs.Questions.{indexedQuestions};
+ghost use Rattle.contents.specs.Places.{placeOf, Located};
 ghost use Rattle.sheet.specs.Opened.{opened, openParts};
 ghost use Rattle.zoom.specs.declared.Zoom.the-variants.{Stop, Wheel};
 ghost use Rattle.view.specs.Questions.{isMap};
-ghost use Rattle.jobs.specs.Jobs.{checkJob, carried, keptParts, scheduleJob, addJob, takeOutJob, question22, judgeJob, countJob, assembleJob, fillJob, logToMarksJob, marksToLogJob, toColumnsJob, fromColumnsJob, viewJob, walkJob, isShownJob};
+ghost use Rattle.jobs.specs.Jobs.{checkJob, carried, keptParts, scheduleJob, addJob, takeOutJob, judgeJob, countJob, assembleJob, fillJob, logToMarksJob, marksToLogJob, toColumnsJob, fromColumnsJob, viewJob, walkJob, isShownJob};
 ghost use Rattle.jobs.specs.Answers.{answerOf, window, fields, Gives, Lent};
 ghost use Rattle.jobs.specs.Parts.{Joins};
 ghost use Rattle.jobs.specs.Demand3.{Meets, MeetsView};
@@ -57,13 +49,6 @@ pub extern "C" fn rollmap_part(sheet: &[u8], code: u32) -> Extent
     sheet::place_of(sheet, code)
 }
 
-// 1, of the parts that are put together: is their number one that is taken, and is there a body for each code?
-fn are_counted(codes: usize, bodies: usize) -> bool
-    ensures { λ r. ⌜ r ≡ (isCount codes && leb codes bodies) ⌝ }
-{
-    contents::is_count(codes) && codes <= bodies
-}
-
 // Puts the bodies under these codes together into a sheet at the start of `out`: questions 1 (of the number of parts), 2 of the codes, 4 to 9
 // with 19, 21 and 23, and 13. Bodies behind those that the codes name are ignored. The sheet has these parts and is accepted; an accepted sheet's own
 // parts give that sheet.
@@ -76,20 +61,7 @@ pub extern "C" fn rollmap_assemble<'a>(
     ensures { λ r. ⌜ Gives (assembleJob (now (codes .entry)) (map now (now (bodies .entry))) (length (now (out .entry)))) (now (out .entry)) r (now (out .exit)) ⌝ }
     ensures { λ r. ⌜ Joins (now (codes .entry)) (map now (now (bodies .entry))) (now (out .entry)) r (now (out .exit)) ⌝ }
 {
-    let count = codes.len();
-    if !are_counted(count, bodies.len()) {
-        return steps::refused(1);
-    }
-    if !contents::codes_right(codes) {
-        return steps::refused(2);
-    }
-    match sheet::assemble(codes, &bodies[..count], out) {
-        Assembled::Refused(number) => steps::refused(number),
-        Assembled::Written(size) => Answer {
-            number: 0,
-            value: size,
-        },
-    }
+    assembly::assemble(codes, bodies, out)
 }
 
 // ---- scheduling
@@ -102,29 +74,7 @@ pub extern "C" fn rollmap_schedule(sheet: &[u8], work: &mut [u8], out: &mut [u8]
     ensures { λ r. ⌜ Gives (scheduleJob (now (sheet .entry)) (length (now (work .entry))) (length (now (out .entry)))) (now (out .entry)) r (now (out .exit)) ⌝ }
     ensures { λ r. ⌜ Lent r (now (work .entry)) (now (work .exit)) × Meets (marksPart (split (now (sheet .entry)))) (keptParts (split (now (sheet .entry)))) (has (split (now (sheet .entry))) 6) r (now (out .exit)) ⌝ }
 {
-    let found = sheet::opened(sheet);
-    let number = found.number;
-    if number != 0 {
-        return steps::refused(number);
-    }
-    let layout = found.layout;
-    let marks = contents::part(sheet, layout, 1);
-    let edition = contents::part(sheet, layout, 4);
-    let there = contents::is_there(layout, 5);
-    let popups = contents::part(sheet, layout, 5);
-    let n = marks.len() / MARK_SIZE;
-    steps::schedule_marks(
-        marks,
-        &marks[..0],
-        edition,
-        there,
-        popups,
-        &marks[..0],
-        contents::is_there(layout, 6),
-        work,
-        out,
-        n,
-    )
+    changes::schedule(sheet, work, out)
 }
 
 // ---- marks that come and go
@@ -163,38 +113,13 @@ pub extern "C" fn rollmap_take_out(sheet: &[u8], m: u32, work: &mut [u8], out: &
 
 // ---- judging
 
-// 22, of an accepted sheet with parts 2 and 3: is its schedule ours?
-fn is_ours(sheet: &[u8], layout: Layout) -> bool
-    requires { ⌜ (answer (indexedQuestions (now sheet)) ≡ 0) × (layout ≡ layoutOf (now sheet)) ⌝ }
-    ensures { λ r. ⌜ r ≡ question22 (split (now (sheet .entry))) ⌝ }
-{
-    let marks = contents::part(sheet, layout, 1);
-    let schedule = contents::part(sheet, layout, 2);
-    let index = contents::part(sheet, layout, 3);
-    let edition = bodies::edition_of(contents::part(sheet, layout, 4));
-    let popups = contents::part(sheet, layout, 5);
-    let n = marks.len() / MARK_SIZE;
-    judging::judge(marks, edition, popups, schedule, index, n)
-}
-
 // Judges the schedule of a sheet, whoever made it: questions 1 to 10, and 22. It answers 0 exactly where the sheet is scheduled here, and then
 // the sheet meets demand 3.
 #[no_mangle]
 pub extern "C" fn rollmap_judge(sheet: &[u8]) -> Answer
     ensures { λ r. ⌜ (r ≡ answerOf (judgeJob (now (sheet .entry)))) × MeetsJudging (now (sheet .entry)) r ⌝ }
 {
-    let found = sheet::indexed(sheet);
-    let number = found.number;
-    if number != 0 {
-        return steps::refused(number);
-    }
-    if is_ours(sheet, found.layout) {
-        return Answer {
-            number: 0,
-            value: 0,
-        };
-    }
-    steps::refused(22)
+    judgement::judge(sheet)
 }
 
 // ---- counting

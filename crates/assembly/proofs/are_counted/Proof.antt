@@ -1,8 +1,8 @@
--- `rollmap::are_counted`: the two tests in their order. Assumes nothing.
+-- `assembly::are_counted`: the two tests in their order. Assumes nothing.
 use mathlib.Core.Path.{sym, _∙_}
 use borrow.Author.Needs.{needs}
-use Rattle.rollmap.proofs.are_counted.Statement.{statement}
-use Rattle.rollmap.proofs.are_counted.Tie as tie
+use Rattle.assembly.proofs.are_counted.Statement.{statement}
+use Rattle.assembly.proofs.are_counted.Tie as tie
 
 is-count-requires : tie.Need-is-count-requires
 is-count-requires c κs = search needs

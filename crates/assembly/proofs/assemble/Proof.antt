@@ -1,4 +1,4 @@
--- `rollmap::rollmap_assemble`: the number of parts, their codes, and then the answer's two cases, with 01's number and length of each. Assumes
+-- `assembly::assemble`: the number of parts, their codes, and then the answer's two cases, with 01's number and length of each. Assumes
 -- nothing.
 use Prim.Native.Nat.{ℕ, _≤_}
 use mathlib.Core.Path.{_≡_, sym, ap, _∙_}
@@ -22,8 +22,8 @@ use Rattle.jobs.specs.Parts.{Joins}
 use Rattle.jobs.specs.Theorems.{assemble-joins}
 use Rattle.jobs.specs.Laws.Given.{together-take, map-take}
 use Rattle.jobs.specs.Laws.Outcomes.{assemble-gives, assemble-uncounted, assemble-uncoded}
-use Rattle.rollmap.proofs.rollmap_assemble.Statement.{statement}
-use Rattle.rollmap.proofs.rollmap_assemble.Tie as tie
+use Rattle.assembly.proofs.assemble.Statement.{statement}
+use Rattle.assembly.proofs.assemble.Tie as tie
 
 abbrev codes : tie.Start → List ℕ
 codes b = now (b .args .codes)
@@ -110,8 +110,8 @@ returns-4 c =
     let assembled = rw (lent b) at (c .before .before .before .before .before .assemble .ensures) in
     whole (codes b) (bodies b) (rw (c .before .size .given .1) at (assemble-gives (codes b) (bodies b) _ _ _ (counted (c .before .before .before .before .before .before .before .before .before .before)) (right (c .before .before .before .before .before .before .before .before)) assembled))
 
-pub rollmap-assemble-spec : {M : Type 1} → statement M
-rollmap-assemble-spec =
+pub assemble-spec : {M : Type 1} → statement M
+assemble-spec =
     tie.close
     (tie.spec
     are-counted-requires

@@ -1,4 +1,4 @@
--- `rollmap::rollmap_judge`: each way out by the question that ended it. Assumes nothing.
+-- `judgement::judge`: each way out by the question that ended it. Assumes nothing.
 use Prim.Native.Nat.{ℕ}
 use mathlib.Core.Path.{_≡_, refl, sym, _∙_}
 use mathlib.Core.List.{List}
@@ -14,8 +14,8 @@ use Rattle.jobs.specs.Answers.{answerOf}
 use Rattle.jobs.specs.Jobs.{judgeJob}
 use Rattle.jobs.specs.Judged.{MeetsJudging, judge-meets}
 use Rattle.jobs.specs.Laws.Judging.{judge-refused, judge-no, judge-yes}
-use Rattle.rollmap.proofs.rollmap_judge.Statement.{statement}
-use Rattle.rollmap.proofs.rollmap_judge.Tie as tie
+use Rattle.judgement.proofs.judge.Statement.{statement}
+use Rattle.judgement.proofs.judge.Tie as tie
 
 abbrev given : tie.Start → List ℕ
 given b = now (b .args .sheet)
@@ -55,8 +55,8 @@ returns-3 c =
     whole (given (c .before .before .before .before .before .before)) (λ i. c .before .before .before .before .before .shared-slice-known .given i .fits)
     (judge-no _ (indexed (c .before .before .before)) (sym (c .before .before .is-ours .ensures) ∙ c .before .if2 .left) (c .refused2 .ensures))
 
-pub rollmap-judge-spec : {M : Type 1} → statement M
-rollmap-judge-spec =
+pub judge-spec : {M : Type 1} → statement M
+judge-spec =
     tie.close
     (tie.spec
     indexed-requires

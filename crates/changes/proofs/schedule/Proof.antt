@@ -1,4 +1,4 @@
--- `rollmap::rollmap_schedule`: a sheet that is refused, or else what scheduling its marks gives. Assumes nothing.
+-- `changes::schedule`: a sheet that is refused, or else what scheduling its marks gives. Assumes nothing.
 use Prim.Native.Nat.{ℕ}
 use mathlib.Core.Path.{_≡_, refl, sym, _∙_}
 use mathlib.Core.List.{List, append-nil}
@@ -18,8 +18,8 @@ use Rattle.jobs.specs.Demand3.{Meets}
 use Rattle.jobs.specs.Theorems.{schedule-meets}
 use Rattle.jobs.specs.Laws.Kept.{carried-lent, edition-short, popups-lent}
 use Rattle.jobs.specs.Laws.Scheduling.{stopped, once-passed}
-use Rattle.rollmap.proofs.rollmap_schedule.Statement.{statement}
-use Rattle.rollmap.proofs.rollmap_schedule.Tie as tie
+use Rattle.changes.proofs.schedule.Statement.{statement}
+use Rattle.changes.proofs.schedule.Tie as tie
 
 abbrev given : tie.Start → List ℕ
 given b = now (b .args .sheet)
@@ -112,8 +112,8 @@ returns-2 c =
     (carried-lent _ ok (λ q. q) (part4 (p .before .before)) (there5 (p .before)) (λ t. append-nil (now (p .part3 .result)) ∙ part5 p))
     (there6 (c .before .before .before .before .before .before .before)) (c .before .before .before .before .schedule-marks .ensures .0)) (c .before .before .before .before .schedule-marks .ensures .1)
 
-pub rollmap-schedule-spec : {M : Type 1} → statement M
-rollmap-schedule-spec =
+pub schedule-spec : {M : Type 1} → statement M
+schedule-spec =
     tie.close
     (tie.spec
     opened-requires

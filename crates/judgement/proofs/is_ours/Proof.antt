@@ -1,4 +1,4 @@
--- `rollmap::is_ours`: the judge on the sheet's own parts. Assumes nothing.
+-- `judgement::is_ours`: the judge on the sheet's own parts. Assumes nothing.
 use Prim.Native.Nat.{ℕ}
 use mathlib.Core.Path.{_≡_, ap, _∙_}
 use mathlib.Core.List.{List}
@@ -13,8 +13,8 @@ use Rattle.sheet.specs.Questions.{indexedQuestions}
 use Rattle.sheet.specs.Laws.{indexed-iff, layout-part}
 use Rattle.jobs.specs.Jobs.{question22}
 use Rattle.jobs.specs.Laws.Judging.{judgeable}
-use Rattle.rollmap.proofs.is_ours.Statement.{statement}
-use Rattle.rollmap.proofs.is_ours.Tie as tie
+use Rattle.judgement.proofs.is_ours.Statement.{statement}
+use Rattle.judgement.proofs.is_ours.Tie as tie
 
 -- a part that was cut out is the sheet's
 cut : (s : List ℕ) {layout : Layout} → (answer (indexedQuestions s) ≡ 0) × (layout ≡ layoutOf s) → (code : ℕ) {l : List ℕ}
