@@ -58,7 +58,7 @@ fn put_counted(sheet: &[u8], layout: Layout, out: &mut [u8]) -> Answer
     let index = contents::is_there(layout, 3);
     let edition = contents::is_there(layout, 4);
     let has_popups = contents::is_there(layout, 5);
-    let start = steps::put_head(out, n, index, edition, has_popups, true);
+    let start = writing::put_head(out, n, index, edition, has_popups, true);
     let end = contents::put(out, start, &sheet[start - ENTRY_SIZE..]);
     contents::put(out, end, &counts);
     Answer {

@@ -11,7 +11,6 @@ ghost use Rattle.contents.specs.Contents.{has, split, marksPart};
 ghost use Rattle.contents.specs.Places.{placeOf, Located};
 ghost use Rattle.sheet.specs.Opened.{opened, openParts};
 ghost use Rattle.zoom.specs.declared.Zoom.the-variants.{Stop, Wheel};
-ghost use Rattle.view.specs.Questions.{isMap};
 ghost use Rattle.jobs.specs.Jobs.{checkJob, carried, keptParts, scheduleJob, addJob, takeOutJob, judgeJob, countJob, assembleJob, fillJob, logToMarksJob, marksToLogJob, toColumnsJob, fromColumnsJob, viewJob, walkJob, isShownJob};
 ghost use Rattle.jobs.specs.Answers.{answerOf, window, fields, Gives, Lent};
 ghost use Rattle.jobs.specs.Parts.{Joins};
@@ -24,9 +23,6 @@ ghost use Rattle.jobs.specs.Stops.{MeetsStop};
 ghost use Rattle.jobs.specs.Turns.{MeetsTurn};
 ghost use Rattle.jobs.specs.Judged.{MeetsJudging};
 ghost use Rattle.jobs.specs.Counted.{MeetsCounting};
-
-// The most marks that a sheet holds.
-const MOST_MARKS: usize = 4096;
 
 // ---- sheets
 
@@ -216,7 +212,7 @@ pub extern "C" fn rollmap_view_stop(
         y1,
         turn,
     };
-    steps::view(sheet, window, Zoom::Stop(stop), map)
+    viewing::view(sheet, window, Zoom::Stop(stop), map)
 }
 
 // The view at a wheel value; of a sheet scheduled here it meets demand 3, and it is that of the turned marks without a turn.
@@ -241,33 +237,17 @@ pub extern "C" fn rollmap_view_wheel(
         y1,
         turn,
     };
-    steps::view(sheet, window, Zoom::Wheel(wheel), map)
+    viewing::view(sheet, window, Zoom::Wheel(wheel), map)
 }
 
 // ---- reading a map
-
-// 13, of a map that is read: has it a bit for each of n marks, and is n at most 4,096?
-fn is_map(map: &[u8], n: u32) -> bool
-    ensures { λ r. ⌜ r ≡ isMap (now (map .entry)) n ⌝ }
-{
-    n as usize <= MOST_MARKS && (n as usize + 7) / 8 <= map.len()
-}
 
 // The least shown mark at or after `start` and below n, else 65,535.
 #[no_mangle]
 pub extern "C" fn rollmap_walk(map: &[u8], n: u32, start: u32) -> Answer
     ensures { λ r. ⌜ r ≡ answerOf (walkJob (now (map .entry)) n start) ⌝ }
 {
-    if !is_map(map, n) {
-        return Answer {
-            number: 13,
-            value: 65535,
-        };
-    }
-    Answer {
-        number: 0,
-        value: bitmap::walk(map, n as usize, start as usize) as u32,
-    }
+    viewing::walk(map, n, start)
 }
 
 // Whether the map of n marks shows mark m: 1 or 0, and 0 where m is not below n. It asks 13 as the walk does.
@@ -275,17 +255,5 @@ pub extern "C" fn rollmap_walk(map: &[u8], n: u32, start: u32) -> Answer
 pub extern "C" fn rollmap_is_shown(map: &[u8], n: u32, m: u32) -> Answer
     ensures { λ r. ⌜ r ≡ answerOf (isShownJob (now (map .entry)) n m) ⌝ }
 {
-    if !is_map(map, n) {
-        return steps::refused(13);
-    }
-    if n <= m {
-        return Answer {
-            number: 0,
-            value: 0,
-        };
-    }
-    Answer {
-        number: 0,
-        value: bitmap::test_bit(map, m as usize) as u32,
-    }
+    viewing::is_shown(map, n, m)
 }
