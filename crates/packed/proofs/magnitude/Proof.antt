@@ -1,9 +1,9 @@
--- `logs::magnitude`: five digits, each times its power of ten. Assumes nothing.
-use Rattle.logs.specs.Packed.{magnitude}
+-- `packed::magnitude`: five digits, each times its power of ten. Assumes nothing.
+use Rattle.packed.specs.Packed.{magnitude}
 use borrow.Author.Needs.{needs}
 use native.Mathlib.Omega.{arith}
-use Rattle.logs.proofs.magnitude.Statement.{statement}
-use Rattle.logs.proofs.magnitude.Tie as tie
+use Rattle.packed.proofs.magnitude.Statement.{statement}
+use Rattle.packed.proofs.magnitude.Tie as tie
 
 upper-requires : tie.Need-upper-requires
 upper-requires c κs = search needs

@@ -11,10 +11,8 @@ use lib.Signed.{mag}
 use borrow.Author.Tests.{leb-true, eqb-true, lt-ltb, le-ltb, le-leb, lt-leb, eq-eqb}
 use Rattle.lists.specs.TestLaws.{both-iff}
 use Rattle.numbers.specs.Little.{signed}
-use Rattle.logs.specs.Packed.{magnitude, isMinus, withSign, packedValue, areDigits, isLast, isPacked, isPlace, packedOf, packed}
 use Rattle.marks.specs.Marks.{placeBits}
-use Rattle.logs.specs.Log.{coordinateAt}
-use Rattle.logs.specs.Questions.{packedAt}
+use Rattle.packed.specs.Packed.{magnitude, isMinus, withSign, packedValue, coordinateAt, areDigits, isLast, isPacked, packedAt, isPlace, packedOf, packed}
 
 -- ---- the tests as statements
 
@@ -64,6 +62,7 @@ minus-packed : (m : ℕ) → (m ≡ 0 → ⊥) → packed (negℤ (pos m)) ≡ p
 minus-packed zero h = absurd (h refl)
 minus-packed (suc m) h = refl
 
+-- Three bytes that are packed decimal are that form of the number that they hold.
 pub packed-back : (a b c : ℕ) → isPacked a b c ≡ true → packed (packedValue a b c) ≡ a ∷ b ∷ c ∷ []
 unfolding isPacked withSign
 packed-back a b c e =

@@ -1,8 +1,8 @@
--- `logs::is_packed`: the tests of question 15. Assumes nothing.
-use Rattle.logs.specs.Packed.{isPacked}
+-- `packed::is_packed`: the tests of question 15. Assumes nothing.
+use Rattle.packed.specs.Packed.{isPacked}
 use borrow.Author.Needs.{needs}
-use Rattle.logs.proofs.is_packed.Statement.{statement}
-use Rattle.logs.proofs.is_packed.Tie as tie
+use Rattle.packed.proofs.is_packed.Statement.{statement}
+use Rattle.packed.proofs.is_packed.Tie as tie
 
 are-digits-requires : tie.Need-are-digits-requires
 are-digits-requires c κs = search needs

@@ -5,6 +5,7 @@ use mathlib.Core.Bool.{Bool, cond, not, _&&_, _||_}
 use mathlib.Core.List.{List, [], _∷_}
 use lib.Dec.{leb, eqb}
 use lib.IntN.{ℤ, pos, negsuc, negℤ, natAbs}
+use lib.ListN.{getD}
 use lib.Signed.{leZ}
 
 -- ---- reading
@@ -30,6 +31,10 @@ withSign minus m = cond minus (negℤ (pos m)) (pos m)
 abbrev pub packedValue : ℕ → ℕ → ℕ → ℤ
 packedValue a b c = withSign (isMinus c) (magnitude a b c)
 
+-- the coordinate whose three bytes stand at `at`
+abbrev pub coordinateAt : List ℕ → ℕ → ℤ
+coordinateAt s at = packedValue (getD s at 0) (getD s (at + 1) 0) (getD s (at + 2) 0)
+
 -- ---- the two questions
 
 -- both halves are digits
@@ -43,6 +48,10 @@ isLast c = leb (upper c) 9 && (eqb (lower c) 12 || eqb (lower c) 13)
 -- 15. "15 for a digit above 9, another sign or minus zero"
 unfoldable pub isPacked : ℕ → ℕ → ℕ → Bool
 isPacked a b c = (areDigits a && areDigits b) && (isLast c && not (isMinus c && eqb (magnitude a b c) 0))
+
+-- the three bytes at `at` are packed decimal
+abbrev pub packedAt : List ℕ → ℕ → Bool
+packedAt s at = isPacked (getD s at 0) (getD s (at + 1) 0) (getD s (at + 2) 0)
 
 -- 16. "16 for a value outside -32,768 to 32,767" (`negsuc 32767` is -32,768)
 unfoldable pub isPlace : ℤ → Bool

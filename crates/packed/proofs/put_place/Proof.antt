@@ -1,8 +1,8 @@
--- `logs::put_place`: the upper half of the 16 bits is below zero. Assumes nothing.
-use Rattle.logs.specs.Lemmas.Packed.{packed-low, packed-high}
+-- `packed::put_place`: the upper half of the 16 bits is below zero. Assumes nothing.
+use Rattle.packed.specs.Laws.{packed-low, packed-high}
 use borrow.Author.Needs.{needs}
-use Rattle.logs.proofs.put_place.Statement.{statement}
-use Rattle.logs.proofs.put_place.Tie as tie
+use Rattle.packed.proofs.put_place.Statement.{statement}
+use Rattle.packed.proofs.put_place.Tie as tie
 
 put-packed-requires : tie.Need-put-packed-requires
 put-packed-requires c κs = search needs

@@ -1,8 +1,8 @@
--- `logs::bits_of`: a number below zero counts down from 65,536. Assumes nothing.
-use Rattle.logs.specs.Lemmas.Packed.{minus-small, bits-taken, bits-left}
+-- `packed::bits_of`: a number below zero counts down from 65,536. Assumes nothing.
+use Rattle.packed.specs.Laws.{minus-small, bits-taken, bits-left}
 use native.Mathlib.Omega.{arith}
-use Rattle.logs.proofs.bits_of.Statement.{statement}
-use Rattle.logs.proofs.bits_of.Tie as tie
+use Rattle.packed.proofs.bits_of.Statement.{statement}
+use Rattle.packed.proofs.bits_of.Tie as tie
 
 sub-result : tie.Need-sub-result
 sub-result c = omega (arith, minus-small (c .before .args .m) (c .if1 .taken) (c .before .pre))

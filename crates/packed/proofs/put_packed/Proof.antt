@@ -1,12 +1,12 @@
--- `logs::put_packed`: three bytes stored one behind the other. Assumes nothing.
+-- `packed::put_packed`: three bytes stored one behind the other. Assumes nothing.
 use Prim.Native.Nat.{suc, _+_}
 use mathlib.Core.Path.{_≡_}
 use lib.ListN.{length-set}
-use Rattle.logs.specs.Packed.{packedOf}
+use Rattle.packed.specs.Packed.{packedOf}
 use borrow.Author.Needs.{needs}
 use native.Mathlib.Omega.{arith}
-use Rattle.logs.proofs.put_packed.Statement.{statement}
-use Rattle.logs.proofs.put_packed.Tie as tie
+use Rattle.packed.proofs.put_packed.Statement.{statement}
+use Rattle.packed.proofs.put_packed.Tie as tie
 
 mul-out : tie.Need-mul-out
 mul-out c = search needs

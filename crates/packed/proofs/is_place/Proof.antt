@@ -1,8 +1,8 @@
--- `logs::is_place`: the magnitude may be one more below zero. Assumes nothing.
+-- `packed::is_place`: the magnitude may be one more below zero. Assumes nothing.
 use mathlib.Core.Path.{sym}
-use Rattle.logs.specs.Lemmas.Packed.{place-minus, place-plus}
-use Rattle.logs.proofs.is_place.Statement.{statement}
-use Rattle.logs.proofs.is_place.Tie as tie
+use Rattle.packed.specs.Laws.{place-minus, place-plus}
+use Rattle.packed.proofs.is_place.Statement.{statement}
+use Rattle.packed.proofs.is_place.Tie as tie
 
 returns : tie.Need-returns
 returns c = rw (c .if1 .taken) (sym (place-minus (c .before .args .m)))
