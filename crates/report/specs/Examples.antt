@@ -44,7 +44,8 @@ use Rattle.bitmap.specs.Map.{mapByte, mapPart, mapBytes, countShown}
 use Rattle.view.specs.Questions as Viewing
 use Rattle.jobs.specs.Jobs.{outcome, checkJob, scheduled, schedulingQuestions, schedulingJob, addChecks, addJob, takeOutChecks, takeOutJob, question22, judgeQuestions, judgeJob, withOwnCounts, countChecks, countJob, columnQuestions, toColumnsJob, fromColumnsJob, assembleQuestions, assembleJob, fillJob, logToMarksJob, marksToLogJob, shownIn, viewJob}
 use Rattle.text.specs.Text.{digits}
-use Rattle.report.specs.Text.{text, line, markLine, markLines, listing, refusalLine, printQuestions, printed}
+use Rattle.listing.specs.Lines.{text, line, markLine, markLines, listing, refusalLine}
+use Rattle.report.specs.Text.{printQuestions, printed}
 
 -- ---- inputs by their fields
 

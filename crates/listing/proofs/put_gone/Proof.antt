@@ -1,4 +1,4 @@
--- `report::put_gone` meets its contract: each number ends at most `numberRoom` bytes behind the last, so that there is room for five; together they
+-- `listing::put_gone` meets its contract: each number ends at most `numberRoom` bytes behind the last, so that there is room for five; together they
 -- are the line. Assumes nothing.
 use Prim.Native.Nat.{_+_, _*_, _≤_}
 use mathlib.Core.Path.{_≡_, _∙_}
@@ -7,9 +7,9 @@ use lib.ListN.{length}
 use denote.Ref.{now}
 use borrow.Author.Needs.{needs}
 use Rattle.text.specs.Text.{numberRoom}
-use Rattle.report.specs.Lemmas.Lines.{number-ends, gone-line}
-use Rattle.report.proofs.put_gone.Statement.{statement}
-use Rattle.report.proofs.put_gone.Tie as tie
+use Rattle.listing.specs.Laws.{number-ends, gone-line}
+use Rattle.listing.proofs.put_gone.Statement.{statement}
+use Rattle.listing.proofs.put_gone.Tie as tie
 
 -- where each next number starts
 second : (c : tie.After-put-number) → let a = c .before .before .before .args in

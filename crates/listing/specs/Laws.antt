@@ -11,8 +11,8 @@ use Rattle.text.specs.Text.{decimal, numberRoom, Wrote}
 use Rattle.zoom.specs.Printed.{nearest}
 use Rattle.text.specs.Laws.{decimal-bound, wrote-byte, wrote-then, wrote-length}
 use Rattle.elimination.specs.Process.{Removal, stays, gone}
-use Rattle.report.specs.Text.{text, line, markLine, markLines, listing, refusalLine}
-use Rattle.report.specs.Printing.{lineRoom, firstRoom, textRoom}
+use Rattle.listing.specs.Lines.{text, line, markLine, markLines, listing, refusalLine}
+use Rattle.listing.specs.Listed.{lineRoom, firstRoom, textRoom}
 
 -- ---- writing a line
 

@@ -1,15 +1,15 @@
--- `report::put_marks` meets its contract: while the loop runs, the lines of the marks before m are written. Assumes nothing.
+-- `listing::put_marks` meets its contract: while the loop runs, the lines of the marks before m are written. Assumes nothing.
 use Prim.Native.Nat.{_-_, _≤_}
 use mathlib.Core.Path.{_≡_}
 use native.Mathlib.Omega.{arith}
 use denote.Ref.{now}
 use Rattle.text.specs.Text.{Wrote}
 use Rattle.text.specs.Laws.{wrote-length}
-use Rattle.report.specs.Text.{markLines}
-use Rattle.report.specs.Printing.{removalAt}
-use Rattle.report.specs.Lemmas.Lines.{marks-room, lines-none, lines-more}
-use Rattle.report.proofs.put_marks.Statement.{statement}
-use Rattle.report.proofs.put_marks.Tie as tie
+use Rattle.listing.specs.Lines.{markLines}
+use Rattle.listing.specs.Listed.{removalAt}
+use Rattle.listing.specs.Laws.{marks-room, lines-none, lines-more}
+use Rattle.listing.proofs.put_marks.Statement.{statement}
+use Rattle.listing.proofs.put_marks.Tie as tie
 
 abbrev Inv-loop : tie.InvT-loop
 Inv-loop schedule out₀ at n next₀ m₀ out next m = (m ≤ n) × Wrote out₀ out at (markLines (removalAt schedule) m) next

@@ -1,4 +1,4 @@
--- `report::put_mark` meets its contract: the record is the 'never' record or not, and so is the line. Assumes nothing.
+-- `listing::put_mark` meets its contract: the record is the 'never' record or not, and so is the line. Assumes nothing.
 use Prim.Native.Nat.{ℕ}
 use mathlib.Core.Path.{_≡_, sym, ap, _∙_}
 use mathlib.Core.Bool.{true, false}
@@ -7,10 +7,10 @@ use denote.Ref.{now}
 use Rattle.elimination.specs.declared.Record.{Record}
 use Rattle.elimination.specs.Process.{stays, gone}
 use Rattle.elimination.specs.Records.{isNever, markRecord, fractionOf}
-use Rattle.report.specs.Printing.{removalAt}
+use Rattle.listing.specs.Listed.{removalAt}
 use borrow.Author.Needs.{needs}
-use Rattle.report.proofs.put_mark.Statement.{statement}
-use Rattle.report.proofs.put_mark.Tie as tie
+use Rattle.listing.proofs.put_mark.Statement.{statement}
+use Rattle.listing.proofs.put_mark.Tie as tie
 
 -- what becomes of mark m, by its record d as it was read
 module _ (p : List ℕ) (m : ℕ) {d : Record} (is : d ≡ markRecord p m) where

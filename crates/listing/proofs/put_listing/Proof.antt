@@ -1,11 +1,11 @@
--- `report::put_listing` meets its contract: the first line, and the marks' lines behind it. Assumes nothing.
+-- `listing::put_listing` meets its contract: the first line, and the marks' lines behind it. Assumes nothing.
 use native.Mathlib.Omega.{arith}
 use borrow.Author.Needs.{needs}
 use Rattle.text.specs.Laws.{wrote-then, wrote-length}
-use Rattle.report.specs.Text.{text, listing}
-use Rattle.report.specs.Lemmas.Lines.{first-room}
-use Rattle.report.proofs.put_listing.Statement.{statement}
-use Rattle.report.proofs.put_listing.Tie as tie
+use Rattle.listing.specs.Lines.{text, listing}
+use Rattle.listing.specs.Laws.{first-room}
+use Rattle.listing.proofs.put_listing.Statement.{statement}
+use Rattle.listing.proofs.put_listing.Tie as tie
 
 slice-aggregate-put-first-line : tie.Need-slice-aggregate-put-first-line
 slice-aggregate-put-first-line c = search needs

@@ -1,10 +1,10 @@
--- `report::put_stays` meets its contract: the number ends at most `numberRoom` bytes on, and the two bytes behind it make the line. Assumes nothing.
+-- `listing::put_stays` meets its contract: the number ends at most `numberRoom` bytes on, and the two bytes behind it make the line. Assumes nothing.
 use native.Mathlib.Omega.{arith}
 use lib.ListN.{length-set}
 use borrow.Author.Needs.{needs}
-use Rattle.report.specs.Lemmas.Lines.{number-ends, stays-line}
-use Rattle.report.proofs.put_stays.Statement.{statement}
-use Rattle.report.proofs.put_stays.Tie as tie
+use Rattle.listing.specs.Laws.{number-ends, stays-line}
+use Rattle.listing.proofs.put_stays.Statement.{statement}
+use Rattle.listing.proofs.put_stays.Tie as tie
 
 put-number-requires : tie.Need-put-number-requires
 put-number-requires c κs = search needs

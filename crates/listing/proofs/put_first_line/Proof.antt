@@ -1,4 +1,4 @@
--- `report::put_first_line` meets its contract: the word, the space and the number are the line. Assumes nothing.
+-- `listing::put_first_line` meets its contract: the word, the space and the number are the line. Assumes nothing.
 use mathlib.Core.Path.{_∙_}
 use native.Mathlib.Omega.{arith}
 use lib.ListN.{length-set}
@@ -6,9 +6,9 @@ use denote.Ref.{now}
 use borrow.Author.Needs.{needs}
 use Rattle.text.specs.Text.{Wrote}
 use Rattle.text.specs.Laws.{wrote-length}
-use Rattle.report.specs.Lemmas.Lines.{first-line}
-use Rattle.report.proofs.put_first_line.Statement.{statement}
-use Rattle.report.proofs.put_first_line.Tie as tie
+use Rattle.listing.specs.Laws.{first-line}
+use Rattle.listing.proofs.put_first_line.Statement.{statement}
+use Rattle.listing.proofs.put_first_line.Tie as tie
 
 -- the word
 word : (c : tie.After-put) → let a = c .before .before .before .before .args in
