@@ -18,7 +18,7 @@ pub fn put_first_line(out: &mut [u8], word: &[u8], number: u64) -> usize
     requires { ⌜ length (now word) + 1 + numberRoom ≤ length (now out) ⌝ }
     ensures { λ r. ⌜ Wrote (now (out .entry)) (now (out .exit)) 0 (line (now (word .entry) ∷ decimal number ∷ [])) r ⌝ }
 {
-    let next = contents::put(out, 0, word);
+    let next = joining::put(out, 0, word);
     out[next] = b' ';
     text::put_number(out, next + 1, number, b'\n')
 }

@@ -129,7 +129,7 @@ fn put_mark(out: &mut [u8], s: &[u8], n: usize, r: usize)
     numbers::write(out, at + Y_OFFSET, 2, y as u64);
     let start = from + LOG_RADIUS_OFFSET;
     let end = from + LOG_RECORD_SIZE;
-    contents::put(out, at + RADIUS_OFFSET, &s[start..end]);
+    joining::put(out, at + RADIUS_OFFSET, &s[start..end]);
 }
 
 // Writes the marks of n records.
@@ -161,7 +161,7 @@ fn put_record(out: &mut [u8], s: &[u8], m: usize)
     );
     let start = from + RADIUS_OFFSET;
     let end = from + MARK_SIZE;
-    contents::put(out, at + LOG_RADIUS_OFFSET, &s[start..end]);
+    joining::put(out, at + LOG_RADIUS_OFFSET, &s[start..end]);
 }
 
 // Writes the records of n marks.

@@ -74,7 +74,7 @@ pub fn put_head(
     let fourth = list_part(&mut codes, &mut sizes, third, edition, 4, 1);
     let fifth = list_part(&mut codes, &mut sizes, fourth, popups, 5, POPUP_SIZE * n);
     let count = list_part(&mut codes, &mut sizes, fifth, counts, 6, COUNTS_SIZE);
-    contents::put_contents(out, &codes[..count], &sizes[..count])
+    joining::put_contents(out, &codes[..count], &sizes[..count])
 }
 
 // Copies two pieces to `at`, one behind the other, and answers where they end.
@@ -82,8 +82,8 @@ fn put_pieces(out: &mut [u8], at: usize, first: &[u8], second: &[u8]) -> usize
     requires { ⌜ at + length (now first ++ now second) ≤ length (now out) ⌝ }
     ensures { λ r. ⌜ (r ≡ at + length (now (first .entry) ++ now (second .entry))) × (now (out .exit) ≡ sets (now (out .entry)) at (now (first .entry) ++ now (second .entry))) ⌝ }
 {
-    let middle = contents::put(out, at, first);
-    contents::put(out, middle, second)
+    let middle = joining::put(out, at, first);
+    joining::put(out, middle, second)
 }
 
 // Writes the scheduled sheet of n marks up to part 6, those of `head` and then those of `tail`, of the part 4 that is kept, and of part 5, where
@@ -106,7 +106,7 @@ fn put_scheduled(
 {
     let start = put_head(out, n, true, 0 < edition.len(), there, counted);
     put_pieces(out, start, head, tail);
-    let from = contents::put(out, start + SHEET_EACH * n, edition);
+    let from = joining::put(out, start + SHEET_EACH * n, edition);
     let end = put_pieces(out, from, popups, last);
     put_results(
         &mut out[start..end],
@@ -126,7 +126,7 @@ fn put_counts(out: &mut [u8], start: usize, from: usize, end: usize, n: usize)
     let middle = start + MARK_SIZE * n;
     let last = middle + RECORD_SIZE * n;
     let counts = counting::counts_of(&out[start..middle], &out[middle..last], &out[from..end], n);
-    contents::put(out, end, &counts);
+    joining::put(out, end, &counts);
 }
 
 // The same with part 6, where it is counted: the whole sheet.

@@ -1,10 +1,10 @@
--- `contents::put_entry` meets its contract: three runs of stores, each where the last ended, are one. Assumes nothing.
+-- `joining::put_entry` meets its contract: three runs of stores, each where the last ended, are one. Assumes nothing.
 use denote.Ref.{now}
 use Rattle.contents.specs.Contents.{contentsSize}
-use Rattle.contents.specs.Lemmas.Writing.{entry-sets}
+use Rattle.joining.specs.Writing.{entry-sets}
 use borrow.Author.Needs.{needs}
-use Rattle.contents.proofs.put_entry.Statement.{statement}
-use Rattle.contents.proofs.put_entry.Tie as tie
+use Rattle.joining.proofs.put_entry.Statement.{statement}
+use Rattle.joining.proofs.put_entry.Tie as tie
 
 mul-at : tie.Need-mul-at
 mul-at c = search needs

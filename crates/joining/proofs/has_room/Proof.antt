@@ -1,15 +1,15 @@
--- `contents::has_room` meets its contract: the contents take their room, and the bodies fit the rest. Assumes nothing.
+-- `joining::has_room` meets its contract: the contents take their room, and the bodies fit the rest. Assumes nothing.
 use mathlib.Core.Path.{sym, _∙_}
 use mathlib.Core.List.{map}
 use lib.ListN.{length, length-map}
 use borrow.Author.Tests.{lt-leb}
 use denote.Ref.{now}
 use Rattle.contents.specs.Contents.{contentsSize, chain}
-use Rattle.contents.specs.Lemmas.Writing.{together-size, leb-less}
+use Rattle.joining.specs.Writing.{together-size, leb-less}
 use native.Mathlib.Omega.{arith}
 use borrow.Author.Needs.{needs}
-use Rattle.contents.proofs.has_room.Statement.{statement}
-use Rattle.contents.proofs.has_room.Tie as tie
+use Rattle.joining.proofs.has_room.Statement.{statement}
+use Rattle.joining.proofs.has_room.Tie as tie
 
 mul-head : tie.Need-mul-head
 mul-head c = search needs

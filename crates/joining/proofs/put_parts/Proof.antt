@@ -1,15 +1,15 @@
--- `contents::put_parts` meets its contract: the contents end where the first body starts. Assumes nothing.
+-- `joining::put_parts` meets its contract: the contents end where the first body starts. Assumes nothing.
 use mathlib.Core.Path.{_≡_, sym, _∙_}
 use mathlib.Core.List.{map}
 use lib.ListN.{length, length-map}
 use lib.Seq.{length-take-le}
 use denote.Ref.{now}
 use Rattle.contents.specs.Contents.{sizesOf}
-use Rattle.contents.specs.Lemmas.Writing.{together-size, parts-sets, size-below}
+use Rattle.joining.specs.Writing.{together-size, parts-sets, size-below}
 use native.Mathlib.Omega.{arith}
 use borrow.Author.Needs.{needs}
-use Rattle.contents.proofs.put_parts.Statement.{statement}
-use Rattle.contents.proofs.put_parts.Tie as tie
+use Rattle.joining.proofs.put_parts.Statement.{statement}
+use Rattle.joining.proofs.put_parts.Tie as tie
 
 sizes-of-requires : tie.Need-sizes-of-requires
 sizes-of-requires c κs = search needs

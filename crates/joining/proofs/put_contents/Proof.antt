@@ -1,15 +1,15 @@
--- `contents::put_contents` meets its contract: what is left of the entries makes the whole, whatever was written so far. Assumes nothing.
+-- `joining::put_contents` meets its contract: what is left of the entries makes the whole, whatever was written so far. Assumes nothing.
 use Prim.Native.Nat.{_+_, _-_, _*_, _≤_}
 use mathlib.Core.Path.{_≡_, refl, _∙_}
 use mathlib.Core.List.{[]}
 use lib.ListN.{length, drop, drop-of-length-le}
 use lib.Seq.{sets}
 use denote.Ref.{now}
 use Rattle.contents.specs.Contents.{contentsSize, entries}
-use Rattle.contents.specs.Lemmas.Writing.{entries-turn, contents-sets}
+use Rattle.joining.specs.Writing.{entries-turn, contents-sets}
 use native.Mathlib.Omega.{arith}
-use Rattle.contents.proofs.put_contents.Statement.{statement}
-use Rattle.contents.proofs.put_contents.Tie as tie
+use Rattle.joining.proofs.put_contents.Statement.{statement}
+use Rattle.joining.proofs.put_contents.Tie as tie
 
 abbrev Inv-loop : tie.InvT-loop
 Inv-loop out₀ codes sizes count start offset₀ i₀ out offset i =

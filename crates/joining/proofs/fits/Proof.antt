@@ -7,10 +7,10 @@ use lib.ListN.{length, drop}
 use denote.Ref.{now}
 use borrow.Author.Needs.{needs}
 use borrow.Author.Tests.{le-leb, lt-leb}
 use Rattle.contents.specs.Contents.{chain}
-use Rattle.contents.specs.Lemmas.Writing.{chain-less, chain-done}
-use Rattle.contents.proofs.fits.Statement.{statement}
-use Rattle.contents.proofs.fits.Tie as tie
+use Rattle.joining.specs.Writing.{chain-less, chain-done}
+use Rattle.joining.proofs.fits.Statement.{statement}
+use Rattle.joining.proofs.fits.Tie as tie
 
 abbrev Inv-loop : tie.InvT-loop
 Inv-loop bodies room left₀ i₀ left i =

@@ -1,4 +1,4 @@
--- `contents::put` meets its contract: what is left to copy makes the whole, whatever was copied so far. Assumes nothing.
+-- `joining::put` meets its contract: what is left to copy makes the whole, whatever was copied so far. Assumes nothing.
 use Prim.Native.Nat.{_+_, _-_, _≤_}
 use mathlib.Core.Path.{_≡_, refl, _∙_}
 use mathlib.Core.List.{[]}
@@ -8,8 +8,8 @@ use lib.ListN.{length, drop, length-set, drop-of-length-le}
 use lib.Seq.{sets}
 use denote.Ref.{now}
 use Rattle.lists.specs.StoreLaws.{sets-turn}
-use Rattle.contents.proofs.put.Statement.{statement}
-use Rattle.contents.proofs.put.Tie as tie
+use Rattle.joining.proofs.put.Statement.{statement}
+use Rattle.joining.proofs.put.Tie as tie
 
 abbrev Inv-loop : tie.InvT-loop
 Inv-loop out₀ at body j₀ out j =

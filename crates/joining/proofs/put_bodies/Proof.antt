@@ -7,10 +7,10 @@ use lib.ListN.{length, drop}
 use lib.Seq.{sets}
 use denote.Ref.{now}
 use borrow.Author.Needs.{needs}
 use Rattle.contents.specs.Contents.{chain}
-use Rattle.contents.specs.Lemmas.Writing.{chain-less, chain-done, bodies-turn}
-use Rattle.contents.proofs.put_bodies.Statement.{statement}
-use Rattle.contents.proofs.put_bodies.Tie as tie
+use Rattle.joining.specs.Writing.{chain-less, chain-done, bodies-turn}
+use Rattle.joining.proofs.put_bodies.Statement.{statement}
+use Rattle.joining.proofs.put_bodies.Tie as tie
 
 abbrev Inv-loop : tie.InvT-loop
 Inv-loop out₀ start bodies at₀ i₀ out at i =

@@ -6,21 +6,15 @@ use native.Mathlib.Nat.{zero-add}
 use native.Mathlib.Decide.{decLe}
 use native.Mathlib.Numerals.{add-one}
 use native.Mathlib.Omega.{arith}
-use lib.ListN.{length, getD, set, take, drop, length-append, length-map, drop-of-length-le}
+use lib.ListN.{length, getD, drop, length-append, length-map, drop-of-length-le}
 use lib.Dec.{leb}
-use lib.Seq.{sets, drop-cons, take-suc, take-suc-set}
+use lib.Seq.{sets, drop-cons}
 use borrow.Author.Tests.{le-leb, lt-leb}
 use Rattle.numbers.specs.Little.{leBytes}
 use Rattle.numbers.specs.Laws.{le-length}
 use Rattle.contents.specs.Contents.{sizesOf, contentsSize, entry, entries, contentsOf, chain, join, together}
 use Rattle.lists.specs.StoreLaws.{sets-append}
-use Rattle.contents.specs.Lemmas.Parts.{together-codes, together-bodies}
-use Rattle.contents.specs.Lemmas.Entries.{contents-length}
-
--- one turn of a loop that fills an array: v is what it is filled with
-pub fill-turn : {A : Type 0} (d : A) (l v : List A) (i : ℕ) (a : A) → i < length l → i < length v → a ≡ getD v i d → take i l ≡ take i v
-    → take (i + 1) (set l i a) ≡ take (i + 1) v
-fill-turn d l v i a h k e f = rw (add-one i, take-suc-set l i a h, take-suc v i d k, e, f)
+use Rattle.contents.specs.Laws.{together-codes, together-bodies, contents-length}
 
 pub size-at : (bodies : List (List ℕ)) (i : ℕ) → length (getD bodies i []) ≡ getD (sizesOf bodies) i 0
 size-at [] i = refl

@@ -1,4 +1,4 @@
--- `contents::sizes_of` meets its contract: the sizes of the bodies before i stand in the array. Assumes nothing.
+-- `joining::sizes_of` meets its contract: the sizes of the bodies before i stand in the array. Assumes nothing.
 use Prim.Native.Nat.{_-_, _≤_}
 use mathlib.Core.Path.{_≡_, refl, ap, _∙_}
 use lib.ListN.{length, take, length-set}
@@ -6,13 +6,14 @@ use denote.Ref.{now}
 use mathlib.Core.List.{map}
 use lib.ListN.{length-map}
 use lib.Seq.{take-length}
 use Rattle.contents.specs.Contents.{sizesOf}
 use Rattle.contents.specs.Questions.{topCode}
-use Rattle.contents.specs.Lemmas.Writing.{fill-turn, size-at}
+use Rattle.contents.specs.Laws.{fill-turn}
+use Rattle.joining.specs.Writing.{size-at}
 use native.Mathlib.Omega.{arith}
 use borrow.Author.Needs.{needs}
-use Rattle.contents.proofs.sizes_of.Statement.{statement}
-use Rattle.contents.proofs.sizes_of.Tie as tie
+use Rattle.joining.proofs.sizes_of.Statement.{statement}
+use Rattle.joining.proofs.sizes_of.Tie as tie
 
 abbrev Inv-loop : tie.InvT-loop
 Inv-loop bodies sizes₀ i₀ sizes i = (i ≤ length bodies) × (length sizes ≡ topCode) × (take i sizes ≡ take i (sizesOf (map now bodies)))
