@@ -1,4 +1,4 @@
-// Marks that come and go: what the calls that add a mark and take one out do.
+// Sheets scheduled anew, as they are or with marks that come and go: what the calls that schedule, add a mark and take one out do.
 use jobs::Answer;
 use marks::MARK_SIZE;
 use marks::Mark;
@@ -9,13 +9,49 @@ ghost use mathlib.Core.List.{[]};
 ghost use lib.ListN.{length};
 ghost use Rattle.changing.specs.Changing.{added, takenOut, addedPopup, takenOutPopup};
 ghost use Rattle.contents.specs.Contents.{has, split, marksPart};
-ghost use Rattle.jobs.specs.Jobs.{carried, isNewPopup, addJob, takeOutJob};
+ghost use Rattle.jobs.specs.Jobs.{carried, keptParts, scheduleJob, isNewPopup, addJob, takeOutJob};
 ghost use Rattle.jobs.specs.Answers.{fields, Gives, Lent};
 ghost use Rattle.jobs.specs.Demand3.{Meets};
 ghost use Rattle.jobs.specs.Changed.{MeetsAdding};
 
 // The most marks that a sheet holds.
 const MOST_MARKS: usize = 4096;
+
+// ---- scheduling
+
+// Writes the sheet of three parts that a sheet's marks give, with parts 4 and 5 where they are there, and part 6 renewed, and answers its length:
+// questions 1 to 9, with 19, 21 and 23, and 13. What the work buffer holds plays no part, and what it is left with after a success is not said.
+// The written sheet meets demand 3.
+pub fn schedule(sheet: &[u8], work: &mut [u8], out: &mut [u8]) -> Answer
+    ensures { λ r. ⌜ Gives (scheduleJob (now (sheet .entry)) (length (now (work .entry))) (length (now (out .entry)))) (now (out .entry)) r (now (out .exit)) ⌝ }
+    ensures { λ r. ⌜ Lent r (now (work .entry)) (now (work .exit)) × Meets (marksPart (split (now (sheet .entry)))) (keptParts (split (now (sheet .entry)))) (has (split (now (sheet .entry))) 6) r (now (out .exit)) ⌝ }
+{
+    let found = sheet::opened(sheet);
+    let number = found.number;
+    if number != 0 {
+        return steps::refused(number);
+    }
+    let layout = found.layout;
+    let marks = contents::part(sheet, layout, 1);
+    let edition = contents::part(sheet, layout, 4);
+    let there = contents::is_there(layout, 5);
+    let popups = contents::part(sheet, layout, 5);
+    let n = marks.len() / MARK_SIZE;
+    steps::schedule_marks(
+        marks,
+        &marks[..0],
+        edition,
+        there,
+        popups,
+        &marks[..0],
+        contents::is_there(layout, 6),
+        work,
+        out,
+        n,
+    )
+}
+
+// ---- marks that come and go
 
 // 21, of a new mark's k: it is at most 65,536, and 0 on a sheet without part 5.
 fn is_new_popup(there: bool, k: u32) -> bool

@@ -7,7 +7,7 @@ use mathlib.Core.Logic.{_↔_}
 use borrow.Author.Tests.{ltb-true, lt-ltb}
 use Rattle.lists.specs.TestLaws.{same-test, both-iff}
 use lib.Dec.{eqb}
-use lib.ListN.{length, getD}
+use lib.ListN.{length, getD, set, take}
 use Rattle.numbers.specs.Little.{Bytes}
 use Rattle.contents.specs.Contents.{Part, codesOf, bodiesOf, names, has, find, withPart, countAt, contentsSize, split, contentsOf, chain, join, Writable, together}
 use Rattle.contents.specs.Asking.{answer}
@@ -23,8 +23,8 @@ use Rattle.contents.specs.Lemmas.Parts as Parts
 use Rattle.contents.specs.Lemmas.Entries as Entries
 use Rattle.contents.specs.Lemmas.Joined as Joined
 use Rattle.contents.specs.Lemmas.Places as Places
-use Rattle.contents.specs.Lemmas.Writing as Writing
 use Rattle.contents.specs.Lemmas.Written as Written
+use Rattle.contents.specs.Lemmas.Filled as Filled
 use Rattle.contents.specs.Lemmas.With as With
 -- ---- answers: one question, one list after another, and questions put to one thing after another
 
@@ -195,3 +195,8 @@ together-parts = Parts.together-parts
 
 pub contents-length : (codes sizes : List ℕ) → length codes ≡ length sizes → length (contentsOf codes sizes) ≡ contentsSize (length codes)
 contents-length = Entries.contents-length
+
+-- one turn of a loop that fills an array: v is what it is filled with
+pub fill-turn : {A : Type 0} (d : A) (l v : List A) (i : ℕ) (a : A) → i < length l → i < length v → a ≡ getD v i d → take i l ≡ take i v
+    → take (i + 1) (set l i a) ≡ take (i + 1) v
+fill-turn = Filled.fill-turn

@@ -7,6 +7,6 @@ pub mod Laid
 pub mod Entries
 pub mod Joined
 pub mod Places
-pub mod Writing
 pub mod Written
+pub mod Filled
 pub mod With

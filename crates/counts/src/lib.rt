@@ -31,7 +31,7 @@ fn copied(sheet: &[u8], out: &mut [u8]) -> Answer
     if out.len() < length {
         return steps::refused(13);
     }
-    contents::put(out, 0, sheet);
+    joining::put(out, 0, sheet);
     Answer {
         number: 0,
         value: length as u32,
@@ -58,9 +58,9 @@ fn put_counted(sheet: &[u8], layout: Layout, out: &mut [u8]) -> Answer
     let index = contents::is_there(layout, 3);
     let edition = contents::is_there(layout, 4);
     let has_popups = contents::is_there(layout, 5);
-    let start = steps::put_head(out, n, index, edition, has_popups, true);
-    let end = contents::put(out, start, &sheet[start - ENTRY_SIZE..]);
-    contents::put(out, end, &counts);
+    let start = writing::put_head(out, n, index, edition, has_popups, true);
+    let end = joining::put(out, start, &sheet[start - ENTRY_SIZE..]);
+    joining::put(out, end, &counts);
     Answer {
         number: 0,
         value: size as u32,

@@ -30,9 +30,9 @@ fn put_mark(out: &mut [u8], s: &[u8], m: usize)
     let behind = start + PRIORITY_OFFSET;
     let end = start + MARK_SIZE;
     let radius = filled_radius(marks::written_radius_at(s, m), marks::kind_at(s, m));
-    contents::put(out, start, &s[start..at]);
+    joining::put(out, start, &s[start..at]);
     numbers::write(out, at, 2, radius as u64);
-    contents::put(out, behind, &s[behind..end]);
+    joining::put(out, behind, &s[behind..end]);
 }
 
 // Writes n marks.

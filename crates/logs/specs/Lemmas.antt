@@ -1,5 +1,4 @@
 -- The lemmas behind Theorems and the functions' proofs, in the order in which they build on one another.
-pub mod Packed
 pub mod Right
 pub mod Writing
 pub mod Back

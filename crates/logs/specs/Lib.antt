@@ -1,5 +1,4 @@
--- Read Packed, Log and Questions first: they say what a log is, what turning asks and what it writes. Theorems has what follows.
-pub mod Packed
+-- Read Log and Questions first, and Packed of the crate `packed`: they say what a log is, what turning asks and what it writes. Theorems has what follows.
 pub mod Log
 pub mod Questions
 pub mod Right

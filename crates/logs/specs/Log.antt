@@ -2,13 +2,12 @@
 -- logs turned into marks and marks into logs."
 use Prim.Native.Nat.{ℕ, _+_, _*_, _/_}
 use mathlib.Core.List.{List, _++_}
-use lib.IntN.{ℤ}
-use lib.ListN.{length, getD, take, drop}
+use lib.ListN.{length, take, drop}
 use Rattle.numbers.specs.Little.{leAt, leBytes}
 use Rattle.marks.specs.Marks.{markSize, radiusOffset, xAt, yAt, placeBits}
 use Rattle.rows.specs.Rows.{rows}
 use Rattle.bodies.specs.Questions.{markCount}
-use Rattle.logs.specs.Packed.{packedValue, packed}
+use Rattle.packed.specs.Packed.{coordinateAt, packed}
 
 -- ---- a log's records; `s` is the log and `r` a record's number
 
@@ -28,10 +27,6 @@ logKindOffset = 10
 -- how many there are
 abbrev pub recordCount : List ℕ → ℕ
 recordCount s = length s / logRecordSize
-
--- the coordinate whose three bytes stand at `at`
-abbrev pub coordinateAt : List ℕ → ℕ → ℤ
-coordinateAt s at = packedValue (getD s at 0) (getD s (at + 1) 0) (getD s (at + 2) 0)
 
 -- "then radius, priority, kind and tag as in a sheet"
 abbrev pub radiusOf : List ℕ → ℕ → ℕ

@@ -3,22 +3,18 @@ use Prim.Native.Nat.{ℕ, _+_, _*_, _%_}
 use mathlib.Core.Bool.{Bool, _&&_}
 use mathlib.Core.List.{List, [], _∷_, _++_}
 use lib.Dec.{leb, eqb}
-use lib.ListN.{length, getD}
+use lib.ListN.{length}
 use Rattle.marks.specs.Marks.{markSize}
 use Rattle.contents.specs.Asking.{Question, _asks_, inTurn}
 use Rattle.bodies.specs.Questions.{markCount, fieldQuestions, part1Questions}
-use Rattle.logs.specs.Packed.{isPacked, isPlace}
-use Rattle.logs.specs.Log.{logRecordSize, logYOffset, recordCount, coordinateAt, radiusOf, kindOf}
+use Rattle.packed.specs.Packed.{coordinateAt, packedAt, isPlace}
+use Rattle.logs.specs.Log.{logRecordSize, logYOffset, recordCount, radiusOf, kindOf}
 
 -- ---- of a log, `s`
 
 -- 4. "a log that isn't a multiple of 13, or has over 4,096 records, gets 4"
 unfoldable pub logSize : List ℕ → Bool
 logSize s = eqb (length s % logRecordSize) 0 && leb (recordCount s) 4096
-
--- the three bytes at `at` are packed decimal
-abbrev pub packedAt : List ℕ → ℕ → Bool
-packedAt s at = isPacked (getD s at 0) (getD s (at + 1) 0) (getD s (at + 2) 0)
 
 -- 15 and 16, of the coordinate at `at`
 abbrev pub placeQuestions : List ℕ → ℕ → List Question

@@ -4,9 +4,8 @@ use mathlib.Core.Path.{_≡_}
 use mathlib.Core.Bool.{true}
 use mathlib.Core.List.{List}
 use lib.ListN.{length}
-use Rattle.logs.specs.Packed.{isPlace}
-use Rattle.logs.specs.Log.{logRecordSize, logYOffset, coordinateAt, radiusOf, kindOf}
-use Rattle.logs.specs.Questions.{packedAt}
+use Rattle.packed.specs.Packed.{coordinateAt, packedAt, isPlace}
+use Rattle.logs.specs.Log.{logRecordSize, logYOffset, radiusOf, kindOf}
 
 -- 15 and 16, of the coordinate at `at`
 pub record PlaceRight (s : List ℕ) (at : ℕ) : Type 0 where

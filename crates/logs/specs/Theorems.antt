@@ -1,9 +1,8 @@
--- What follows of packed decimal, and of logs turned into marks and marks into logs. Assumes nothing.
-use Prim.Native.Nat.{ℕ, _*_, _≤_}
+-- What follows of logs turned into marks and marks into logs. Assumes nothing.
+use Prim.Native.Nat.{ℕ, _*_}
 use mathlib.Core.Path.{_≡_}
 use mathlib.Core.Bool.{true}
-use mathlib.Core.List.{List, [], _∷_}
-use lib.IntN.{ℤ, natAbs}
+use mathlib.Core.List.{List}
 use lib.ListN.{length}
 use Rattle.numbers.specs.Little.{Bytes}
 use Rattle.marks.specs.Marks.{markSize}
@@ -12,24 +11,12 @@ use Rattle.contents.specs.Asking.{answer}
 use Rattle.contents.specs.Laws.{Numbered}
 use Rattle.bodies.specs.Questions.{markCount, part1Questions}
 use Rattle.bodies.specs.Laws.{part1-iff}
-use Rattle.logs.specs.Packed.{packedValue, isPacked, packed}
-use Rattle.logs.specs.Log.{logRecordSize, recordCount, coordinateAt, marksOfLog, logOfMarks}
-use Rattle.logs.specs.Questions.{packedAt, logChecks}
+use Rattle.logs.specs.Log.{logRecordSize, recordCount, marksOfLog, logOfMarks}
+use Rattle.logs.specs.Questions.{logChecks}
 use Rattle.logs.specs.Right.{LogRight}
-use Rattle.logs.specs.Lemmas.Packed as Packing
 use Rattle.logs.specs.Lemmas.Right as Right
 use Rattle.logs.specs.Lemmas.Right.{log-iff}
 use Rattle.logs.specs.Lemmas.Back as Back
-
--- ---- packed decimal: each number from -99,999 to 99,999 has one form
-
--- It is packed decimal, and holds the number.
-pub packed-read : (z : ℤ) → natAbs z ≤ 99999 → (packedAt (packed z) 0 ≡ true) × (coordinateAt (packed z) 0 ≡ z)
-packed-read = Packing.packed-read
-
--- Three bytes that are packed decimal are that form of the number that they hold.
-pub packed-back : (a b c : ℕ) → isPacked a b c ≡ true → packed (packedValue a b c) ≡ a ∷ b ∷ c ∷ []
-packed-back = Packing.packed-back
 
 -- ---- a log that passes 4, 15, 16, 5 and 6
 

@@ -4,16 +4,15 @@ use marks::RADIUS_OFFSET;
 use marks::Y_OFFSET;
 ghost use mathlib.Core.Path.{_≡_};
 ghost use mathlib.Core.Bool.{true};
-ghost use Prim.Native.Nat.{_+_, _*_, _/_, _%_, _<_, _≤_};
+ghost use Prim.Native.Nat.{_+_, _*_, _<_, _≤_};
 ghost use lib.ListN.{length};
 ghost use lib.Seq.{sets};
-ghost use Rattle.numbers.specs.Little.{signed};
 ghost use Rattle.marks.specs.Marks.{markSize, placeBits};
 ghost use Rattle.contents.specs.Asking.{answer, inTurn};
 ghost use Rattle.rows.specs.Rows.{rows};
+ghost use Rattle.packed.specs.Packed.{isPlace, coordinateAt};
 ghost use Rattle.bodies.specs.Questions.{fieldQuestions};
-ghost use Rattle.logs.specs.Packed.{magnitude, isMinus, withSign, areDigits, isLast, isPacked, isPlace, packed, packedOf};
-ghost use Rattle.logs.specs.Log.{logRecordSize, coordinateAt, radiusOf, kindOf, markOfRecord, recordOfMark};
+ghost use Rattle.logs.specs.Log.{logRecordSize, radiusOf, kindOf, markOfRecord, recordOfMark};
 ghost use Rattle.logs.specs.Questions.{logSize, placeQuestions, recordQuestions, logChecks};
 ghost use Rattle.logs.specs.Right.{LogRight};
 
@@ -25,98 +24,6 @@ const LOG_Y_OFFSET: usize = 3;
 const LOG_RADIUS_OFFSET: usize = 6;
 
 const LOG_KIND_OFFSET: usize = 10;
-
-// ---- packed decimal
-
-// The half of a byte that comes first.
-fn upper(b: u8) -> u32
-    ensures { λ r. ⌜ r ≡ b / 16 ⌝ }
-{
-    (b / 16) as u32
-}
-
-fn lower(b: u8) -> u32
-    ensures { λ r. ⌜ r ≡ b % 16 ⌝ }
-{
-    (b % 16) as u32
-}
-
-// The number that the five digits of three bytes give.
-fn magnitude(a: u8, b: u8, c: u8) -> u32
-    ensures { λ r. ⌜ r ≡ magnitude a b c ⌝ }
-{
-    10000 * upper(a) + (1000 * lower(a) + (100 * upper(b) + (10 * lower(b) + upper(c))))
-}
-
-fn is_minus(c: u8) -> bool
-    ensures { λ r. ⌜ r ≡ isMinus c ⌝ }
-{
-    c % 16 == 13
-}
-
-// Are both halves digits?
-fn are_digits(b: u8) -> bool
-    ensures { λ r. ⌜ r ≡ areDigits b ⌝ }
-{
-    (b / 16 <= 9) & (b % 16 <= 9)
-}
-
-// A digit and a sign?
-fn is_last(c: u8) -> bool
-    ensures { λ r. ⌜ r ≡ isLast c ⌝ }
-{
-    (c / 16 <= 9) & ((c % 16 == 12) | (c % 16 == 13))
-}
-
-// 15. Five digits and a sign, and not minus zero?
-fn is_packed(a: u8, b: u8, c: u8) -> bool
-    ensures { λ r. ⌜ r ≡ isPacked a b c ⌝ }
-{
-    (are_digits(a) & are_digits(b)) & (is_last(c) & !(is_minus(c) & (magnitude(a, b, c) == 0)))
-}
-
-// 16. Is the number one of -32,768 to 32,767?
-fn is_place(minus: bool, m: u32) -> bool
-    ensures { λ r. ⌜ r ≡ isPlace (withSign minus m) ⌝ }
-{
-    if minus {
-        return m <= 32768;
-    }
-    m <= 32767
-}
-
-// The 16 bits of such a number.
-fn bits_of(minus: bool, m: u32) -> u32
-    requires { ⌜ isPlace (withSign minus m) ≡ true ⌝ }
-    ensures { λ r. ⌜ r ≡ placeBits (withSign minus m) ⌝ }
-{
-    if minus {
-        return (65536 - m) % 65536;
-    }
-    m
-}
-
-// Writes five digits of m and a sign.
-fn put_packed(out: &mut [u8], at: usize, m: u32, sign: u8)
-    requires { ⌜ (at + 3 ≤ length (now out)) × (sign < 16) ⌝ }
-    ensures { λ _. ⌜ now (out .exit) ≡ sets (now (out .entry)) at (packedOf m sign) ⌝ }
-{
-    out[at] = (16 * (m / 10000 % 10) + m / 1000 % 10) as u8;
-    out[at + 1] = (16 * (m / 100 % 10) + m / 10 % 10) as u8;
-    out[at + 2] = (16 * (m % 10)) as u8 + sign;
-}
-
-// Writes the signed number of 16 bits.
-fn put_place(out: &mut [u8], at: usize, u: u16)
-    requires { ⌜ at + 3 ≤ length (now out) ⌝ }
-    ensures { λ _. ⌜ now (out .exit) ≡ sets (now (out .entry)) at (packed (signed 2 u)) ⌝ }
-{
-    if u < 32768 {
-        put_packed(out, at, u as u32, 12);
-        return;
-    }
-    put_packed(out, at, 65536 - u as u32, 13);
-}
 
 // ---- what a log is asked
 
@@ -135,10 +42,10 @@ fn place_answer(s: &[u8], at: usize) -> u32
     let a = s[at];
     let b = s[at + 1];
     let c = s[at + 2];
-    if !is_packed(a, b, c) {
+    if !packed::is_packed(a, b, c) {
         return 15;
     }
-    if is_place(is_minus(c), magnitude(a, b, c)) {
+    if packed::is_place(packed::is_minus(c), packed::magnitude(a, b, c)) {
         return 0;
     }
     16
@@ -206,7 +113,7 @@ fn place_bits(s: &[u8], at: usize) -> u32
     let a = s[at];
     let b = s[at + 1];
     let c = s[at + 2];
-    bits_of(is_minus(c), magnitude(a, b, c))
+    packed::bits_of(packed::is_minus(c), packed::magnitude(a, b, c))
 }
 
 // Writes the mark of record r at its place.
@@ -222,7 +129,7 @@ fn put_mark(out: &mut [u8], s: &[u8], n: usize, r: usize)
     numbers::write(out, at + Y_OFFSET, 2, y as u64);
     let start = from + LOG_RADIUS_OFFSET;
     let end = from + LOG_RECORD_SIZE;
-    contents::put(out, at + RADIUS_OFFSET, &s[start..end]);
+    joining::put(out, at + RADIUS_OFFSET, &s[start..end]);
 }
 
 // Writes the marks of n records.
@@ -246,15 +153,15 @@ fn put_record(out: &mut [u8], s: &[u8], m: usize)
 {
     let from = MARK_SIZE * m;
     let at = LOG_RECORD_SIZE * m;
-    put_place(out, at, numbers::read_u16(s, from));
-    put_place(
+    packed::put_place(out, at, numbers::read_u16(s, from));
+    packed::put_place(
         out,
         at + LOG_Y_OFFSET,
         numbers::read_u16(s, from + Y_OFFSET),
     );
     let start = from + RADIUS_OFFSET;
     let end = from + MARK_SIZE;
-    contents::put(out, at + LOG_RADIUS_OFFSET, &s[start..end]);
+    joining::put(out, at + LOG_RADIUS_OFFSET, &s[start..end]);
 }
 
 // Writes the records of n marks.

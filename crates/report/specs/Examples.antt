@@ -26,7 +26,7 @@ use Rattle.changing.specs.Changing.{added, takenOut, addedPopup, takenOutPopup}
 use Rattle.bodies.specs.Questions.{question4, markQuestions, part1Questions, isEdition, isPopup, isPopups, question7, question19, question21, namesRight, recordRight, isSchedule, isSized, question8, question9, question23, lastQuestions, bodyQuestions}
 use Rattle.judging.specs.Judge.{some, bothLater, firstRule, causes, secondRule, namesHighest, judge, judgeSchedule}
 use Rattle.filling.specs.Filling.{filledRadius, filled, fillQuestions}
-use Rattle.logs.specs.Packed.{magnitude, isMinus, withSign, areDigits, isLast, isPacked, isPlace, packedOf}
+use Rattle.packed.specs.Packed.{magnitude, isMinus, withSign, areDigits, isLast, isPacked, isPlace, packedOf}
 use Rattle.logs.specs.Log.{marksOfLog, logOfMarks}
 use Rattle.logs.specs.Questions.{logSize, recordQuestions, logChecks, logQuestions, marksQuestions}
 use Rattle.sheet.specs.Questions.{checkQuestions, check, question10, indexedQuestions, partsQuestions}
@@ -44,7 +44,8 @@ use Rattle.bitmap.specs.Map.{mapByte, mapPart, mapBytes, countShown}
 use Rattle.view.specs.Questions as Viewing
 use Rattle.jobs.specs.Jobs.{outcome, checkJob, scheduled, schedulingQuestions, schedulingJob, addChecks, addJob, takeOutChecks, takeOutJob, question22, judgeQuestions, judgeJob, withOwnCounts, countChecks, countJob, columnQuestions, toColumnsJob, fromColumnsJob, assembleQuestions, assembleJob, fillJob, logToMarksJob, marksToLogJob, shownIn, viewJob}
 use Rattle.text.specs.Text.{digits}
-use Rattle.report.specs.Text.{text, line, markLine, markLines, listing, refusalLine, printQuestions, printed}
+use Rattle.listing.specs.Lines.{text, line, markLine, markLines, listing, refusalLine}
+use Rattle.report.specs.Text.{printQuestions, printed}
 
 -- ---- inputs by their fields
 

@@ -1,4 +1,3 @@
 -- The proofs behind the code's proofs.
-pub mod Lines
 pub mod Removals
 pub mod Printed

@@ -1,61 +1,31 @@
--- What the functions of src say they write, and what they ask of the buffers lent to them.
-use Prim.Native.Nat.{ℕ, _+_, _*_, _<_, _≤_}
+-- What printing says it writes, and what it asks of the buffers lent to it.
+use Prim.Native.Nat.{ℕ, _*_, _<_, _≤_}
 use mathlib.Core.Path.{_≡_}
-use mathlib.Core.Bool.{false, cond}
+use mathlib.Core.Bool.{cond}
 use mathlib.Core.List.{List, [], _∷_, _++_}
 use lib.Dec.{eqb}
 use lib.ListN.{length}
 use Rattle.lists.specs.Stores.{over}
 use Rattle.fractions.specs.declared.Fraction.{Fraction}
-use Rattle.fractions.specs.Order.{Small}
-use Rattle.text.specs.Text.{decimal, denoted, numberRoom}
+use Rattle.text.specs.Text.{decimal, denoted}
 use Rattle.zoom.specs.Printed.{Nearest}
-use Rattle.elimination.specs.Process.{Removal, stays, gone}
-use Rattle.elimination.specs.Records.{recordSize, isNever, markRecord, eliminatorAt, denAt, fractionAt}
+use Rattle.elimination.specs.Process.{gone}
+use Rattle.elimination.specs.Records.{recordSize}
 use Rattle.elimination.specs.Reel.{scheduleOf}
 use Rattle.scheduling.specs.Filling.{workSize}
 use Rattle.contents.specs.Contents.{split}
 use Rattle.contents.specs.Asking.{answer}
 use Rattle.bodies.specs.Questions.{reelOf}
 use Rattle.sheet.specs.Questions.{sheetCount}
-use Rattle.report.specs.Text.{text, line, markLines, mostMarks, printQuestions, removals, printed}
-
--- ---- a schedule's records
-
--- What becomes of mark m, by its record in the schedule `p`.
-unfoldable pub removalAt : List ℕ → ℕ → Removal
-removalAt p m = cond (isNever (markRecord p m)) stays (gone (eliminatorAt p m) (fractionAt p m))
-
--- the removal zoom of such a value can be worked out in 64 bits
-pub record Zoomable (p : List ℕ) (m : ℕ) : Type 0 where
-  pub small : Small (fractionAt p m)
-  pub positive : 0 < denAt p m
-
--- n records, each of them 'never' or with a removal zoom
-pub record Printable (p : List ℕ) (n : ℕ) : Type 0 where
-  pub long : recordSize * n ≤ length p
-  pub zooms : (m : ℕ) → m < n → isNever (markRecord p m) ≡ false → Zoomable p m
-
--- ---- room
-
--- The longest line has five numbers, each with one byte behind it.
-abbrev pub lineRoom : ℕ
-lineRoom = 5 * numberRoom
-
--- The first line has a word of at most 7 letters, a space, and one such number.
-abbrev pub firstRoom : ℕ
-firstRoom = 7 + 1 + numberRoom
-
-abbrev pub textRoom : ℕ → ℕ
-textRoom n = lineRoom * n + firstRoom
+use Rattle.listing.specs.Lines.{text, line, markLines}
+use Rattle.listing.specs.Listed.{textRoom}
+use Rattle.report.specs.Text.{mostMarks, printQuestions, removals, printed}
 
 -- "at most 2,000 marks": their work buffer, their records and their lines
 pub record Room (work schedule out : List ℕ) : Type 0 where
   pub work-room : workSize mostMarks ≤ length work
   pub schedule-room : recordSize * mostMarks ≤ length schedule
   pub out-room : textRoom mostMarks ≤ length out
-
--- ---- the whole call
 
 -- the records that are worked out for a sheet: none where it is refused
 unfoldable pub workedOut : List ℕ → List ℕ

@@ -1,27 +1,17 @@
 // The public library, for C and Rust.
 use contents::Extent;
-use contents::Layout;
 use jobs::Answer;
-use logs::LOG_RECORD_SIZE;
-use marks::MARK_SIZE;
-use sheet::Assembled;
 use view::Window;
 use zoom::Zoom;
 ghost use mathlib.Core.Path.{_≡_};
-ghost use mathlib.Core.Bool.{_&&_};
 ghost use mathlib.Core.List.{map};
-ghost use lib.Dec.{leb};
 ghost use lib.ListN.{length};
 ghost use Rattle.changing.specs.Changing.{added, takenOut, addedPopup, takenOutPopup};
 ghost use Rattle.contents.specs.Contents.{has, split, marksPart};
-ghost use Rattle.contents.specs.Questions.{isCount};
-ghost use Rattle.contents.specs.Asking.{answer};
-ghost use Rattle.contents.specs.Places.{layoutOf, placeOf, Located};
-ghost use Rattle.sheet.specs.Questions.{indexedQuestions};
+ghost use Rattle.contents.specs.Places.{placeOf, Located};
 ghost use Rattle.sheet.specs.Opened.{opened, openParts};
 ghost use Rattle.zoom.specs.declared.Zoom.the-variants.{Stop, Wheel};
-ghost use Rattle.view.specs.Questions.{isMap};
-ghost use Rattle.jobs.specs.Jobs.{checkJob, carried, keptParts, scheduleJob, addJob, takeOutJob, question22, judgeJob, countJob, assembleJob, fillJob, logToMarksJob, marksToLogJob, toColumnsJob, fromColumnsJob, viewJob, walkJob, isShownJob};
+ghost use Rattle.jobs.specs.Jobs.{checkJob, carried, keptParts, scheduleJob, addJob, takeOutJob, judgeJob, countJob, assembleJob, fillJob, logToMarksJob, marksToLogJob, toColumnsJob, fromColumnsJob, viewJob, walkJob, isShownJob};
 ghost use Rattle.jobs.specs.Answers.{answerOf, window, fields, Gives, Lent};
 ghost use Rattle.jobs.specs.Parts.{Joins};
 ghost use Rattle.jobs.specs.Demand3.{Meets, MeetsView};
@@ -33,9 +23,6 @@ ghost use Rattle.jobs.specs.Stops.{MeetsStop};
 ghost use Rattle.jobs.specs.Turns.{MeetsTurn};
 ghost use Rattle.jobs.specs.Judged.{MeetsJudging};
 ghost use Rattle.jobs.specs.Counted.{MeetsCounting};
-
-// The most marks that a sheet holds.
-const MOST_MARKS: usize = 4096;
 
 // ---- sheets
 
@@ -58,13 +45,6 @@ pub extern "C" fn rollmap_part(sheet: &[u8], code: u32) -> Extent
     sheet::place_of(sheet, code)
 }
 
-// 1, of the parts that are put together: is their number one that is taken, and is there a body for each code?
-fn are_counted(codes: usize, bodies: usize) -> bool
-    ensures { λ r. ⌜ r ≡ (isCount codes && leb codes bodies) ⌝ }
-{
-    contents::is_count(codes) && codes <= bodies
-}
-
 // Puts the bodies under these codes together into a sheet at the start of `out`: questions 1 (of the number of parts), 2 of the codes, 4 to 9
 // with 19, 21 and 23, and 13. Bodies behind those that the codes name are ignored. The sheet has these parts and is accepted; an accepted sheet's own
 // parts give that sheet.
@@ -77,20 +57,7 @@ pub extern "C" fn rollmap_assemble<'a>(
     ensures { λ r. ⌜ Gives (assembleJob (now (codes .entry)) (map now (now (bodies .entry))) (length (now (out .entry)))) (now (out .entry)) r (now (out .exit)) ⌝ }
     ensures { λ r. ⌜ Joins (now (codes .entry)) (map now (now (bodies .entry))) (now (out .entry)) r (now (out .exit)) ⌝ }
 {
-    let count = codes.len();
-    if !are_counted(count, bodies.len()) {
-        return steps::refused(1);
-    }
-    if !contents::codes_right(codes) {
-        return steps::refused(2);
-    }
-    match sheet::assemble(codes, &bodies[..count], out) {
-        Assembled::Refused(number) => steps::refused(number),
-        Assembled::Written(size) => Answer {
-            number: 0,
-            value: size,
-        },
-    }
+    assembly::assemble(codes, bodies, out)
 }
 
 // ---- scheduling
@@ -103,29 +70,7 @@ pub extern "C" fn rollmap_schedule(sheet: &[u8], work: &mut [u8], out: &mut [u8]
     ensures { λ r. ⌜ Gives (scheduleJob (now (sheet .entry)) (length (now (work .entry))) (length (now (out .entry)))) (now (out .entry)) r (now (out .exit)) ⌝ }
     ensures { λ r. ⌜ Lent r (now (work .entry)) (now (work .exit)) × Meets (marksPart (split (now (sheet .entry)))) (keptParts (split (now (sheet .entry)))) (has (split (now (sheet .entry))) 6) r (now (out .exit)) ⌝ }
 {
-    let found = sheet::opened(sheet);
-    let number = found.number;
-    if number != 0 {
-        return steps::refused(number);
-    }
-    let layout = found.layout;
-    let marks = contents::part(sheet, layout, 1);
-    let edition = contents::part(sheet, layout, 4);
-    let there = contents::is_there(layout, 5);
-    let popups = contents::part(sheet, layout, 5);
-    let n = marks.len() / MARK_SIZE;
-    steps::schedule_marks(
-        marks,
-        &marks[..0],
-        edition,
-        there,
-        popups,
-        &marks[..0],
-        contents::is_there(layout, 6),
-        work,
-        out,
-        n,
-    )
+    changes::schedule(sheet, work, out)
 }
 
 // ---- marks that come and go
@@ -164,38 +109,13 @@ pub extern "C" fn rollmap_take_out(sheet: &[u8], m: u32, work: &mut [u8], out: &
 
 // ---- judging
 
-// 22, of an accepted sheet with parts 2 and 3: is its schedule ours?
-fn is_ours(sheet: &[u8], layout: Layout) -> bool
-    requires { ⌜ (answer (indexedQuestions (now sheet)) ≡ 0) × (layout ≡ layoutOf (now sheet)) ⌝ }
-    ensures { λ r. ⌜ r ≡ question22 (split (now (sheet .entry))) ⌝ }
-{
-    let marks = contents::part(sheet, layout, 1);
-    let schedule = contents::part(sheet, layout, 2);
-    let index = contents::part(sheet, layout, 3);
-    let edition = bodies::edition_of(contents::part(sheet, layout, 4));
-    let popups = contents::part(sheet, layout, 5);
-    let n = marks.len() / MARK_SIZE;
-    judging::judge(marks, edition, popups, schedule, index, n)
-}
-
 // Judges the schedule of a sheet, whoever made it: questions 1 to 10, and 22. It answers 0 exactly where the sheet is scheduled here, and then
 // the sheet meets demand 3.
 #[no_mangle]
 pub extern "C" fn rollmap_judge(sheet: &[u8]) -> Answer
     ensures { λ r. ⌜ (r ≡ answerOf (judgeJob (now (sheet .entry)))) × MeetsJudging (now (sheet .entry)) r ⌝ }
 {
-    let found = sheet::indexed(sheet);
-    let number = found.number;
-    if number != 0 {
-        return steps::refused(number);
-    }
-    if is_ours(sheet, found.layout) {
-        return Answer {
-            number: 0,
-            value: 0,
-        };
-    }
-    steps::refused(22)
+    judgement::judge(sheet)
 }
 
 // ---- counting
@@ -219,20 +139,7 @@ pub extern "C" fn rollmap_fill(marks: &[u8], out: &mut [u8]) -> Answer
     ensures { λ r. ⌜ Gives (fillJob (now (marks .entry)) (length (now (out .entry)))) (now (out .entry)) r (now (out .exit)) ⌝ }
     ensures { λ r. ⌜ MeetsFilling (now (marks .entry)) r (now (out .exit)) ⌝ }
 {
-    let number = bodies::part1_answer(marks);
-    if number != 0 {
-        return steps::refused(number);
-    }
-    let n = marks.len() / MARK_SIZE;
-    let size = MARK_SIZE * n;
-    if out.len() < size {
-        return steps::refused(13);
-    }
-    filling::fill(out, marks, n);
-    Answer {
-        number: 0,
-        value: size as u32,
-    }
+    conversions::fill(marks, out)
 }
 
 // ---- logs
@@ -244,20 +151,7 @@ pub extern "C" fn rollmap_log_to_marks(log: &[u8], out: &mut [u8]) -> Answer
     ensures { λ r. ⌜ Gives (logToMarksJob (now (log .entry)) (length (now (out .entry)))) (now (out .entry)) r (now (out .exit)) ⌝ }
     ensures { λ r. ⌜ MeetsLog (now (log .entry)) r (now (out .exit)) ⌝ }
 {
-    let number = logs::log_answer(log);
-    if number != 0 {
-        return steps::refused(number);
-    }
-    let n = log.len() / LOG_RECORD_SIZE;
-    let marks_size = MARK_SIZE * n;
-    if out.len() < marks_size {
-        return steps::refused(13);
-    }
-    logs::put_marks(out, log, n);
-    Answer {
-        number: 0,
-        value: marks_size as u32,
-    }
+    conversions::log_to_marks(log, out)
 }
 
 // Turns marks into a log at the start of `out`, and answers how many bytes it has: questions 4, then 5 and 6 mark by mark, and 13. Turned
@@ -267,20 +161,7 @@ pub extern "C" fn rollmap_marks_to_log(marks: &[u8], out: &mut [u8]) -> Answer
     ensures { λ r. ⌜ Gives (marksToLogJob (now (marks .entry)) (length (now (out .entry)))) (now (out .entry)) r (now (out .exit)) ⌝ }
     ensures { λ r. ⌜ MeetsMarks (now (marks .entry)) r (now (out .exit)) ⌝ }
 {
-    let number = bodies::part1_answer(marks);
-    if number != 0 {
-        return steps::refused(number);
-    }
-    let n = marks.len() / MARK_SIZE;
-    let log_size = LOG_RECORD_SIZE * n;
-    if out.len() < log_size {
-        return steps::refused(13);
-    }
-    logs::put_records(out, marks, n);
-    Answer {
-        number: 0,
-        value: log_size as u32,
-    }
+    conversions::marks_to_log(marks, out)
 }
 
 // ---- columns
@@ -292,19 +173,7 @@ pub extern "C" fn rollmap_to_columns(marks: &[u8], out: &mut [u8]) -> Answer
     ensures { λ r. ⌜ Gives (toColumnsJob (now (marks .entry)) (length (now (out .entry)))) (now (out .entry)) r (now (out .exit)) ⌝ }
     ensures { λ r. ⌜ MeetsColumns (now (marks .entry)) r (now (out .exit)) ⌝ }
 {
-    if !bodies::is_marks(marks) {
-        return steps::refused(4);
-    }
-    let n = marks.len() / MARK_SIZE;
-    let columns_size = MARK_SIZE * n;
-    if out.len() < columns_size {
-        return steps::refused(13);
-    }
-    columns::put_columns(out, marks, n);
-    Answer {
-        number: 0,
-        value: columns_size as u32,
-    }
+    conversions::to_columns(marks, out)
 }
 
 // Rearranges columns into marks at the start of `out`, and answers how many bytes these are: questions 4 and 13. Rearranged by columns again they
@@ -314,19 +183,7 @@ pub extern "C" fn rollmap_from_columns(columns: &[u8], out: &mut [u8]) -> Answer
     ensures { λ r. ⌜ Gives (fromColumnsJob (now (columns .entry)) (length (now (out .entry)))) (now (out .entry)) r (now (out .exit)) ⌝ }
     ensures { λ r. ⌜ MeetsRows (now (columns .entry)) r (now (out .exit)) ⌝ }
 {
-    if !bodies::is_marks(columns) {
-        return steps::refused(4);
-    }
-    let n = columns.len() / MARK_SIZE;
-    let rows_size = MARK_SIZE * n;
-    if out.len() < rows_size {
-        return steps::refused(13);
-    }
-    columns::put_marks(out, columns, n);
-    Answer {
-        number: 0,
-        value: rows_size as u32,
-    }
+    conversions::from_columns(columns, out)
 }
 
 // ---- viewing
@@ -355,7 +212,7 @@ pub extern "C" fn rollmap_view_stop(
         y1,
         turn,
     };
-    steps::view(sheet, window, Zoom::Stop(stop), map)
+    viewing::view(sheet, window, Zoom::Stop(stop), map)
 }
 
 // The view at a wheel value; of a sheet scheduled here it meets demand 3, and it is that of the turned marks without a turn.
@@ -380,33 +237,17 @@ pub extern "C" fn rollmap_view_wheel(
         y1,
         turn,
     };
-    steps::view(sheet, window, Zoom::Wheel(wheel), map)
+    viewing::view(sheet, window, Zoom::Wheel(wheel), map)
 }
 
 // ---- reading a map
-
-// 13, of a map that is read: has it a bit for each of n marks, and is n at most 4,096?
-fn is_map(map: &[u8], n: u32) -> bool
-    ensures { λ r. ⌜ r ≡ isMap (now (map .entry)) n ⌝ }
-{
-    n as usize <= MOST_MARKS && (n as usize + 7) / 8 <= map.len()
-}
 
 // The least shown mark at or after `start` and below n, else 65,535.
 #[no_mangle]
 pub extern "C" fn rollmap_walk(map: &[u8], n: u32, start: u32) -> Answer
     ensures { λ r. ⌜ r ≡ answerOf (walkJob (now (map .entry)) n start) ⌝ }
 {
-    if !is_map(map, n) {
-        return Answer {
-            number: 13,
-            value: 65535,
-        };
-    }
-    Answer {
-        number: 0,
-        value: bitmap::walk(map, n as usize, start as usize) as u32,
-    }
+    viewing::walk(map, n, start)
 }
 
 // Whether the map of n marks shows mark m: 1 or 0, and 0 where m is not below n. It asks 13 as the walk does.
@@ -414,17 +255,5 @@ pub extern "C" fn rollmap_walk(map: &[u8], n: u32, start: u32) -> Answer
 pub extern "C" fn rollmap_is_shown(map: &[u8], n: u32, m: u32) -> Answer
     ensures { λ r. ⌜ r ≡ answerOf (isShownJob (now (map .entry)) n m) ⌝ }
 {
-    if !is_map(map, n) {
-        return steps::refused(13);
-    }
-    if n <= m {
-        return Answer {
-            number: 0,
-            value: 0,
-        };
-    }
-    Answer {
-        number: 0,
-        value: bitmap::test_bit(map, m as usize) as u32,
-    }
+    viewing::is_shown(map, n, m)
 }

@@ -52,10 +52,10 @@ pub fn assemble(codes: &[u16], bodies: &[&[u8]], out: &mut [u8]) -> Assembled
     if number != 0 {
         return Assembled::Refused(number);
     }
-    if !contents::has_room(codes, bodies, out.len()) {
+    if !joining::has_room(codes, bodies, out.len()) {
         return Assembled::Refused(13);
     }
-    let size = contents::put_parts(out, codes, bodies);
+    let size = joining::put_parts(out, codes, bodies);
     Assembled::Written(size as u32)
 }
 

@@ -8,7 +8,7 @@ use lib.Seq.{take-length}
 use Rattle.contents.specs.Contents.{codesOf, countAt, split}
 use Rattle.contents.specs.Questions.{topCode}
 use Rattle.contents.specs.Lemmas.Parts.{split-length, split-code}
-use Rattle.contents.specs.Lemmas.Writing.{fill-turn}
+use Rattle.contents.specs.Lemmas.Filled.{fill-turn}
 use native.Mathlib.Omega.{arith}
 use borrow.Author.Needs.{needs}
 use Rattle.contents.proofs.codes_of.Statement.{statement}

@@ -17,11 +17,10 @@ use Rattle.marks.specs.FieldLaws.{bits-bound, signed-bits, bits-signed}
 use Rattle.rows.specs.Rows.{rows}
 use Rattle.rows.specs.Laws.{rows-length, rows-at, rows-whole, field-le, field-get, le-found, Pieces, pieces-of, pieces}
 use Rattle.bodies.specs.Questions.{markCount}
-use Rattle.logs.specs.Packed.{isPlace, packed}
-use Rattle.logs.specs.Log.{recordCount, coordinateAt, markOfRecord, recordOfMark}
-use Rattle.logs.specs.Questions.{packedAt}
+use Rattle.packed.specs.Packed.{coordinateAt, packedAt, isPlace, packed}
+use Rattle.packed.specs.Laws.{packed-back, packed-read, place-mag, place-short, signed-place}
+use Rattle.logs.specs.Log.{recordCount, markOfRecord, recordOfMark}
 use Rattle.logs.specs.Right.{PlaceRight, RecordRight, LogRight}
-use Rattle.logs.specs.Lemmas.Packed.{packed-back, packed-read, place-mag, place-short, signed-place}
 use Rattle.logs.specs.Lemmas.Writing.{packed-length, mark-length, record-length}
 
 -- ---- a coordinate that is found

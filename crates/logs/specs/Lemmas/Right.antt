@@ -14,9 +14,9 @@ use Rattle.contents.specs.Laws.{Numbered, asked-iff, append-yes, append-no}
 use Rattle.contents.specs.Laws.{turn-numbered, turn-at, turn-of}
 use Rattle.bodies.specs.Questions.{fieldQuestions}
 use Rattle.bodies.specs.Laws.{field-iff}
-use Rattle.logs.specs.Packed.{isPlace}
-use Rattle.logs.specs.Log.{recordCount, coordinateAt, radiusOf, kindOf}
-use Rattle.logs.specs.Questions.{logSize, packedAt, placeQuestions, recordQuestions, logChecks}
+use Rattle.packed.specs.Packed.{coordinateAt, packedAt, isPlace}
+use Rattle.logs.specs.Log.{recordCount, radiusOf, kindOf}
+use Rattle.logs.specs.Questions.{logSize, placeQuestions, recordQuestions, logChecks}
 use Rattle.logs.specs.Right.{RecordRight, LogRight}
 
 -- ---- no question bears the number 0

@@ -10,9 +10,9 @@ use Rattle.numbers.specs.Little.{leAt, leBytes, signed}
 use Rattle.numbers.specs.Laws.{le-length}
 use Rattle.marks.specs.Marks.{xAt, yAt}
 use Rattle.rows.specs.Laws.{cut-length, pieces-sets}
-use Rattle.logs.specs.Packed.{signOf, packedOf, packed}
+use Rattle.packed.specs.Packed.{coordinateAt, signOf, packedOf, packed}
 use Rattle.marks.specs.Marks.{placeBits}
-use Rattle.logs.specs.Log.{coordinateAt, markOfRecord, recordOfMark}
+use Rattle.logs.specs.Log.{markOfRecord, recordOfMark}
 
 pub packed-length : (m sign : ℕ) → length (packedOf m sign) ≡ 3
 unfolding packedOf

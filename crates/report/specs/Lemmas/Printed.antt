@@ -28,9 +28,11 @@ use Rattle.bodies.specs.Questions.{markCount, editionOf, reelFrom, reelOf}
 use Rattle.sheet.specs.Questions.{sheetCount, checkQuestions, check}
 use Rattle.sheet.specs.Laws.{check-numbered, accepted-iff}
 use Rattle.jobs.specs.Theorems.{good, good-reel}
-use Rattle.report.specs.Text.{text, line, markLine, listing, refusalLine, mostMarks, longestInput, printQuestions, removals, printed}
-use Rattle.report.specs.Printing.{removalAt, Printable, firstRoom, textRoom, workedOut, ZoomLine, Prints}
-use Rattle.report.specs.Lemmas.Lines.{refusal-room, listing-room, lines-at, listing-same}
+use Rattle.listing.specs.Lines.{text, line, markLine, listing, refusalLine}
+use Rattle.listing.specs.Listed.{removalAt, Printable, firstRoom, textRoom}
+use Rattle.listing.specs.Laws.{refusal-room, listing-room, lines-at, listing-same}
+use Rattle.report.specs.Text.{mostMarks, longestInput, printQuestions, removals, printed}
+use Rattle.report.specs.Printing.{workedOut, ZoomLine, Prints}
 use Rattle.report.specs.Lemmas.Removals.{removal-process, schedule-printable}
 
 module _ (s : List ℕ) where

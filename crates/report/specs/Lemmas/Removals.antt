@@ -16,7 +16,7 @@ use Rattle.elimination.specs.Process.{Removal, stays, gone, process}
 use Rattle.elimination.specs.Records.{recordSize, numOffset, denOffset, isNever, markRecord, eliminatorAt, numAt, Reads, removalRecord}
 use Rattle.elimination.specs.Reel.{Reel, marksOf, GoodReel, scheduleOf}
 use Rattle.elimination.specs.Schedule.{schedule-length, schedule-reads, gone-small}
-use Rattle.report.specs.Printing.{removalAt, Zoomable, Printable}
+use Rattle.listing.specs.Listed.{removalAt, Zoomable, Printable}
 
 -- a record reads the same with more bytes behind the schedule
 reads-append : (p rest : List ℕ) (m : ℕ) {d : Record} → recordSize * m + recordSize ≤ length p → Reads p m d → Reads (p ++ rest) m d

@@ -6,43 +6,33 @@ use Rattle.steps.proofs.scheduled_size.Tie as tie
 mul-kept : tie.Need-mul-kept
 mul-kept c = search needs
 
--- src/lib.rt:136:74
 mul-size-if : tie.Need-mul-size-if
 mul-size-if c = search needs
 
--- src/lib.rt:136:58
 add-size-if : tie.Need-add-size-if
 add-size-if c = search needs
 
--- src/lib.rt:136:42
 size-if-requires : tie.Need-size-if-requires
 size-if-requires c κs = search needs
 
--- src/lib.rt:136:16
 add-kept : tie.Need-add-kept
 add-kept c = search needs
 
--- src/lib.rt:137:5
 mul-result : tie.Need-mul-result
 mul-result c = search needs
 
--- src/lib.rt:137:5
 add-result : tie.Need-add-result
 add-result c = search needs
 
--- src/lib.rt:137:5
 add-result-2 : tie.Need-add-result-2
 add-result-2 c = search needs
 
--- src/lib.rt:137:44
 size-if-requires-2 : tie.Need-size-if-requires-2
 size-if-requires-2 c κs = search needs
 
--- src/lib.rt:137:5
 add-result-3 : tie.Need-add-result-3
 add-result-3 c = search needs
 
--- src/lib.rt:132:1
 returns : tie.Need-returns
 returns c = search needs
 

@@ -1,0 +1,2 @@
+-- What the functions of src leave, step by step.
+pub mod Writing
