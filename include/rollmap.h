@@ -2,11 +2,11 @@
  * The roll map library: which labels of a reel of paper are shown at which zoom.
  *
  * Link with librollmap.a, which is for x86-64 Linux and needs of other libraries only
- * memset. All calls answer by value; nothing is allocated or kept, there is no state, and
- * any thread may call at any time. A call takes less than 8 KiB of stack, rollmap_judge
- * less than 16.
+ * memcpy and memset. All calls answer by value; nothing is allocated or kept, there is no
+ * state, and any thread may call at any time. A call takes less than 8 KiB of stack,
+ * rollmap_judge less than 16.
  *
- * A sheet is bytes: contents, then up to six parts, as docs/FORMAT.md has them. Part 1
+ * A sheet is bytes: contents, then up to seven parts, as docs/FORMAT.md has them. Part 1
  * has 11 bytes a mark, so that the number n of a sheet's marks is the length of part 1
  * over 11 (rollmap_part tells it).
  *
@@ -15,6 +15,11 @@
  * number ranks higher; in the second, the larger radius, that of the kind where 0 is
  * written, and then the lower number. Without part 4 the first edition holds. Whatever goes
  * by rank goes by the sheet's own edition.
+ *
+ * Part 7 names the shape of the labels: disks, or upright squares, whose radius is half a
+ * side. Without part 7 they are disks. Two places are as far apart as the straight line
+ * between them is long, and for squares as the larger of the differences of their x and of
+ * their y. Whatever goes by distance goes by the sheet's own shape.
  *
  * Part 5 gives each mark a popup k, 4 bytes: the mark is not there while 64 times the zoom
  * is below k. Without part 5 every k is 0, and all marks are there from the start. Two marks
@@ -29,10 +34,10 @@
  * each stop, over the whole reel. Stop 0 comes first and stop 16 last, and within a stop the
  * five groups in the order of their kinds: notes (0 to 9), spots (10 to 49), streaks (50 to
  * 99), moisture patches (100 to 149), breaks (150 to 199). So the count of stop s and group
- * g, both from 0, stands at 2 * (5s + g) of part 6. A mark lives at stop s where 2 to the
- * power s is at least its popup, and the squared zoom, 4 to the power s over 4,096, is below
- * its removal value in the sheet's own part 2, or it has none. Without part 5 no count grows
- * from one stop to the next.
+ * g, both from 0, stands at 2 * (5s + g) of part 6. A mark lives at stop s if 2 to the
+ * power s is at least its popup and, unless the sheet's own part 2 has it never removed, the
+ * squared zoom, 4 to the power s over 4,096, is below its removal value there. Without part
+ * 5 no count grows from one stop to the next.
  *
  * A buffer is a pointer and its length in bytes. It needs no alignment. What the caller
  * answers for, since no call can see it:
@@ -46,9 +51,10 @@
  *
  * Every call puts its questions in turn. The first that is answered with no gives its
  * number, and then the call has written nothing: look at the number before the value.
+ * rollmap_part alone gives no number.
  *
- *    1  there are 2 bytes, 1 to 6 parts, and the whole contents
- *    2  the codes rise within 1 to 6, part 1 is there, and parts 3 and 6 only with part 2
+ *    1  there are 2 bytes, 1 to 7 parts, and the whole contents
+ *    2  the codes rise within 1 to 7, part 1 is there, and parts 3 and 6 only with part 2
  *    3  the first body starts right after the contents, each next one where the last
  *       ended, and the last ends with the sheet
  *    4  part 1 is a multiple of 11 and at most 45,056 bytes (4,096 marks)
@@ -60,6 +66,8 @@
  *   21  part 5, if present, is 4n bytes, and no k in it exceeds 65,536; this is asked
  *       between 19 and 8, wherever these are. Of a mark to be added: its k does not exceed
  *       65,536, and is 0 where the sheet has no part 5
+ *   24  part 7, if present, is one byte of 1 or 2; this is asked between 21 and 8, wherever
+ *       these are
  *    8  each schedule record is the 'never' record, or names a higher-ranked mark with
  *       their pair value as its two unreduced numbers, and that one is removed later
  *    9  part 3, if present, is the tree that parts 1 and 2 give
@@ -69,8 +77,8 @@
  *   22  of a schedule that is judged: no pair of marks has both removed later than its pair
  *       value, each removal value is the pair value with some higher-ranked mark that is
  *       removed later, and the highest-ranked such mark is named; this is asked after 10
- *   20  the turn is 0 to 3, and each edge is from -32,768 to 32,768; this is asked between
- *       10 and 11
+ *   20  the turn is 0 to 3, and 0 where the labels are squares, and each edge is from
+ *       -32,768 to 32,768; this is asked between 10 and 11
  *   11  x0 is at most x1, and y0 at most y1
  *   12  the zoom is taken
  *   13  each written or work buffer, and a walked map, is long enough; at most 4,096
@@ -121,6 +129,7 @@ extern "C" {
 #define ROLLMAP_REFUSED_POPUPS 21u
 #define ROLLMAP_REFUSED_JUDGEMENT 22u
 #define ROLLMAP_REFUSED_COUNTS 23u
+#define ROLLMAP_REFUSED_SHAPE 24u
 
 /* The codes of a sheet's parts. More may come. */
 #define ROLLMAP_CODE_MARKS 1u
@@ -129,10 +138,15 @@ extern "C" {
 #define ROLLMAP_CODE_EDITION 4u
 #define ROLLMAP_CODE_POPUPS 5u
 #define ROLLMAP_CODE_COUNTS 6u
+#define ROLLMAP_CODE_SHAPE 7u
 
 /* What the one byte of part 4 says. */
 #define ROLLMAP_EDITION_FIRST 1u
 #define ROLLMAP_EDITION_SECOND 2u
+
+/* What the one byte of part 7 says. */
+#define ROLLMAP_SHAPE_DISK 1u
+#define ROLLMAP_SHAPE_SQUARE 2u
 
 /* The popup of a mark that is there from the start, and the largest one. */
 #define ROLLMAP_NO_POPUP 0u
@@ -165,21 +179,22 @@ extern "C" {
 #define ROLLMAP_NO_MARK 65535u
 
 /* Bytes that scheduling n marks needs: of work, and of out, which has more where the sheet
-   has a part 4, 5 or 6. Adding a mark and taking one out need those of the new number of
+   has a part 4, 5, 6 or 7. Adding a mark and taking one out need those of the new number of
    marks. */
 #define ROLLMAP_WORK_BYTES(n) ((size_t)32 * (n) + 1024)
 #define ROLLMAP_SCHEDULED_BYTES(n) ((size_t)27 * (n) + 32)
 
-/* Bytes that part 4 adds to a sheet, part 5 to one of n marks, and part 6 to any that is
-   counted: 10 of contents, and the body. */
+/* Bytes that part 4 adds to a sheet, part 5 to one of n marks, part 6 to any that is
+   counted, and part 7 to any: 10 of contents, and the body. */
 #define ROLLMAP_EDITION_BYTES 11u
 #define ROLLMAP_POPUPS_BYTES(n) ((size_t)4 * (n) + 10)
 #define ROLLMAP_COUNTED_BYTES 180u
+#define ROLLMAP_SHAPE_BYTES 11u
 
 /* Bytes of the map of n marks. */
 #define ROLLMAP_MAP_BYTES(n) (((size_t)(n) + 7) / 8)
 
-/* The turn that callers without a turn pass. */
+/* The turn that callers without a turn pass, and all where the labels are squares. */
 #define ROLLMAP_NO_TURN 0u
 
 /* How far out an edge of a view lies at most, on either side of 0. */
@@ -204,17 +219,17 @@ struct rollmap_body {
     size_t length;
 };
 
-/* Checks a sheet. The value is 0. Asks 1 to 9, with 19 and 21 after 7 and 23 after 9, as
+/* Checks a sheet. The value is 0. Asks 1 to 9, with 19, 21 and 24 after 7 and 23 after 9, as
    wherever 4 to 9 are asked below. */
 struct rollmap_answer rollmap_check(const uint8_t *sheet, size_t sheet_length);
 
-/* Schedules a sheet of n marks afresh by its own edition and popups, whatever schedule it
-   has: writes the sheet of parts 1 to 3, of parts 4 and 5 as they were where they are
-   there, and of a part 6 with the counts of the new schedule where there is one, to out, and
-   leaves what follows there as it is. The value is the number of bytes written, 32 + 27n, 11
-   more with part 4, 10 + 4n more with part 5, and 180 more with part 6. work has at least
-   32n + 1,024 bytes, which hold anything before the call and anything after a success. Asks
-   1 to 9, and 13 of work and out. */
+/* Schedules a sheet of n marks afresh by its own edition, popups and shape, whatever
+   schedule it has: writes the sheet of parts 1 to 3, of parts 4, 5 and 7 as they were where
+   they are there, and of a part 6 with the counts of the new schedule where there is one, to
+   out, and leaves what follows there as it is. The value is the number of bytes written,
+   32 + 27n, 11 more with part 4, 10 + 4n more with part 5, 180 more with part 6, and 11 more
+   with part 7. work has at least 32n + 1,024 bytes, which hold anything before the call and
+   anything after a success. Asks 1 to 9, and 13 of work and out. */
 struct rollmap_answer rollmap_schedule(const uint8_t *sheet, size_t sheet_length,
                                        uint8_t *work, size_t work_length,
                                        uint8_t *out, size_t out_length);
@@ -224,15 +239,16 @@ struct rollmap_answer rollmap_schedule(const uint8_t *sheet, size_t sheet_length
    as part 1 has them, and its popup, and stands at the end: its number is the old number of
    marks. Where mark m is taken out, higher numbers drop by one; the only mark of a sheet may
    go, too. What is written to out is the sheet that rollmap_schedule writes for the new
-   marks and the old parts 4 and 5, where they are there, and what follows there stays as it
-   is. A part 5 has the new mark's popup at its end, or no longer that of mark m; where there
-   is none, the new mark's popup is 0 (ROLLMAP_NO_POPUP), and none is written. Where there is
-   a part 6, one with the counts of the new schedule is written. The value is the number of
-   bytes written, 32 + 27n for the new number n of marks, 11 more with part 4, 10 + 4n more
-   with part 5, and 180 more with part 6. work has at least 32n + 1,024 bytes for that n,
-   which hold anything before the call and anything after a success. Where a mark is added to
-   a sheet that rollmap_schedule or one of these calls wrote, and that mark is taken out
-   again, the old bytes come back.
+   marks, with parts 4 and 7 as they were and part 5 changed with the marks, where they are
+   there; what follows in out stays as it is. A part 5 has the new mark's popup at its end, or
+   no longer that of mark m; where there is none, the new mark's popup is 0
+   (ROLLMAP_NO_POPUP), and none is written. Where there is a part 6, one with the counts of
+   the new schedule is written. The value is the number of bytes written, 32 + 27n for the new
+   number n of marks, 11 more with part 4, 10 + 4n more with part 5, 180 more with part 6, and
+   11 more with part 7. work has at least 32n + 1,024 bytes for that n, which hold anything
+   before the call and anything after a success. Where a mark is added to a sheet that
+   rollmap_schedule or one of these calls wrote, and that mark is taken out again, the old
+   bytes come back.
 
    Adding asks 1 to 10 of the sheet, 18, 5, 6 and 21 of the new mark, and 13 of work and
    out. Taking out asks 1 to 10 of the sheet, 17 of m, of which all 32 bits count, and 13 of
@@ -248,10 +264,10 @@ struct rollmap_answer rollmap_take_out(const uint8_t *sheet, size_t sheet_length
 
 /* Judges the schedule of a sheet with parts 2 and 3, whoever made it, without working it out
    again: nothing is written, and no work buffer is needed. The value is 0. Accepted is the
-   schedule that rollmap_schedule writes for the sheet, by its own edition and popups, and no
-   other. So an accepted sheet is, byte for byte, what rollmap_schedule writes for it, and
-   what holds of such a sheet holds of this one. rollmap_check accepts other schedules, too,
-   in which marks stay or go later, or name another mark; these get 22 here, and
+   schedule that rollmap_schedule writes for the sheet, by its own edition, popups and shape,
+   and no other. So an accepted sheet is, byte for byte, what rollmap_schedule writes for it,
+   and what holds of such a sheet holds of this one. rollmap_check accepts other schedules,
+   too, in which marks stay or go later, or name another mark; these get 22 here, and
    rollmap_schedule replaces them. Asks 1 to 10, and 22. */
 struct rollmap_answer rollmap_judge(const uint8_t *sheet, size_t sheet_length);
 
@@ -275,7 +291,7 @@ struct rollmap_answer rollmap_count(const uint8_t *sheet, size_t sheet_length,
    length is 0. out overlaps neither the bodies nor the rows nor the codes, and none of
    these changes while the call runs.
 
-   Asks 1 (there are 1 to 6 codes, and not fewer rows than codes), 2 of the codes, 4 to 9 of
+   Asks 1 (there are 1 to 7 codes, and not fewer rows than codes), 2 of the codes, 4 to 9 of
    the bodies, and 13 of out. */
 struct rollmap_answer rollmap_assemble(const uint16_t *codes, size_t codes_length,
                                        const struct rollmap_body *bodies, size_t bodies_length,
@@ -325,22 +341,24 @@ struct rollmap_answer rollmap_to_columns(const uint8_t *marks, size_t marks_leng
 struct rollmap_answer rollmap_from_columns(const uint8_t *columns, size_t columns_length,
                                            uint8_t *out, size_t out_length);
 
-/* Answers a view of a sheet of n marks: those that live at the zoom and whose disk there,
-   about the turned place, reaches the rectangle, touching included. A mark lives where the
-   squared zoom is below its removal value, or it has none, and 64 times the zoom is at least
-   its popup. With k = 64 times the zoom, a disk reaches the rectangle where the squared
+/* Answers a view of a sheet of n marks: those that live at the zoom and whose label there,
+   about the turned place, reaches the rectangle, touching included. A mark lives if 64 times
+   the zoom is at least its popup and, where it has a removal value, the squared zoom is below
+   that. With k = 64 times the zoom, a label reaches the rectangle where the squared
    distance from turned place to rectangle, times 4,096, is at most k squared times the
-   squared radius; a place inside has distance 0, and a mark of radius 0 has the radius of
-   its kind. Mark m is bit m mod 8 of byte m / 8 of the map. The first (n + 7) / 8 bytes are
-   wholly written, and what follows stays as it is. The value is the count of shown marks.
-   Asks 1 to 10, 20, 11 and 12, and 13 of the map.
+   squared radius; for squares that distance is the larger of those along x and along y. A
+   place inside has distance 0, and a mark of radius 0 has the radius of its kind. Mark m is
+   bit m mod 8 of byte m / 8 of the map. The first (n + 7) / 8 bytes are wholly written, the
+   unused bits of the last as 0, and what follows stays as it is. The value is the count of
+   shown marks. Asks 1 to 10, 20, 11 and 12, and 13 of the map.
 
    The turn is a number of quarter turns, 0 to 3. One of them takes x, y to -y, x; so two
    take it to -x, -y, three to y, -x, and after four every place is where it was. The edges
    x0, x1, y0 and y1 are the least and the greatest x and y of the rectangle, and refer to
    turned places; they go from -32,768 to 32,768, since -32,768 may turn to 32,768. Callers
    without a turn pass 0; their edges refer to places as part 1 has them, and may be 32,768,
-   too. 4 is no other way to say 0, and gets 20.
+   too. 4 is no other way to say 0, and gets 20. So does every turn but 0 where part 7 says
+   that the labels are squares; where it says disks, all four are taken, as without part 7.
 
    A screen that runs the web left to right, with x to the right, takes the turn after
    which x grows along the web: 0 where x of part 1 grows along it, 1 where y falls, 2 where
@@ -350,11 +368,11 @@ struct rollmap_answer rollmap_from_columns(const uint8_t *columns, size_t column
    passes x0 = -b, x1 = -a, y0 = c, y1 = d and the turn 1, and draws the mark at -y, x. The
    map goes by the numbers of the marks, whatever the turn.
 
-   One sheet serves screens of every turn. Take one that rollmap_schedule, rollmap_add or
-   rollmap_take_out wrote, counted or not; move its marks to their turned places, where these
-   fit 2 bytes each, put them together with its parts 4 and 5, and schedule that. A view of
-   the new sheet without a turn gives the same answer and the same map as the view of the old
-   one with the turn.
+   One sheet of disks serves screens of every turn. Take one that rollmap_schedule,
+   rollmap_add or rollmap_take_out wrote, counted or not; move its marks to their turned
+   places, where these fit 2 bytes each, put them together with its parts 4, 5 and 7, and
+   schedule that. A view of the new sheet without a turn gives the same answer and the same
+   map as the view of the old one with the turn.
 
    A stop s, 0 to 16, is the zoom of 2 to the power s, divided by 64, map units per pixel.
    A wheel value is the zoom itself, taken where 64 times it is a whole number from 1 to
@@ -381,9 +399,9 @@ struct rollmap_answer rollmap_is_shown(const uint8_t *map, size_t map_length,
                                        uint32_t n, uint32_t m);
 
 /* Where the part of that code (1 the marks, 2 the schedule, 3 the index, 4 the edition, 5
-   the popups, 6 the counts) stands in an accepted sheet. Both numbers are 0 where there is
-   no such part or the sheet is refused; a part that is there has an offset above 0, and may
-   be empty. */
+   the popups, 6 the counts, 7 the shape) stands in an accepted sheet. Both numbers are 0
+   where there is no such part or the sheet is refused; a part that is there has an offset
+   above 0, and may be empty. */
 struct rollmap_extent rollmap_part(const uint8_t *sheet, size_t sheet_length, uint32_t code);
 
 #ifdef __cplusplus

@@ -19,7 +19,7 @@ fn are_counted(codes: usize, bodies: usize) -> bool
 }
 
 // Puts the bodies under these codes together into a sheet at the start of `out`: questions 1 (of the number of parts), 2 of the codes, 4 to 9
-// with 19, 21 and 23, and 13. Bodies behind those that the codes name are ignored. The sheet has these parts and is accepted; an accepted sheet's own
+// with 19, 21, 23 and 24, and 13. Bodies behind those that the codes name are ignored. The sheet has these parts and is accepted; an accepted sheet's own
 // parts give that sheet.
 pub fn assemble<'a>(codes: &[u16], bodies: &'a [&'a [u8]], out: &mut [u8]) -> Answer
     ensures { λ r. ⌜ Gives (assembleJob (now (codes .entry)) (map now (now (bodies .entry))) (length (now (out .entry)))) (now (out .entry)) r (now (out .exit)) ⌝ }

@@ -18,7 +18,7 @@ use Rattle.contents.specs.Asking.{_asks_, answer}
 use Rattle.contents.specs.Contents.{Part, codesOf, has, popupsPart, Writable}
 use Rattle.contents.specs.Questions.{codesRight}
 use Rattle.contents.specs.Laws.{Numbered}
-use Rattle.bodies.specs.Questions.{markCount, fieldQuestions, part1Questions, isEdition, isPopups, isSchedule, bodyQuestions}
+use Rattle.bodies.specs.Questions.{markCount, fieldQuestions, part1Questions, isChoice, isPopups, isSchedule, bodyQuestions}
 use Rattle.bodies.specs.Fitting.{Fitting}
 use Rattle.bodies.specs.Lemmas.Numbered as Numbering
 use Rattle.bodies.specs.Lemmas.Fitting as Fits
@@ -65,8 +65,8 @@ pub popups-enough : {q : List ℕ} {n : ℕ} → GoodPopups q n → (length q �
 popups-enough = Fits.popups-enough
 
 -- Part 4 is one byte.
-pub edition-long : (body : List ℕ) → isEdition body ≡ true → length body ≡ 1
-edition-long = Fits.edition-long
+pub choice-long : (body : List ℕ) → isChoice body ≡ true → length body ≡ 1
+choice-long = Fits.choice-long
 
 -- Parts that fit one another are small enough for the contents.
 pub fitting-writable : (parts : List Part) → Fitting parts → codesRight (codesOf parts) ≡ true → Writable parts

@@ -1,4 +1,4 @@
--- Questions 4 to 9, 19, 21 and 23, each by its number: those of the bodies. Checking a sheet and putting parts together ask the same.
+-- Questions 4 to 9, 19, 21, 23 and 24, each by its number: those of the bodies. Checking a sheet and putting parts together ask the same.
 use Prim.Native.Nat.{ℕ, _*_, _/_, _%_}
 use mathlib.Core.Bool.{Bool, _&&_, _||_}
 use mathlib.Core.List.{List, [], _∷_, _++_}
@@ -14,7 +14,7 @@ use Rattle.elimination.specs.Records.{recordSize, fractionOf, isNever, markReco
 use Rattle.elimination.specs.Reel.{Reel}
 use Rattle.index.specs.Index.{indexEntrySize, isIndex}
 use Rattle.counting.specs.Counts.{isCounts}
-use Rattle.contents.specs.Contents.{Part, has, marksPart, schedulePart, indexPart, editionPart, popupsPart, countsPart}
+use Rattle.contents.specs.Contents.{Part, has, find, marksPart, schedulePart, indexPart, editionPart, popupsPart, countsPart, shapePart}
 use Rattle.contents.specs.Asking.{Question, _asks_, inTurn, ifThere}
 
 -- ---- of part 1, `s`
@@ -27,9 +27,9 @@ question4 s = eqb (length s % markSize) 0 && leb (length s) 45056
 abbrev pub markCount : List ℕ → ℕ
 markCount s = length s / markSize
 
--- the reel of marks as they stand, ranked by this edition, with these popups
-abbrev pub reelFrom : ℕ → List ℕ → List ℕ → Reel
-reelFrom edition popups s = record { marks = s; count = markCount s; edition = edition; popups = popups }
+-- the reel of marks as they stand, ranked by this edition, of this shape and with these popups
+abbrev pub reelFrom : ℕ → ℕ → List ℕ → List ℕ → Reel
+reelFrom edition shape popups s = record { marks = s; count = markCount s; edition = edition; shape = shape; popups = popups }
 
 -- 5 and 6. "before its radius: is the kind below 200? Is the radius at most 16,383?"
 abbrev pub fieldQuestions : ℕ → ℕ → List Question
@@ -57,7 +57,7 @@ exactly f g = eqb (f .num) (g .num) && eqb (f .den) (g .den)
 unfoldable pub namesRight : Reel → Record → ℕ → Bool
 namesRight r d m =
     let by = d .eliminator in
-    (ltb by (r .count) && outranks (r .edition) (r .marks) by m) && exactly (fractionOf d) (pairValue (r .marks) (r .popups) by m)
+    (ltb by (r .count) && outranks (r .edition) (r .marks) by m) && exactly (fractionOf d) (pairValue (r .shape) (r .marks) (r .popups) by m)
 
 -- a record of the schedule is right: it is "the 'never' record", or it names a mark rightly, "and is that mark removed later?"
 unfoldable pub recordRight : Reel → List ℕ → ℕ → Bool
@@ -69,15 +69,16 @@ recordRight r p m =
 unfoldable pub isSchedule : Reel → List ℕ → Bool
 isSchedule r p = every (recordRight r p) (r .count)
 
--- ---- of part 4, `body`
+-- ---- of parts 4 and 7, `body`
 
--- 02, request 6: "Part 4, one byte, names edition 1 or 2; without it edition 1 holds." A part that is not there counts as empty.
-abbrev pub editionIn : List ℕ → ℕ
-editionIn body = getD body 0 1
+-- 02, request 6: "Part 4, one byte, names edition 1 or 2; without it edition 1 holds." Request 13: "Part 7, one byte, names 1 disk or 2 square;
+-- without it disks are meant." A part that is not there counts as empty.
+abbrev pub choiceIn : List ℕ → ℕ
+choiceIn body = getD body 0 1
 
 -- is it "one byte of 1 or 2"?
-unfoldable pub isEdition : List ℕ → Bool
-isEdition body = eqb (length body) 1 && (eqb (editionIn body) 1 || eqb (editionIn body) 2)
+unfoldable pub isChoice : List ℕ → Bool
+isChoice body = eqb (length body) 1 && (eqb (choiceIn body) 1 || eqb (choiceIn body) 2)
 
 -- ---- of part 5, `body`
 
@@ -97,11 +98,15 @@ countOf parts = markCount (marksPart parts)
 
 -- the edition that they are ranked by
 abbrev pub editionOf : List Part → ℕ
-editionOf parts = editionIn (editionPart parts)
+editionOf parts = choiceIn (editionPart parts)
+
+-- the shape of their labels
+abbrev pub shapeOf : List Part → ℕ
+shapeOf parts = choiceIn (shapePart parts)
 
 -- the reel that they hold
 abbrev pub reelOf : List Part → Reel
-reelOf parts = reelFrom (editionOf parts) (popupsPart parts) (marksPart parts)
+reelOf parts = reelFrom (editionOf parts) (shapeOf parts) (popupsPart parts) (marksPart parts)
 
 -- a part that is there has this size
 unfoldable pub isSized : Bool → ℕ → ℕ → Bool
@@ -112,13 +117,21 @@ unfoldable pub question7 : List Part → Bool
 question7 parts =
     isSized (has parts 2) (length (schedulePart parts)) (recordSize * countOf parts) && isSized (has parts 3) (length (indexPart parts)) (indexEntrySize * countOf parts)
 
+-- a part that is there names 1 or 2
+unfoldable pub isChosen : List Part → ℕ → Bool
+isChosen parts code = ifThere (has parts code) (isChoice (find parts code))
+
 -- 19. "after 7, 19 where part 4 isn't one byte of 1 or 2"
 unfoldable pub question19 : List Part → Bool
-question19 parts = ifThere (has parts 4) (isEdition (editionPart parts))
+question19 parts = isChosen parts 4
 
 -- 21. "after 19, 21 where part 5 isn't 4n bytes or a k exceeds 65,536"
 unfoldable pub question21 : List Part → Bool
 question21 parts = ifThere (has parts 5) (isPopups (popupsPart parts) (countOf parts))
+
+-- 24. "after 21, 24 where part 7 isn't one byte of 1 or 2"
+unfoldable pub question24 : List Part → Bool
+question24 parts = isChosen parts 7
 
 -- 8. "Is each schedule record the 'never' record, or else ..?"
 unfoldable pub question8 : List Part → Bool
@@ -134,11 +147,11 @@ question23 parts = ifThere (has parts 6) (isCounts (countsPart parts) (marksPart
 
 -- ---- in their order
 
--- 7, 19, 21, 8, 9 and 23: the edition and the popups are asked about before the ranks and the pair values that go by them
+-- 7, 19, 21, 24, 8, 9 and 23: the edition, the popups and the shape are asked about before the ranks and the pair values that go by them
 unfoldable pub lastQuestions : List Part → List Question
 lastQuestions parts =
-    (7 asks question7 parts) ∷ (19 asks question19 parts) ∷ (21 asks question21 parts) ∷ (8 asks question8 parts) ∷ (9 asks question9 parts) ∷ (23 asks question23 parts) ∷ []
+    (7 asks question7 parts) ∷ (19 asks question19 parts) ∷ (21 asks question21 parts) ∷ (24 asks question24 parts) ∷ (8 asks question8 parts) ∷ (9 asks question9 parts) ∷ (23 asks question23 parts) ∷ []
 
--- 4 to 9, with 19 "after 7" and 21 "after 19", and 23 "after 9"
+-- 4 to 9, with 19 "after 7", 21 "after 19" and 24 "after 21", and 23 "after 9"
 unfoldable pub bodyQuestions : List Part → List Question
 bodyQuestions parts = part1Questions (marksPart parts) ++ lastQuestions parts

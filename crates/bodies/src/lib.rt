@@ -1,4 +1,4 @@
-// The bodies of a sheet: questions 4 to 9, with 19 and then 21 after 7, and 23.
+// The bodies of a sheet: questions 4 to 9, with 19, 21 and 24 after 7, and 23.
 use elimination::RECORD_SIZE;
 use elimination::Record;
 use fractions::Fraction;
@@ -19,7 +19,7 @@ ghost use Rattle.contents.specs.Contents.{together};
 ghost use Rattle.contents.specs.Asking.{answer};
 ghost use Rattle.contents.specs.Questions.{codesRight};
 ghost use Rattle.bodies.specs.Questions.{question4, fieldQuestions, oneMark, markQuestions, part1Questions, exactly, namesRight, recordRight};
-ghost use Rattle.bodies.specs.Questions.{isSchedule, editionIn, isEdition, isPopup, isPopups, isSized, question7, question19, question21, question8, question9, question23, lastQuestions, bodyQuestions};
+ghost use Rattle.bodies.specs.Questions.{isSchedule, choiceIn, isChoice, isPopup, isPopups, isSized, isChosen, question7, question21, question8, question9, question23, lastQuestions, bodyQuestions};
 ghost use Rattle.bodies.specs.Fitting.{Marked};
 
 // "a k exceeds 65,536"
@@ -92,9 +92,17 @@ fn exactly(f: Fraction, g: Fraction) -> bool
 }
 
 // Does mark m's record d name a higher-ranked mark below n, with their pair value as it is, unreduced?
-fn names_right(marks: &[u8], edition: u8, popups: &[u8], n: usize, d: Record, m: usize) -> bool
+fn names_right(
+    marks: &[u8],
+    edition: u8,
+    shape: u8,
+    popups: &[u8],
+    n: usize,
+    d: Record,
+    m: usize,
+) -> bool
     requires { ⌜ GoodMarks (now marks) n × GoodPopups (now popups) n × (m < n) ⌝ }
-    ensures { λ r. ⌜ r ≡ namesRight (record { marks = now (marks .entry); count = n; edition = edition; popups = now (popups .entry) }) d m ⌝ }
+    ensures { λ r. ⌜ r ≡ namesRight (record { marks = now (marks .entry); count = n; edition = edition; shape = shape; popups = now (popups .entry) }) d m ⌝ }
 {
     let by = d.eliminator as usize;
     if n <= by {
@@ -105,7 +113,7 @@ fn names_right(marks: &[u8], edition: u8, popups: &[u8], n: usize, d: Record, m:
     }
     exactly(
         elimination::fraction_of(d),
-        marks::pair(marks, popups, by, m),
+        marks::pair(marks, shape, popups, by, m),
     )
 }
 
@@ -113,19 +121,20 @@ fn names_right(marks: &[u8], edition: u8, popups: &[u8], n: usize, d: Record, m:
 fn record_right(
     marks: &[u8],
     edition: u8,
+    shape: u8,
     popups: &[u8],
     schedule: &[u8],
     n: usize,
     m: usize,
 ) -> bool
     requires { ⌜ GoodMarks (now marks) n × GoodPopups (now popups) n × (recordSize * n ≤ length (now schedule)) × (m < n) ⌝ }
-    ensures { λ r. ⌜ r ≡ recordRight (record { marks = now (marks .entry); count = n; edition = edition; popups = now (popups .entry) }) (now (schedule .entry)) m ⌝ }
+    ensures { λ r. ⌜ r ≡ recordRight (record { marks = now (marks .entry); count = n; edition = edition; shape = shape; popups = now (popups .entry) }) (now (schedule .entry)) m ⌝ }
 {
     let d = elimination::record_at(schedule, RECORD_SIZE * m);
     if elimination::is_never(d) {
         return true;
     }
-    if !names_right(marks, edition, popups, n, d, m) {
+    if !names_right(marks, edition, shape, popups, n, d, m) {
         return false;
     }
     let by = d.eliminator as usize;
@@ -136,13 +145,20 @@ fn record_right(
 }
 
 // Is each record right?
-fn is_schedule(marks: &[u8], edition: u8, popups: &[u8], schedule: &[u8], n: usize) -> bool
+fn is_schedule(
+    marks: &[u8],
+    edition: u8,
+    shape: u8,
+    popups: &[u8],
+    schedule: &[u8],
+    n: usize,
+) -> bool
     requires { ⌜ GoodMarks (now marks) n × GoodPopups (now popups) n × (recordSize * n ≤ length (now schedule)) ⌝ }
-    ensures { λ r. ⌜ r ≡ isSchedule (record { marks = now (marks .entry); count = n; edition = edition; popups = now (popups .entry) }) (now (schedule .entry)) ⌝ }
+    ensures { λ r. ⌜ r ≡ isSchedule (record { marks = now (marks .entry); count = n; edition = edition; shape = shape; popups = now (popups .entry) }) (now (schedule .entry)) ⌝ }
 {
     let mut m = 0;
     while m < n {
-        if !record_right(marks, edition, popups, schedule, n, m) {
+        if !record_right(marks, edition, shape, popups, schedule, n, m) {
             return false;
         }
         m += 1;
@@ -150,22 +166,22 @@ fn is_schedule(marks: &[u8], edition: u8, popups: &[u8], schedule: &[u8], n: usi
     true
 }
 
-// ---- part 4: the edition of the handbook
+// ---- parts 4 and 7: the edition of the handbook, the shape of the labels
 
 // Is this one byte of 1 or 2?
-fn is_edition(body: &[u8]) -> bool
-    ensures { λ r. ⌜ r ≡ isEdition (now (body .entry)) ⌝ }
+fn is_choice(body: &[u8]) -> bool
+    ensures { λ r. ⌜ r ≡ isChoice (now (body .entry)) ⌝ }
 {
     if body.len() != 1 {
         return false;
     }
-    let edition = body[0];
-    edition == 1 || edition == 2
+    let choice = body[0];
+    choice == 1 || choice == 2
 }
 
-// The edition that part 4 names; without it the first one holds.
-pub fn edition_of(body: &[u8]) -> u8
-    ensures { λ r. ⌜ r ≡ editionIn (now (body .entry)) ⌝ }
+// The edition or the shape that the part names; without it the first one holds.
+pub fn choice_of(body: &[u8]) -> u8
+    ensures { λ r. ⌜ r ≡ choiceIn (now (body .entry)) ⌝ }
 {
     if body.len() == 0 {
         return 1;
@@ -200,7 +216,7 @@ fn is_popups(body: &[u8], n: usize) -> bool
     true
 }
 
-// ---- questions 7 to 9, 19, 21 and 23, and all from 4 on, of the bodies under these codes
+// ---- questions 7 to 9, 19, 21, 23 and 24, and all from 4 on, of the bodies under these codes
 
 // Has a part that is there this size?
 fn is_sized(there: bool, size: usize, wanted: usize) -> bool
@@ -223,15 +239,15 @@ fn has_sizes(codes: &[u16], bodies: &[&[u8]], n: usize) -> bool
         & is_sized(contents::names(codes, 3), index, INDEX_ENTRY_SIZE * n)
 }
 
-// 19. Is part 4, if present, one byte of 1 or 2?
-fn has_edition(codes: &[u16], bodies: &[&[u8]]) -> bool
+// 19 and 24. Is part 4 or 7, if present, one byte of 1 or 2?
+fn has_choice(codes: &[u16], bodies: &[&[u8]], code: u16) -> bool
     requires { ⌜ (length (now codes) ≡ length (now bodies)) × (0 < length (now bodies)) ⌝ }
-    ensures { λ r. ⌜ r ≡ question19 (together (now (codes .entry)) (map now (now (bodies .entry)))) ⌝ }
+    ensures { λ r. ⌜ r ≡ isChosen (together (now (codes .entry)) (map now (now (bodies .entry)))) code ⌝ }
 {
-    if !contents::names(codes, 4) {
+    if !contents::names(codes, code) {
         return true;
     }
-    is_edition(contents::find(codes, bodies, 4))
+    is_choice(contents::find(codes, bodies, code))
 }
 
 // 21. Does part 5, if present, have a popup for each mark, none above 65,536?
@@ -256,7 +272,8 @@ fn has_schedule(codes: &[u16], bodies: &[&[u8]], n: usize) -> bool
     }
     is_schedule(
         contents::find(codes, bodies, 1),
-        edition_of(contents::find(codes, bodies, 4)),
+        choice_of(contents::find(codes, bodies, 4)),
+        choice_of(contents::find(codes, bodies, 7)),
         contents::find(codes, bodies, 5),
         contents::find(codes, bodies, 2),
         n,
@@ -298,7 +315,7 @@ fn has_counts(codes: &[u16], bodies: &[&[u8]], n: usize) -> bool
     )
 }
 
-// 7, 19, 21, 8, 9 and 23: the first 'no', or 0.
+// 7, 19, 21, 24, 8, 9 and 23: the first 'no', or 0.
 fn last_answer(codes: &[u16], bodies: &[&[u8]], n: usize) -> u32
     requires { ⌜ (length (now codes) ≡ length (now bodies)) × (0 < length (now bodies)) × Marked (together (now codes) (map now (now bodies))) n ⌝ }
     requires { ⌜ codesRight (now codes) ≡ true ⌝ }
@@ -307,11 +324,14 @@ fn last_answer(codes: &[u16], bodies: &[&[u8]], n: usize) -> u32
     if !has_sizes(codes, bodies, n) {
         return 7;
     }
-    if !has_edition(codes, bodies) {
+    if !has_choice(codes, bodies, 4) {
         return 19;
     }
     if !has_popups(codes, bodies, n) {
         return 21;
+    }
+    if !has_choice(codes, bodies, 7) {
+        return 24;
     }
     if !has_schedule(codes, bodies, n) {
         return 8;
@@ -322,7 +342,7 @@ fn last_answer(codes: &[u16], bodies: &[&[u8]], n: usize) -> u32
     if has_counts(codes, bodies, n) { 0 } else { 23 }
 }
 
-// 4 to 9, with 19, 21 and 23: the first 'no', or 0. The codes are right.
+// 4 to 9, with 19, 21, 23 and 24: the first 'no', or 0. The codes are right.
 pub fn bodies_answer(codes: &[u16], bodies: &[&[u8]]) -> u32
     requires { ⌜ (length (now codes) ≡ length (now bodies)) × (0 < length (now bodies)) × (codesRight (now codes) ≡ true) ⌝ }
     ensures { λ r. ⌜ r ≡ answer (bodyQuestions (together (now (codes .entry)) (map now (now (bodies .entry))))) ⌝ }

@@ -19,8 +19,8 @@ const MOST_MARKS: usize = 4096;
 
 // ---- scheduling
 
-// Writes the sheet of three parts that a sheet's marks give, with parts 4 and 5 where they are there, and part 6 renewed, and answers its length:
-// questions 1 to 9, with 19, 21 and 23, and 13. What the work buffer holds plays no part, and what it is left with after a success is not said.
+// Writes the sheet of three parts that a sheet's marks give, with parts 4, 5 and 7 where they are there, and part 6 renewed, and answers its length:
+// questions 1 to 9, with 19, 21, 23 and 24, and 13. What the work buffer holds plays no part, and what it is left with after a success is not said.
 // The written sheet meets demand 3.
 pub fn schedule(sheet: &[u8], work: &mut [u8], out: &mut [u8]) -> Answer
     ensures { λ r. ⌜ Gives (scheduleJob (now (sheet .entry)) (length (now (work .entry))) (length (now (out .entry)))) (now (out .entry)) r (now (out .exit)) ⌝ }
@@ -36,6 +36,7 @@ pub fn schedule(sheet: &[u8], work: &mut [u8], out: &mut [u8]) -> Answer
     let edition = contents::part(sheet, layout, 4);
     let there = contents::is_there(layout, 5);
     let popups = contents::part(sheet, layout, 5);
+    let shape = contents::part(sheet, layout, 7);
     let n = marks.len() / MARK_SIZE;
     steps::schedule_marks(
         marks,
@@ -44,6 +45,7 @@ pub fn schedule(sheet: &[u8], work: &mut [u8], out: &mut [u8]) -> Answer
         there,
         popups,
         &marks[..0],
+        shape,
         contents::is_there(layout, 6),
         work,
         out,
@@ -70,7 +72,7 @@ fn row_if<'a>(there: bool, row: &'a [u8]) -> &'a [u8]
     &row[..0]
 }
 
-// Schedules a sheet's marks and one more, given by its fields and its popup, behind them, keeps parts 4 and 5 and renews part 6: questions 1 to 10,
+// Schedules a sheet's marks and one more, given by its fields and its popup, behind them, keeps parts 4, 5 and 7 and renews part 6: questions 1 to 10,
 // 18, then 5, 6 and 21 of the new mark, and 13. It is the sheet that scheduling writes for the new marks; the sheet's own schedule plays no part.
 pub fn add(
     sheet: &[u8],
@@ -118,6 +120,7 @@ pub fn add(
     let row = marks::popup_bytes(popup);
     let edition = contents::part(sheet, layout, 4);
     let popups = contents::part(sheet, layout, 5);
+    let shape = contents::part(sheet, layout, 7);
     steps::schedule_marks(
         marks,
         &last,
@@ -125,6 +128,7 @@ pub fn add(
         there,
         popups,
         row_if(there, &row),
+        shape,
         contents::is_there(layout, 6),
         work,
         out,
@@ -132,7 +136,7 @@ pub fn add(
     )
 }
 
-// Schedules a sheet's marks without mark m, whereupon higher numbers drop by one, keeps part 4, and part 5 without m's row, and renews part 6:
+// Schedules a sheet's marks without mark m, whereupon higher numbers drop by one, keeps parts 4 and 7, and part 5 without m's row, and renews part 6:
 // questions 1 to 10, 17 and 13. It is the sheet that scheduling writes for the new marks.
 pub fn take_out(sheet: &[u8], m: u32, work: &mut [u8], out: &mut [u8]) -> Answer
     ensures { λ r. ⌜ Gives (takeOutJob (now (sheet .entry)) m (length (now (work .entry))) (length (now (out .entry)))) (now (out .entry)) r (now (out .exit)) ⌝ }
@@ -153,6 +157,7 @@ pub fn take_out(sheet: &[u8], m: u32, work: &mut [u8], out: &mut [u8]) -> Answer
     let edition = contents::part(sheet, layout, 4);
     let there = contents::is_there(layout, 5);
     let popups = contents::part(sheet, layout, 5);
+    let shape = contents::part(sheet, layout, 7);
     steps::schedule_marks(
         rows::before(marks, MARK_SIZE, gone),
         rows::behind(marks, MARK_SIZE, gone),
@@ -160,6 +165,7 @@ pub fn take_out(sheet: &[u8], m: u32, work: &mut [u8], out: &mut [u8]) -> Answer
         there,
         rows::before(popups, POPUP_SIZE, gone),
         rows::behind(popups, POPUP_SIZE, gone),
+        shape,
         contents::is_there(layout, 6),
         work,
         out,

@@ -78,14 +78,14 @@ module _ (t : ℕ) (s : List ℕ) (n : ℕ) where
     unfolding rankKey rankRadius
     turned-rank edition m h = rw (turned-fields m h .priority, turned-used m h)
 
-    pub turned-touching : (a b : ℕ) → a < n → b < n → touching (turnedMarks t s n) a b ≡ touching s a b
+    pub turned-touching : (shape a b : ℕ) → a < n → b < n → touching shape (turnedMarks t s n) a b ≡ touching shape s a b
     unfolding touching touchingOf
-    turned-touching a b ha hb =
+    turned-touching shape a b ha hb =
         let p = turned-fields a ha in
         let q = turned-fields b hb in
-        rw (p .x, p .y, q .x, q .y, turned-used a ha, turned-used b hb, turned-distance t _ _)
+        rw (p .x, p .y, q .x, q .y, turned-used a ha, turned-used b hb, turned-distance shape t _ _)
 
     -- and so their pair values, with the same popups
-    pub turned-pair : (q : List ℕ) (a b : ℕ) → a < n → b < n → pairValue (turnedMarks t s n) q a b ≡ pairValue s q a b
+    pub turned-pair : (shape : ℕ) (q : List ℕ) (a b : ℕ) → a < n → b < n → pairValue shape (turnedMarks t s n) q a b ≡ pairValue shape s q a b
     unfolding pairValue
-    turned-pair q a b ha hb = rw (turned-touching a b ha hb)
+    turned-pair shape q a b ha hb = rw (turned-touching shape a b ha hb)

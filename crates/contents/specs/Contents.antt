@@ -61,6 +61,10 @@ popupsPart parts = find parts 5
 abbrev pub countsPart : List Part → List ℕ
 countsPart parts = find parts 6
 
+-- 02: "Part 7, one byte, names 1 disk or 2 square"
+abbrev pub shapePart : List Part → List ℕ
+shapePart parts = find parts 7
+
 -- the same parts with this body under this code: in its place where there is such a part, and else where its code belongs
 abbrev pub withPart : ℕ → List ℕ → List Part → List Part
 withPart code body [] = (code holds body) ∷ []
@@ -69,7 +73,7 @@ withPart code body (p ∷ parts) =
 
 -- ---- reading
 
--- "Contents: number of parts (2 bytes, 1 to 3), then per part 10 bytes: code (2), offset (4), length (4)." By 02 there are up to 6 parts.
+-- "Contents: number of parts (2 bytes, 1 to 3), then per part 10 bytes: code (2), offset (4), length (4)." By 02 there are up to 7 parts.
 -- Entries are counted from 0.
 abbrev pub countSize : ℕ
 countSize = 2

@@ -35,11 +35,12 @@ layoutOf s =
       edition = placeBefore s k 4;
       popups = placeBefore s k 5;
       counts = placeBefore s k 6;
+      shape = placeBefore s k 7;
     }
 
 -- 01: "A refused sheet opens with no parts."
 abbrev pub noParts : Layout
-noParts = record { count = 0; marks = nowhere; schedule = nowhere; index = nowhere; edition = nowhere; popups = nowhere; counts = nowhere }
+noParts = record { count = 0; marks = nowhere; schedule = nowhere; index = nowhere; edition = nowhere; popups = nowhere; counts = nowhere; shape = nowhere }
 
 -- where the part of this code lies, by a layout
 abbrev pub placeOf : Layout → ℕ → Extent
@@ -49,7 +50,8 @@ placeOf l code =
     (cond (eqb code 3) (l .index)
     (cond (eqb code 4) (l .edition)
     (cond (eqb code 5) (l .popups)
-    (cond (eqb code 6) (l .counts) nowhere)))))
+    (cond (eqb code 6) (l .counts)
+    (cond (eqb code 7) (l .shape) nowhere))))))
 
 -- Is the part of this code there, by a layout? No body starts at 0, where the contents stand.
 abbrev pub isThere : Layout → ℕ → Bool
@@ -66,6 +68,7 @@ withPlace l code place =
       edition = cond (eqb code 4) place (l .edition);
       popups = cond (eqb code 5) place (l .popups);
       counts = cond (eqb code 6) place (l .counts);
+      shape = cond (eqb code 7) place (l .shape);
     }
 
 -- the bytes there; none where the extent does not lie in the sheet

@@ -10,13 +10,13 @@ use Rattle.contents.specs.Asking.{Question, _asks_, ifThere}
 
 -- the greatest code, and so the most parts that a sheet has: "one part and code more with each code added later"
 abbrev pub topCode : ℕ
-topCode = 6
+topCode = 7
 
--- 1 to 6 parts: 01 has "1 to 3 parts", and by 02 "questions 1 and 2 allow four parts .. (one part and code more with each code added later)"
+-- 1 to 7 parts: 01 has "1 to 3 parts", and by 02 "questions 1 and 2 allow four parts .. (one part and code more with each code added later)"
 abbrev pub isCount : ℕ → Bool
 isCount k = leb 1 k && leb k topCode
 
--- 1. "Are there 2 bytes, 1 to 3 parts, and the whole contents?", by 02 with 1 to 6 parts
+-- 1. "Are there 2 bytes, 1 to 3 parts, and the whole contents?", by 02 with 1 to 7 parts
 unfoldable pub question1 : List ℕ → Bool
 question1 s = leb 2 (length s) && (isCount (countAt s) && leb (contentsSize (countAt s)) (length s))
 

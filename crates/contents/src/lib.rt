@@ -13,7 +13,7 @@ ghost use Rattle.contents.specs.Laid.{Whole, Laid};
 ghost use Rattle.contents.specs.Places.{nowhere, extentAt, layoutOf, noParts, placeOf, withPlace, isThere, cutOf};
 
 // The greatest code of a part, and so the most parts that a sheet has.
-pub const TOP: usize = 6;
+pub const TOP: usize = 7;
 
 // The sizes of the number of parts and of an entry, whose fields are code (2 bytes), offset (4) and length (4).
 pub const COUNT_SIZE: usize = 2;
@@ -64,7 +64,7 @@ pub fn is_count(k: usize) -> bool
     1 <= k && k <= TOP
 }
 
-// 1. Are there 2 bytes, 1 to 6 parts, and the whole contents?
+// 1. Are there 2 bytes, 1 to 7 parts, and the whole contents?
 fn has_contents(s: &[u8]) -> bool
     ensures { λ r. ⌜ r ≡ question1 (now (s .entry)) ⌝ }
 {
@@ -203,6 +203,7 @@ pub struct Layout {
     pub edition: Extent,
     pub popups: Extent,
     pub counts: Extent,
+    pub shape: Extent,
 }
 
 // The place of a part that is not there.
@@ -242,6 +243,7 @@ pub fn no_parts() -> Layout
         edition: none,
         popups: none,
         counts: none,
+        shape: none,
     }
 }
 
@@ -264,6 +266,7 @@ fn with_place(l: Layout, code: u16, place: Extent) -> Layout
         edition: placed(4, code, place, l.edition),
         popups: placed(5, code, place, l.popups),
         counts: placed(6, code, place, l.counts),
+        shape: placed(7, code, place, l.shape),
     }
 }
 
@@ -282,6 +285,7 @@ pub fn layout_of(s: &[u8]) -> Layout
         edition: none,
         popups: none,
         counts: none,
+        shape: none,
     };
     let mut i = 0;
     while i < count {
@@ -302,6 +306,7 @@ pub fn place_of(l: Layout, code: u32) -> Extent
         4 => l.edition,
         5 => l.popups,
         6 => l.counts,
+        7 => l.shape,
         _ => nowhere(),
     }
 }

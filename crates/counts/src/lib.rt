@@ -38,9 +38,9 @@ fn copied(sheet: &[u8], out: &mut [u8]) -> Answer
     }
 }
 
-// Writes an accepted sheet with part 2 and without part 6 anew, with part 6 behind its other parts, and answers the new length: 13 is all that is
-// left to ask. The other bodies keep their bytes and their order, so they are copied in one piece. Their contents are one entry shorter than the new
-// ones.
+// Writes an accepted sheet with part 2 and without part 6 anew, with part 6 before part 7, and answers the new length: 13 is all that is left to
+// ask. The other bodies keep their bytes and their order, so those before part 7 are copied in one piece. Their contents are one entry shorter than
+// the new ones.
 fn put_counted(sheet: &[u8], layout: Layout, out: &mut [u8]) -> Answer
     requires { ⌜ (check (now sheet) ≡ 0) × (layout ≡ layoutOf (now sheet)) ⌝ }
     requires { ⌜ (has (split (now sheet)) 2 ≡ true) × (has (split (now sheet)) 6 ≡ false) ⌝ }
@@ -53,14 +53,18 @@ fn put_counted(sheet: &[u8], layout: Layout, out: &mut [u8]) -> Answer
     let marks = contents::part(sheet, layout, 1);
     let schedule = contents::part(sheet, layout, 2);
     let popups = contents::part(sheet, layout, 5);
+    let shape = contents::part(sheet, layout, 7);
     let n = marks.len() / MARK_SIZE;
     let counts = counting::counts_of(marks, schedule, popups, n);
     let index = contents::is_there(layout, 3);
     let edition = contents::is_there(layout, 4);
     let has_popups = contents::is_there(layout, 5);
-    let start = writing::put_head(out, n, index, edition, has_popups, true);
-    let end = joining::put(out, start, &sheet[start - ENTRY_SIZE..]);
-    joining::put(out, end, &counts);
+    let has_shape = contents::is_there(layout, 7);
+    let start = writing::put_head(out, n, index, edition, has_popups, true, has_shape);
+    let rest = sheet.len() - shape.len();
+    let end = joining::put(out, start, &sheet[start - ENTRY_SIZE..rest]);
+    let last = joining::put(out, end, &counts);
+    joining::put(out, last, shape);
     Answer {
         number: 0,
         value: size as u32,

@@ -1,5 +1,5 @@
 -- To be believed: what marks are, the two rules, the process, the bytes of a schedule, the reel, which decides it, and which marks are alike.
--- To be used: Theorems and Unmoved, for a sheet's marks Sheet and Schedule, for scheduling Settled and RankOrder, and Laws.
+-- Cases names the pair values, disks, squares and popups, under the one theorem. To be used: Theorems and Unmoved, for a sheet's marks Sheet and Schedule, for scheduling Settled and RankOrder, and Laws.
 pub mod Marks
 pub mod Rules
 pub mod Process
@@ -9,6 +9,7 @@ pub mod Alike
 pub mod Settled
 pub mod RankOrder
 pub mod Theorems
+pub mod Cases
 pub mod Sheet
 pub mod Schedule
 pub mod Unmoved

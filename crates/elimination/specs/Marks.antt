@@ -1,5 +1,5 @@
 -- What the process, the rules and uniqueness are stated over: marks of any rank and any symmetric pair value.
--- A sheet's touching values and ranks are one case (Sheet).
+-- Disks, squares and popups are cases (Cases), and so is a sheet (Sheet).
 use Prim.Native.Nat.{ℕ, _<_}
 use mathlib.Core.Path.{_≡_}
 use Rattle.fractions.specs.declared.Fraction.{Fraction}

@@ -12,7 +12,8 @@ use Rattle.fractions.specs.declared.Value.the-variants.{At}
 use Rattle.fractions.specs.Order.{AtMost, Later, Equal, Small}
 use Rattle.fractions.specs.Laws.{atMost-trans}
 use Rattle.marks.specs.Pairs.{popupAt, popupValue}
-use Rattle.marks.specs.PairLaws.{larger-least, popup-grows, pairs-positive, pairs-small, pairs-popup}
+use Rattle.marks.specs.Laws.{larger-least}
+use Rattle.marks.specs.PairLaws.{popup-grows, pairs-positive, pairs-small, pairs-popup}
 use Rattle.elimination.specs.declared.Record.{Record}
 use Rattle.elimination.specs.Process.{Removal, stays, gone, when, process}
 use Rattle.elimination.specs.Records.{recordSize, recordBytes, valueAt, Reads, removalRecord, records}
@@ -51,8 +52,8 @@ module _ (r : Reel) (right : GoodReel r) where
   gone-small i g f h e =
       let x = process-eliminator (marksOf r) (sheet-proper r (good .few)) i g f h e in (
         subst Small (sym (x .exact))
-            (pairs-small s q g i bytes (good .each g (x .inside) .used) (good .each i h .used) (popped .each g (x .inside)) (popped .each i h)),
-        rw (x .exact) (pairs-positive s q g i),
+            (pairs-small (r .shape) s q g i bytes (good .each g (x .inside) .used) (good .each i h .used) (popped .each g (x .inside)) (popped .each i h)),
+        rw (x .exact) (pairs-positive (r .shape) s q g i),
       )
 
   -- Nobody is removed before it pops up.
@@ -60,7 +61,7 @@ module _ (r : Reel) (right : GoodReel r) where
   popped-before i g f h e =
       let x = process-eliminator (marksOf r) (sheet-proper r (good .few)) i g f h e in
       subst (AtMost (popupValue (popupAt q i))) (sym (x .exact))
-      (atMost-trans (omega arith) (popup-grows (larger-least (popupAt q g) (popupAt q i) .1)) (pairs-popup s q g i))
+      (atMost-trans (omega arith) (popup-grows (larger-least (popupAt q g) (popupAt q i) .1)) (pairs-popup (r .shape) s q g i))
 
   -- a removal of the process fits its record's fields
   process-fits : (i : ℕ) → i < n → Fits (process (marksOf r) i)

@@ -25,11 +25,11 @@ alike-schedule r q like =
 
 -- Popups that are all 0 are as none: the schedule is the same, byte for byte.
 pub unpopped-schedule : (r : Reel) → ((m : ℕ) → m < r .count → popupAt (r .popups) m ≡ 0)
-    → scheduleOf r ≡ scheduleOf (record { marks = r .marks; count = r .count; edition = r .edition; popups = [] })
+    → scheduleOf r ≡ scheduleOf (record { marks = r .marks; count = r .count; edition = r .edition; shape = r .shape; popups = [] })
 unpopped-schedule r none =
     alike-schedule r _
     (record {
       counts = refl;
       ranks = λ i j hi hj. ((λ l. l), (λ l. l));
-      values = λ i j hi hj. pairs-none (r .marks) (r .popups) i j (none i hi) (none j hj) ∙ sym (without-popups (r .marks) i j);
+      values = λ i j hi hj. pairs-none (r .shape) (r .marks) (r .popups) i j (none i hi) (none j hj) ∙ sym (without-popups (r .shape) (r .marks) i j);
     })

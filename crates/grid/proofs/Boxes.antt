@@ -99,25 +99,25 @@ difference-shifted (negsuc a) (pos zero) = omega (arith, sub-difference 0 (suc a
 difference-shifted (negsuc a) (pos (suc b)) = omega arith
 difference-shifted (negsuc a) (negsuc b) = omega (arith, sub-difference (suc b) (suc a))
 
-pub off-box : {w : List ℕ} {at c a b g h : ℕ} → AwayFrom a (tableAt w at (westFrom + c)) (tableAt w at (eastFrom + c)) g
-    → AwayFrom b (tableAt w at (southFrom + c)) (tableAt w at (northFrom + c)) h → OffBox w at c a b (distance g h)
-off-box p q =
+pub off-box : (shape : ℕ) {w : List ℕ} {at c a b g h : ℕ} → AwayFrom a (tableAt w at (westFrom + c)) (tableAt w at (eastFrom + c)) g
+    → AwayFrom b (tableAt w at (southFrom + c)) (tableAt w at (northFrom + c)) h → OffBox shape w at c a b (distance shape g h)
+off-box shape p q =
     record {
-      small = distance-bound (p .small) (q .small);
-      least = λ u v s k. distance-grows (p .least u (k .west) (k .east)) (q .least v (k .south) (k .north));
+      small = distance-bound shape (p .small) (q .small);
+      least = λ u v s k. distance-grows shape (p .least u (k .west) (k .east)) (q .least v (k .south) (k .north));
     }
 
-pub bound-is : {w : List ℕ} {at c : ℕ} (a : Label) {d radius : ℕ} → radius ≡ widestAt w at c → radius ≤ 16383 → a .radius ≤ 16383
-    → OffBox w at c (shifted (a .x)) (shifted (a .y)) d
-    → Bound w at c a (record { num = d; den = (radius + a .radius) * (radius + a .radius) })
+pub bound-is : (shape : ℕ) {w : List ℕ} {at c : ℕ} (a : Label) {d radius : ℕ} → radius ≡ widestAt w at c → radius ≤ 16383 → a .radius ≤ 16383
+    → OffBox shape w at c (shifted (a .x)) (shifted (a .y)) d
+    → Bound shape w at c a (record { num = d; den = (radius + a .radius) * (radius + a .radius) })
 unfolding touchingOf
-bound-is {w} {at} {c} a {d} {radius} e hs hr o =
+bound-is shape {w} {at} {c} a {d} {radius} e hs hr o =
     record {
       small = (let k : radius + a .radius ≤ 32766 = omega arith in record { num-small = o .small; den-small = omega (arith, mul-le-mul k k) });
       least = λ b k.
           let l : b .radius + a .radius ≤ radius + a .radius = omega (arith, k .radius) in
           let far = o .least (shifted (b .x)) (shifted (b .y)) (b .radius) k in
-          let grows = distance-grows (difference-shifted (b .x) (a .x)) (difference-shifted (b .y) (a .y)) in
-          let n : d ≤ distance (apart (b .x) (a .x)) (apart (b .y) (a .y)) = omega (arith, far, grows) in
+          let grows = distance-grows shape (difference-shifted (b .x) (a .x)) (difference-shifted (b .y) (a .y)) in
+          let n : d ≤ distance shape (apart (b .x) (a .x)) (apart (b .y) (a .y)) = omega (arith, far, grows) in
           record { cross = mul-le-mul n (mul-le-mul l l) };
     }

@@ -56,12 +56,12 @@ pub record AwayFrom (a low high r : ℕ) : Type 0 where
   pub small : r ≤ 65535
   pub least : (b : ℕ) → 65535 ≤ low + b → b ≤ high → r ≤ absDiff b a
 
--- the distance of the shifted place (a, b) from every place in the box of cell c is at least d
-pub record OffBox (w : List ℕ) (at c a b d : ℕ) : Type 0 where
+-- by this shape, the distance of the shifted place (a, b) from every place in the box of cell c is at least d
+pub record OffBox (shape : ℕ) (w : List ℕ) (at c a b d : ℕ) : Type 0 where
   pub small : d ≤ 8589672450
-  pub least : (u v s : ℕ) → Boxed w at c u v s → d ≤ distance (absDiff u a) (absDiff v b)
+  pub least : (u v s : ℕ) → Boxed w at c u v s → d ≤ distance shape (absDiff u a) (absDiff v b)
 
 -- no label that cell c may hold has a touching value below f with the label a
-pub record Bound (w : List ℕ) (at c : ℕ) (a : Label) (f : Fraction) : Type 0 where
+pub record Bound (shape : ℕ) (w : List ℕ) (at c : ℕ) (a : Label) (f : Fraction) : Type 0 where
   pub small : Small f
-  pub least : (b : Label) → Inside w at c b → AtMost f (touchingOf b a)
+  pub least : (b : Label) → Inside w at c b → AtMost f (touchingOf shape b a)

@@ -158,22 +158,29 @@ fn away_from(a: u16, low: u16, high: u16) -> i32
     0
 }
 
-// The distance of the shifted place x, y from the box of cell c.
-fn off_box(w: &[u8], at: usize, c: usize, x: u16, y: u16) -> u64
+// The distance of the shifted place x, y from the box of cell c, by the shape of the labels.
+fn off_box(w: &[u8], at: usize, c: usize, shape: u8, x: u16, y: u16) -> u64
     requires { ⌜ (c < cellCount) × (at + tableSize ≤ length (now w)) ⌝ }
-    ensures { λ d. ⌜ OffBox (now (w .entry)) at c x y d ⌝ }
+    ensures { λ d. ⌜ OffBox shape (now (w .entry)) at c x y d ⌝ }
 {
     let dx = away_from(x, get(w, at, WEST + c), get(w, at, EAST + c));
     let dy = away_from(y, get(w, at, SOUTH + c), get(w, at, NORTH + c));
-    marks::distance(dx, dy)
+    marks::distance(shape, dx, dy)
 }
 
 // The touching value of a label and one at the nearest place of the box of cell c, with its largest radius.
-pub fn bound(w: &[u8], at: usize, c: usize, label: Label) -> Fraction
+pub fn bound(w: &[u8], at: usize, c: usize, shape: u8, label: Label) -> Fraction
     requires { ⌜ (c < cellCount) × (at + tableSize ≤ length (now w)) × (label .radius ≤ 16383) × (widestAt (now w) at c ≤ 16383) ⌝ }
-    ensures { λ f. ⌜ Bound (now (w .entry)) at c label f ⌝ }
+    ensures { λ f. ⌜ Bound shape (now (w .entry)) at c label f ⌝ }
 {
-    let num = off_box(w, at, c, marks::shifted(label.x), marks::shifted(label.y));
+    let num = off_box(
+        w,
+        at,
+        c,
+        shape,
+        marks::shifted(label.x),
+        marks::shifted(label.y),
+    );
     let radii = get(w, at, RADII + c) as u32 + label.radius as u32;
     let den = radii * radii;
     Fraction { num: num, den: den }

@@ -20,7 +20,7 @@ use Rattle.marks.specs.Good.{GoodMarks}
 use Rattle.marks.specs.Fields.{FieldsFit}
 use Rattle.marks.specs.Pairs.{popupSize, popupAt}
 use Rattle.marks.specs.PairLaws.{popup-none}
-use Rattle.contents.specs.Contents.{Part, has, split, marksPart, editionPart, popupsPart}
+use Rattle.contents.specs.Contents.{Part, has, split, marksPart, editionPart, popupsPart, shapePart}
 use Rattle.contents.specs.Asking.{answer}
 use Rattle.contents.specs.Laws.{Numbered, numbered-append, none-asked, asked-iff, append-iff, find-none, find-bytes}
 use Rattle.bodies.specs.Questions.{markCount, fieldQuestions, isPopup, isPopups}
@@ -264,7 +264,7 @@ module _ (s : List ℕ) (mark : Mark) (k : ℕ) (bytes : Bytes s) (fit : FieldsF
       ap (λ (l : List Part). carried l (λ q. takenOutPopup q n)) new-parts
       ∙ carried-beside (more s mark k) counted (newCounts (added held mark) (more s mark k)) (λ q. takenOutPopup q n)
       ∙ ap (λ (l : List Part). carried l (λ q. takenOutPopup q n)) (carried-is s ok (λ q. addedPopup q k))
-      ∙ carried-from e (has (split s) 5) (addedPopup p k) (λ q. takenOutPopup q n)
+      ∙ carried-from e (has (split s) 5) (addedPopup p k) (shapePart (split s)) (λ q. takenOutPopup q n)
       ∙ by-cases (has (split s) 5)
       (λ there. rw (added-popup-taken p n (right s mark k bytes fit asked there .0) k) (sym (carried-is s ok (λ q. q))))
       (λ none. rw none (sym (rw none at (carried-is s ok (λ q. q)))))

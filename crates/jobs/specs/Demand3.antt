@@ -17,8 +17,8 @@ use Rattle.elimination.specs.Reel.{marksOf, scheduleOf}
 use Rattle.elimination.specs.Rules.{FirstRule, SecondRule, AllSound}
 use Rattle.contents.specs.Contents.{Part, has, split, marksPart, schedulePart, popupsPart}
 use Rattle.contents.specs.Asking.{answer}
-use Rattle.bodies.specs.Questions.{markCount, editionOf, reelFrom, reelOf}
-use Rattle.sheet.specs.Questions.{sheetCount, check}
+use Rattle.bodies.specs.Questions.{markCount, editionOf, shapeOf, reelFrom, reelOf}
+use Rattle.sheet.specs.Questions.{sheetCount, sheetShape, check}
 use Rattle.bitmap.specs.Map.{countShown}
 use Rattle.bitmap.specs.Facts.{Shows}
 use Rattle.zoom.specs.declared.Zoom.{Zoom}
@@ -52,9 +52,9 @@ KeepsRules s list = FirstRule (sheetMarks s) list × SecondRule (sheetMarks s) l
 abbrev pub shownBy : List ℕ → Window → Zoom → (ℕ → Value) → ℕ → Bool
 shownBy s e zoom list m =
     let k = scale (scaleOf zoom) in
-    lives (list m) (popupsPart (split s)) k m && reaches (marksPart (split s)) k e m
+    lives (list m) (popupsPart (split s)) k m && reaches (sheetShape s) (marksPart (split s)) k e m
 
--- The map shows exactly the marks that the list has living and whose disk reaches the rectangle, its unused bits are 0, and the count is
+-- The map shows exactly the marks that the list has living and whose label reaches the rectangle, its unused bits are 0, and the count is
 -- their number.
 pub record ShowsLiving (s : List ℕ) (e : Window) (zoom : Zoom) (list : ℕ → Value) (map : List ℕ) (count : ℕ) : Type 0 where
   pub bits : Shows (shownBy s e zoom list) (sheetCount s) map
@@ -86,9 +86,9 @@ pub record Meets (marks : List ℕ) (kept : List Part) (counted : Bool) (r : Ans
       → take (r .value) out ≡ scheduled g
   pub demand3 : r .number ≡ 0 → Demand3 (take (r .value) out)
   -- 02, request 9: "a popup fraction is kept only where it exceeds the touching value". So all k = 0 gives the part 2 of no part 5: that of the
-  -- same marks and edition without popups.
+  -- same marks, edition and shape without popups.
   pub unpopped : r .number ≡ 0 → ((m : ℕ) → m < markCount marks → popupAt (popupsPart kept) m ≡ 0)
-      → schedulePart (split (take (r .value) out)) ≡ scheduleOf (reelFrom (editionOf kept) [] marks)
+      → schedulePart (split (take (r .value) out)) ≡ scheduleOf (reelFrom (editionOf kept) (shapeOf kept) [] marks)
   -- "it isn't there while 64z is below k": nobody is removed before it pops up. Each removal value is at least the mark's own k²/4096.
   pub popped : r .number ≡ 0 → (m : ℕ) → m < markCount marks → (f : Fraction) → sheetValue (take (r .value) out) m ≡ At f
       → AtMost (popupValue (popupAt (popupsPart kept) m)) f

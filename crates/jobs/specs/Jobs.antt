@@ -17,13 +17,13 @@ use Rattle.contents.specs.Contents.{Part, _holds_, bodiesOf, find, has, split, 
 use Rattle.contents.specs.Questions.{isCount, codesRight}
 use Rattle.contents.specs.Asking.{Question, _asks_, answer}
 use Rattle.columns.specs.Columns.{toColumns, fromColumns}
-use Rattle.bodies.specs.Questions.{question4, markCount, countOf, editionOf, reelFrom, reelOf, fieldQuestions, isPopup}
+use Rattle.bodies.specs.Questions.{question4, markCount, countOf, editionOf, shapeOf, reelFrom, reelOf, fieldQuestions, isPopup}
 use Rattle.judging.specs.Judge.{judgeSchedule}
 use Rattle.changing.specs.Changing.{added, takenOut, addedPopup, takenOutPopup}
 use Rattle.filling.specs.Filling.{filled, fillQuestions}
 use Rattle.logs.specs.Log.{logRecordSize, recordCount, marksOfLog, logOfMarks}
 use Rattle.logs.specs.Questions.{logQuestions, marksQuestions}
-use Rattle.sheet.specs.Questions.{sheetCount, checkQuestions, check, indexedQuestions, partsQuestions}
+use Rattle.sheet.specs.Questions.{sheetCount, sheetShape, checkQuestions, check, indexedQuestions, partsQuestions}
 use Rattle.zoom.specs.declared.Zoom.{Zoom}
 use Rattle.zoom.specs.Zoom.{scaleOf, scale}
 use Rattle.view.specs.declared.Window.{Window}
@@ -60,22 +60,26 @@ checkJob s = outcome (checkQuestions s) 0 []
 
 -- ---- scheduling
 
+-- a part of this code, where it is there
+abbrev pub partIf : Bool → ℕ → List ℕ → List Part
+partIf there code body = cond there ((code holds body) ∷ []) []
+
 -- the part of this code, where there is one
 abbrev pub keep : ℕ → List Part → List Part
-keep code parts = cond (has parts code) ((code holds find parts code) ∷ []) []
+keep code parts = partIf (has parts code) code (find parts code)
 
--- 02, request 6: "Scheduling, adding and taking out keep part 4"; request 9: they "carry part 5 along". The parts that are kept, beside the
--- marks, with this change to part 5, where it is there.
+-- 02, request 6: "Scheduling, adding and taking out keep part 4"; request 9: they "carry part 5 along"; request 13: part 7 "travels with the
+-- sheet as part 4 does". The parts that are kept, beside the marks, with this change to part 5, where it is there.
 abbrev pub carried : List Part → (List ℕ → List ℕ) → List Part
-carried parts change = keep 4 parts ++ cond (has parts 5) ((5 holds change (popupsPart parts)) ∷ []) []
+carried parts change = keep 4 parts ++ (partIf (has parts 5) 5 (change (popupsPart parts)) ++ keep 7 parts)
 
 abbrev pub keptParts : List Part → List Part
 keptParts parts = carried parts (λ q. q)
 
--- the parts that scheduling writes for these marks, with parts that are kept: "the marks copied unchanged", their schedule by the edition and
--- the popups that are kept, their index, and what is kept
+-- the parts that scheduling writes for these marks, with parts that are kept: "the marks copied unchanged", their schedule by the edition,
+-- the shape and the popups that are kept, their index, and what is kept
 abbrev pub newSchedule : List ℕ → List Part → List ℕ
-newSchedule marks kept = scheduleOf (reelFrom (editionOf kept) (popupsPart kept) marks)
+newSchedule marks kept = scheduleOf (reelFrom (editionOf kept) (shapeOf kept) (popupsPart kept) marks)
 
 abbrev pub newIndex : List ℕ → List Part → List ℕ
 newIndex marks kept = indexBytes (indexOf marks (newSchedule marks kept) (markCount marks))
@@ -251,7 +255,7 @@ fromColumnsJob c room = outcome (columnQuestions c room) (markSize * markCount c
 
 -- the marks that a view of an accepted sheet shows
 unfoldable pub shownIn : List ℕ → Window → Zoom → ℕ → Bool
-shownIn s e zoom = shown (marksPart (split s)) (schedulePart (split s)) (popupsPart (split s)) (scale (scaleOf zoom)) e
+shownIn s e zoom = shown (sheetShape s) (marksPart (split s)) (schedulePart (split s)) (popupsPart (split s)) (scale (scaleOf zoom)) e
 
 unfoldable pub viewJob : List ℕ → Window → Zoom → ℕ → Outcome
 viewJob s e zoom room =

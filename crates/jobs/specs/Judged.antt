@@ -25,7 +25,7 @@ use Rattle.jobs.specs.Answers.{answerOf}
 use Rattle.jobs.specs.Jobs.{keptParts, withCounts, newSchedule, newIndex, newCounts, newParts, scheduled, ScheduledHere, question22, judgeQuestions, judgeJob}
 use Rattle.jobs.specs.Demand3.{Demand3}
 use Rattle.jobs.specs.Laws.Outcomes.{outcome-number}
-use Rattle.jobs.specs.Laws.Kept.{kept-edition, kept-popups, kept-whole}
+use Rattle.jobs.specs.Laws.Kept.{kept-edition, kept-shape, kept-popups, kept-whole}
 use Rattle.jobs.specs.Theorems.{good-reel, schedule-is, here-indexed, demand3}
 
 -- ---- what is said
@@ -59,7 +59,7 @@ module _ (s : List ℕ) (bytes : Bytes s) (ok : answer (indexedQuestions s) ≡ 
 
   module _ (is : schedulePart (split s) ≡ scheduleOf (reelOf (split s))) where
     schedule-new : schedulePart (split s) ≡ newSchedule (marksPart (split s)) (keptParts (split s))
-    schedule-new = is ∙ rw (kept-edition (split s), kept-popups (split s))
+    schedule-new = is ∙ rw (kept-edition (split s), kept-shape (split s), kept-popups (split s))
 
     index-new : indexPart (split s) ≡ newIndex (marksPart (split s)) (keptParts (split s))
     index-new =

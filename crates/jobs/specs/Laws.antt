@@ -2,6 +2,7 @@
 pub mod Given
 pub mod Outcomes
 pub mod Rooms
+pub mod Listed
 pub mod Kept
 pub mod Filling
 pub mod Logs

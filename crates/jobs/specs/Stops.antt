@@ -13,7 +13,7 @@ use lib.Ieee.Exact.{HasValue}
 use Rattle.contents.specs.Contents.{split}
 use Rattle.contents.specs.Asking.{Question, _asks_, answer}
 use Rattle.contents.specs.Laws.{append-yes, append-iff}
-use Rattle.sheet.specs.Questions.{sheetCount, check, question10, indexedQuestions}
+use Rattle.sheet.specs.Questions.{sheetCount, sheetShape, check, question10, indexedQuestions}
 use Rattle.sheet.specs.Laws.{indexed-numbered, indexed-iff}
 use Rattle.bitmap.specs.Map.{mapSize, mapBytes, countShown}
 use Rattle.zoom.specs.declared.Zoom.the-variants.{Stop, Wheel}
@@ -40,7 +40,7 @@ pub record MeetsStop (s : List ℕ) (e : Window) (stop : ℕ) (before : List ℕ
   pub same : stop ≤ 16 → (w : Float) → SameZoom stop w → Gives (viewJob s e (Wheel w) (length before)) before r map
   -- any other stop is refused, and by 12 where questions 1 to 11 and 20 are answered with yes
   pub other : 16 < stop → 0 < r .number
-  pub twelve : 16 < stop → check s ≡ 0 → question10 (split s) ≡ true → question20 e ≡ true → question11 e ≡ true → r ≡ refusal 12
+  pub twelve : 16 < stop → check s ≡ 0 → question10 (split s) ≡ true → question20 (sheetShape s) e ≡ true → question11 e ≡ true → r ≡ refusal 12
 
 -- ---- over the jobs
 
@@ -64,19 +64,19 @@ module _ (s : List ℕ) (e : Window) (stop room : ℕ) where
 
   abbrev last : List Question
   last =
-      (20 asks question20 e)
+      (20 asks question20 (sheetShape s) e)
       ∷ (11 asks question11 e)
       ∷ (12 asks isTaken (scaleOf (Stop stop)))
       ∷ (13 asks leb (mapSize (sheetCount s)) room)
       ∷ []
 
   module _ (beyond : 16 < stop) where
-    last-no : answer last ≡ firstNo (question20 e) (question11 e)
+    last-no : answer last ≡ firstNo (question20 (sheetShape s) e) (question11 e)
     unfolding answer scaleOf
     last-no = rw (stop-refused stop beyond)
 
     -- "any other stop gets 12"
-    pub other-stop : check s ≡ 0 → question10 (split s) ≡ true → question20 e ≡ true → question11 e ≡ true
+    pub other-stop : check s ≡ 0 → question10 (split s) ≡ true → question20 (sheetShape s) e ≡ true → question11 e ≡ true
         → viewJob s e (Stop stop) room ≡ record { number = 12; value = 0; written = [] }
     unfolding viewJob viewQuestions
     other-stop ok there taken right =
@@ -92,7 +92,7 @@ module _ (s : List ℕ) (e : Window) (stop room : ℕ) where
           | yes l ↦ l
           | no l ↦
               (let none = append-iff (indexedQuestions s) last (indexed-numbered s) .0 (omega arith) .1 in
-              absurd (omega (arith, none, last-no, some-no (question20 e) (question11 e))))
+              absurd (omega (arith, none, last-no, some-no (question20 (sheetShape s) e) (question11 e))))
         ])
 
 -- ---- and so of what the call answers and leaves

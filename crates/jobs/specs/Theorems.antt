@@ -26,7 +26,7 @@ use Rattle.contents.specs.Contents.{Part, _holds_, codesOf, bodiesOf, countAt, 
 use Rattle.contents.specs.Asking.{Question, answer}
 use Rattle.contents.specs.Laws.{Numbered, asked-iff, append-iff, count-iff, split-length, split-join, join-bytes, together-parts}
 use Rattle.contents.specs.Questions.{isCount, codesRight}
-use Rattle.bodies.specs.Questions.{markCount, editionOf, reelFrom, reelOf}
+use Rattle.bodies.specs.Questions.{markCount, editionOf, shapeOf, reelFrom, reelOf}
 use Rattle.bodies.specs.Fitting.{Fitting}
 use Rattle.bodies.specs.Laws.{fitting-writable, popups-good}
 use Rattle.sheet.specs.Questions.{sheetCount, checkQuestions, check, indexedQuestions, question10}
@@ -49,7 +49,7 @@ use Rattle.jobs.specs.Parts.{Joins}
 use Rattle.jobs.specs.Demand3.{sheetValue, IsList, KeepsRules, shownBy, ShowsLiving, Demand3, Meets, MeetsView}
 use Rattle.jobs.specs.Laws.Given.{together-take, together-named}
 use Rattle.jobs.specs.Laws.Outcomes.{outcome-yes, outcome-number, all-yes, kept-bytes}
-use Rattle.jobs.specs.Laws.Kept.{KeptRight, kept-right, alone-fits, kept-beside, kept-edition, kept-popups, counts-there}
+use Rattle.jobs.specs.Laws.Kept.{KeptRight, kept-right, alone-fits, kept-beside, kept-edition, kept-shape, kept-popups, counts-there}
 use Rattle.jobs.specs.Laws.Walking.{map-iff, map-asked, map-taken, walks-all}
 use Rattle.jobs.specs.Laws.Scheduling.{sheet-long, there-room, room-asked, checks-passed}
 use Rattle.jobs.specs.Lemmas.Scheduled.{later-same, new-fitting, new-bytes, good, marks-long, marks-bytes}
@@ -167,10 +167,10 @@ module _ (marks : List ℕ) (kept : List Part) (counted : Bool) (pass : Pass mar
 
   -- 02, request 9: its schedule, where all popups are 0, and each removal value against the mark's own popup
   abbrev reel : Reel
-  reel = reelFrom (editionOf kept) (popupsPart kept) marks
+  reel = reelFrom (editionOf kept) (shapeOf kept) (popupsPart kept) marks
 
   pub from-unpopped : ((m : ℕ) → m < markCount marks → popupAt (popupsPart kept) m ≡ 0)
-      → schedulePart (split sheet) ≡ scheduleOf (reelFrom (editionOf kept) [] marks)
+      → schedulePart (split sheet) ≡ scheduleOf (reelFrom (editionOf kept) (shapeOf kept) [] marks)
   from-unpopped none = ap schedulePart from-parts ∙ unpopped-schedule reel none
 
   pub from-popped : (m : ℕ) → m < markCount marks → (f : Fraction) → sheetValue sheet m ≡ At f
@@ -328,9 +328,12 @@ module _ (s : List ℕ) (here : ScheduledHere s) where
       ap (λ (l : List Part). has l 6) parts
       ∙ counts-there (keptParts (split g)) (has (split g) 6) (newCounts (marksPart (split g)) (keptParts (split g))) (right-kept .no-counts)
 
-  -- The edition and the popups that are kept are its own.
+  -- The edition, the shape and the popups that are kept are its own.
   pub here-edition : editionOf (keptParts (split s)) ≡ editionOf (split s)
   here-edition = kept-edition (split s)
+
+  pub here-shape : shapeOf (keptParts (split s)) ≡ shapeOf (split s)
+  here-shape = kept-shape (split s)
 
   part1-good : GoodMarks (marksPart (split s)) (sheetCount s)
   part1-good = rw parts (good g bytes accepted)
@@ -354,7 +357,7 @@ module _ (s : List ℕ) (here : ScheduledHere s) where
   pub schedule-is : schedulePart (split s) ≡ scheduleOf (reelOf (split s))
   schedule-is =
       ap schedulePart parts
-      ∙ rw (← others-kept, ← part1-kept, kept-edition (split s), kept-popups (split s))
+      ∙ rw (← others-kept, ← part1-kept, kept-edition (split s), kept-shape (split s), kept-popups (split s))
 
   pub here-indexed : answer (indexedQuestions s) ≡ 0
   unfolding question10

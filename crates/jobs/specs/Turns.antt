@@ -1,9 +1,11 @@
 -- 02, request 8: "For a sheet scheduled here, scheduling the turned marks, where they fit 01's range, with the sheet's parts beyond 3 carried
--- along, and viewing without a turn gives the same map." Over the jobs and bytes; the contracts of the views cite it. Assumes nothing.
+-- along, and viewing without a turn gives the same map." Request 13: "Squares take no turn but 0, so the guarantee on turned marks is for disks."
+-- Over the jobs and bytes; the contracts of the views cite it. Assumes nothing.
 use Prim.Native.Nat.{ℕ, _<_, _≤_}
 use mathlib.Core.Path.{_≡_, refl, sym, ap, _∙_}
 use mathlib.Core.Bool.{Bool, false}
 use mathlib.Core.List.{List, [], _∷_}
+use mathlib.Core.Logic.{_≢_}
 use native.Mathlib.Omega.{arith}
 use borrow.Author.Tests.{le-leb}
 use lib.Dec.{leb}
@@ -16,21 +18,21 @@ use Rattle.changing.specs.Turned.{turnedAt, turnedMarks, TurnedFit}
 use Rattle.changing.specs.TurnedLaws.{turned-length, turned-bytes, turned-fields, turned-used, turned-good, turned-rank, turned-pair}
 use Rattle.contents.specs.Contents.{Part, _holds_, split, join, marksPart, schedulePart, popupsPart}
 use Rattle.contents.specs.Asking.{Question, _asks_, answer}
-use Rattle.bodies.specs.Questions.{markCount, editionOf, reelFrom}
-use Rattle.sheet.specs.Questions.{sheetCount, check}
+use Rattle.bodies.specs.Questions.{markCount, editionOf, shapeOf, reelFrom}
+use Rattle.sheet.specs.Questions.{sheetCount, sheetShape, check}
 use Rattle.zoom.specs.declared.Zoom.{Zoom}
 use Rattle.zoom.specs.Zoom.{scaleOf}
 use Rattle.bitmap.specs.Map.{mapSize}
 use Rattle.bitmap.specs.Laws.{map-same, count-same}
 use Rattle.view.specs.declared.Window.{Window}
 use Rattle.view.specs.Shown.{reaches, shown}
-use Rattle.view.specs.Laws.{view-asked}
-use Rattle.view.specs.Questions.{question20, question11, isTaken, viewQuestions}
+use Rattle.view.specs.Laws.{view-asked, disks-taken}
+use Rattle.view.specs.Questions.{isWindow, question20, question11, isTaken, viewQuestions}
 use Rattle.jobs.specs.declared.Answer.{Answer}
 use Rattle.jobs.specs.Jobs.{keptParts, newParts, scheduledFrom, scheduled, ScheduledHere, shownIn, viewJob}
 use Rattle.jobs.specs.Answers.{Gives}
-use Rattle.jobs.specs.Laws.Kept.{kept-popups}
-use Rattle.jobs.specs.Theorems.{Pass, alone-accepted, alone-scheduled, from-here, from-parts, here-pass, here-indexed, here-edition, schedule-is}
+use Rattle.jobs.specs.Laws.Kept.{kept-popups, kept-shape}
+use Rattle.jobs.specs.Theorems.{Pass, alone-accepted, alone-scheduled, from-here, from-parts, here-pass, here-indexed, here-edition, here-shape, schedule-is}
 use Rattle.jobs.specs.Laws.Outcomes.{outcome-same}
 
 -- ---- what is said
@@ -49,7 +51,7 @@ unturned e = record { x0 = e .x0; x1 = e .x1; y0 = e .y0; y1 = e .y1; turn = 0 }
 -- refusals too.
 pub record MeetsTurn (s : List ℕ) (e : Window) (zoom : Zoom) (before : List ℕ) (r : Answer) (map : List ℕ) : Type 0 where
   pub accepted : ScheduledHere s → TurnedFit (e .turn) (marksPart (split s)) (sheetCount s) → check (turnedSheet (e .turn) s) ≡ 0
-  pub same : ScheduledHere s → TurnedFit (e .turn) (marksPart (split s)) (sheetCount s) → e .turn ≤ 3
+  pub same : ScheduledHere s → sheetShape s ≢ 2 → TurnedFit (e .turn) (marksPart (split s)) (sheetCount s) → e .turn ≤ 3
       → Gives (viewJob (scheduled (turnedSheet (e .turn) s)) (unturned e) zoom (length before)) before r map
 
 -- ---- over the jobs
@@ -99,37 +101,46 @@ module _ (s : List ℕ) (here : ScheduledHere s) (t : ℕ) (fit : TurnedFit t (m
   same-count = ap markCount other-marks ∙ turned-count
 
   -- "The process sees only ranks and pair values", and these a turn keeps.
-  alike : (edition : ℕ) (popups : List ℕ) → Alike (marksOf (reelFrom edition popups marks)) (marksOf (reelFrom edition popups turned))
-  alike edition popups =
+  alike : (edition shape : ℕ) (popups : List ℕ) → Alike (marksOf (reelFrom edition shape popups marks)) (marksOf (reelFrom edition shape popups turned))
+  alike edition shape popups =
       record {
         counts = sym turned-count;
         ranks = λ i j hi hj.
             rw (turned-rank t marks (sheetCount s) (pass .bytes) fit edition i hi, turned-rank t marks (sheetCount s) (pass .bytes) fit edition j hj)
             ((λ l. l), (λ l. l));
-        values = λ i j hi hj. sym (turned-pair t marks (sheetCount s) (pass .bytes) fit popups i j hi hj);
+        values = λ i j hi hj. sym (turned-pair t marks (sheetCount s) (pass .bytes) fit shape popups i j hi hj);
       }
 
   same-popups : popupsPart (split other) ≡ popupsPart (split s)
   same-popups = ap popupsPart other-parts ∙ kept-popups (split s)
 
+  same-shape : sheetShape other ≡ sheetShape s
+  same-shape = ap shapeOf other-parts ∙ kept-shape (split s)
+
   same-schedule : schedulePart (split other) ≡ schedulePart (split s)
   same-schedule =
       let edition = editionOf kept in
+      let shape = shapeOf kept in
       let popups = popupsPart kept in
-      ap schedulePart other-parts ∙ sym (alike-schedule (reelFrom edition popups marks) (reelFrom edition popups turned) (alike edition popups))
-      ∙ rw (here-edition s here, kept-popups (split s)) (sym (schedule-is s here))
+      ap schedulePart other-parts ∙ sym (alike-schedule (reelFrom edition shape popups marks) (reelFrom edition shape popups turned) (alike edition shape popups))
+      ∙ rw (here-edition s here, here-shape s here, kept-popups (split s)) (sym (schedule-is s here))
 
   module _ (e : Window) (is : e .turn ≡ t) (zoom : Zoom) (room : ℕ) where
     same-shown : (m : ℕ) → m < sheetCount s → shownIn s e zoom m ≡ shownIn other (unturned e) zoom m
     unfolding shownIn shown reaches
     same-shown m h =
         let has = turned-fields t marks (sheetCount s) (pass .bytes) fit m h in
-        rw (same-schedule, same-popups, other-marks, is, has .x, has .y, turned-used t marks (sheetCount s) (pass .bytes) fit m h, turned-0 (turnedAt t marks m))
+        rw (same-shape, same-schedule, same-popups, other-marks, is, has .x, has .y, turned-used t marks (sheetCount s) (pass .bytes) fit m h, turned-0 (turnedAt t marks m))
 
-    module _ (few : t ≤ 3) where
-      same-window : question20 e ≡ question20 (unturned e)
-      unfolding question20
-      same-window = rw (is, le-leb t 3 few)
+    module _ (disks : sheetShape s ≢ 2) (few : t ≤ 3) where
+      window-there : isWindow e ≡ isWindow (unturned e)
+      unfolding isWindow
+      window-there = rw (is, le-leb t 3 few)
+
+      same-window : question20 (sheetShape s) e ≡ question20 (sheetShape other) (unturned e)
+      same-window =
+          disks-taken (sheetShape s) e disks ∙ window-there
+          ∙ sym (disks-taken (sheetShape other) (unturned e) (λ two. disks (sym same-shape ∙ two)))
 
       same-order : question11 e ≡ question11 (unturned e)
       unfolding question11
@@ -139,17 +150,17 @@ module _ (s : List ℕ) (here : ScheduledHere s) (t : ℕ) (fit : TurnedFit t (m
       abbrev later : Bool → Bool → ℕ → List Question
       later taken right n = (20 asks taken) ∷ (11 asks right) ∷ (12 asks isTaken (scaleOf zoom)) ∷ (13 asks leb (mapSize n) room) ∷ []
 
-      asked-here : answer (viewQuestions s e zoom room) ≡ answer (later (question20 e) (question11 e) (sheetCount s))
+      asked-here : answer (viewQuestions s e zoom room) ≡ answer (later (question20 (sheetShape s) e) (question11 e) (sheetCount s))
       asked-here = view-asked s e zoom room (here-indexed s here)
 
-      asked-there : answer (viewQuestions other (unturned e) zoom room) ≡ answer (later (question20 (unturned e)) (question11 (unturned e)) (sheetCount other))
+      asked-there : answer (viewQuestions other (unturned e) zoom room) ≡ answer (later (question20 (sheetShape other) (unturned e)) (question11 (unturned e)) (sheetCount other))
       asked-there = view-asked other (unturned e) zoom room (here-indexed other other-here)
 
       same-asked : answer (viewQuestions s e zoom room) ≡ answer (viewQuestions other (unturned e) zoom room)
       same-asked =
           asked-here ∙ ap (λ (t : Bool). answer (later t (question11 e) (sheetCount s))) same-window
-          ∙ ap (λ (t : Bool). answer (later (question20 (unturned e)) t (sheetCount s))) same-order
-          ∙ ap (λ (n : ℕ). answer (later (question20 (unturned e)) (question11 (unturned e)) n)) (sym same-count) ∙ sym asked-there
+          ∙ ap (λ (t : Bool). answer (later (question20 (sheetShape other) (unturned e)) t (sheetCount s))) same-order
+          ∙ ap (λ (n : ℕ). answer (later (question20 (sheetShape other) (unturned e)) (question11 (unturned e)) n)) (sym same-count) ∙ sym asked-there
 
       same-outcome : viewJob s e zoom room ≡ viewJob other (unturned e) zoom room
       unfolding viewJob
@@ -171,5 +182,5 @@ pub turn-meets : {s : List ℕ} {e : Window} {zoom : Zoom} {before map : List �
 turn-meets {s} {e} {zoom} {before} gives =
     record {
       accepted = λ here fit. turned-accepted s here (e .turn) fit;
-      same = λ here fit few. rw (← turned-view s here (e .turn) fit e refl zoom (length before) few) gives;
+      same = λ here disks fit few. rw (← turned-view s here (e .turn) fit e refl zoom (length before) disks few) gives;
     }

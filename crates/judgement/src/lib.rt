@@ -19,10 +19,11 @@ fn is_ours(sheet: &[u8], layout: Layout) -> bool
     let marks = contents::part(sheet, layout, 1);
     let schedule = contents::part(sheet, layout, 2);
     let index = contents::part(sheet, layout, 3);
-    let edition = bodies::edition_of(contents::part(sheet, layout, 4));
+    let edition = bodies::choice_of(contents::part(sheet, layout, 4));
     let popups = contents::part(sheet, layout, 5);
+    let shape = bodies::choice_of(contents::part(sheet, layout, 7));
     let n = marks.len() / MARK_SIZE;
-    judging::judge(marks, edition, popups, schedule, index, n)
+    judging::judge(marks, edition, shape, popups, schedule, index, n)
 }
 
 // Judges the schedule of a sheet, whoever made it: questions 1 to 10, and 22. It answers 0 exactly where the sheet is scheduled here, and then

@@ -41,7 +41,7 @@ unfoldable pub clash : Reel → List ℕ → ℕ → ℕ → Bool
 clash r p m g =
     let v = limitAt p m in
     let w = limitAt p g in
-    let f = pairValue (r .marks) (r .popups) g m in
+    let f = pairValue (r .shape) (r .marks) (r .popups) g m in
     not (eqb g m) && (not (less w v)
     && (less f v || (not (less v f) && (less f w && (outranks (r .edition) (r .marks) g m && outranks (r .edition) (r .marks) g (eliminatorAt p m))))))
 
@@ -63,13 +63,14 @@ abbrev pub isTight : List ℕ → List ℕ → ℕ → Bool
 isTight popups p m = not (less (popupValue (popupAt popups m)) (limitAt p m))
 
 -- mark m of the marks `s`, with what the search asks of it: the bound is one of the radii
-unfoldable pub subjectOf : List ℕ → List ℕ → List ℕ → ℕ → ℕ → Subject
-subjectOf s popups p bound m =
+unfoldable pub subjectOf : ℕ → List ℕ → List ℕ → List ℕ → ℕ → ℕ → Subject
+subjectOf shape s popups p bound m =
     record {
       m = m;
       label = labelAt s m;
       value = limitAt p m;
       tight = isTight popups p m;
+      shape = shape;
       x = coordinate s true m;
       y = coordinate s false m;
       reach = (usedAt s m + bound) * (usedAt s m + bound);
@@ -170,7 +171,7 @@ pub record Searchable (r : Reel) (p t z : List ℕ) (q : Subject) (lo size : ℕ
 
 -- What a search of the places from lo on answers: if true, none of the marks there whose radius is within the bound clashes.
 pub record Searched (r : Reel) (p t : List ℕ) (q : Subject) (lo size : ℕ) (b : Bool) : Type 0 where
-  pub clear : b ≡ true → (bound : ℕ) → q ≡ subjectOf (r .marks) (r .popups) p bound (q .m)
+  pub clear : b ≡ true → (bound : ℕ) → q ≡ subjectOf (r .shape) (r .marks) (r .popups) p bound (q .m)
       → (i : ℕ) → lo ≤ i → i < lo + size → usedAt (r .marks) (entryAt t i) ≤ bound → clash r p (q .m) (entryAt t i) ≡ false
   pub found : b ≡ false → (i : ℕ) × (lo ≤ i) × (i < lo + size) × (clash r p (q .m) (entryAt t i) ≡ true)
 

@@ -1,5 +1,5 @@
 // The judge of request 10: is a proposed schedule ours? `marks`, `schedule`, `index` and `popups` are the bytes of parts 1, 2, 3 and 5 of a
-// sheet that passed questions 1 to 9, the last empty where it is not there; `edition` ranks the marks, and an `axis` is true for x.
+// sheet that passed questions 1 to 9, the last empty where it is not there; `edition` ranks the marks, `shape` is that of their labels, and an `axis` is true for x.
 use elimination::RECORD_SIZE;
 use fractions::Fraction;
 use marks::Label;
@@ -41,13 +41,14 @@ fn eliminator_at(schedule: &[u8], m: usize) -> usize
 
 // ---- the mark that others are held against
 
-// Mark m, with what is asked of it at each of the others: its label, its removal value, whether that is its popup's, its place as the index
-// orders places, and the square of its radius with the bound.
+// Mark m, with what is asked of it at each of the others: its label and the shape that all of them have, its removal value, whether that is its
+// popup's, its place as the index orders places, and the square of its radius with the bound.
 struct Subject {
     m: usize,
     label: Label,
     value: Fraction,
     tight: bool,
+    shape: u8,
     x: u64,
     y: u64,
     reach: u32,
@@ -62,9 +63,16 @@ fn popup_value(k: u32) -> Fraction
     Fraction { num, den: 4096 }
 }
 
-fn subject_of(marks: &[u8], popups: &[u8], schedule: &[u8], bound: u16, m: usize) -> Subject
+fn subject_of(
+    marks: &[u8],
+    shape: u8,
+    popups: &[u8],
+    schedule: &[u8],
+    bound: u16,
+    m: usize,
+) -> Subject
     requires { ⌜ Subjectable (now marks) (now popups) (now schedule) bound m ⌝ }
-    ensures { λ r. ⌜ (r ≡ subjectOf (now (marks .entry)) (now (popups .entry)) (now (schedule .entry)) bound m) × Fits r ⌝ }
+    ensures { λ r. ⌜ (r ≡ subjectOf shape (now (marks .entry)) (now (popups .entry)) (now (schedule .entry)) bound m) × Fits r ⌝ }
 {
     let radii = marks::radius_at(marks, m) as u32 + bound as u32;
     let value = limit_at(schedule, m);
@@ -74,6 +82,7 @@ fn subject_of(marks: &[u8], popups: &[u8], schedule: &[u8], bound: u16, m: usize
         label: marks::label_at(marks, m),
         value,
         tight: !fractions::less_small(popup, value),
+        shape,
         x: index::coordinate(marks, true, m),
         y: index::coordinate(marks, false, m),
         reach: radii * radii,
@@ -83,9 +92,9 @@ fn subject_of(marks: &[u8], popups: &[u8], schedule: &[u8], bound: u16, m: usize
 // The pair value of mark g and the subject.
 fn pair_with(marks: &[u8], popups: &[u8], q: Subject, g: usize) -> Fraction
     requires { ⌜ Paired (now marks) (now popups) q g ⌝ }
-    ensures { λ r. ⌜ (r ≡ pairValue (now (marks .entry)) (now (popups .entry)) g (q .m)) × Small r ⌝ }
+    ensures { λ r. ⌜ (r ≡ pairValue (q .shape) (now (marks .entry)) (now (popups .entry)) g (q .m)) × Small r ⌝ }
 {
-    let touch = marks::touching_of(marks::label_at(marks, g), q.label);
+    let touch = marks::touching_of(q.shape, marks::label_at(marks, g), q.label);
     if popups.len() == 0 {
         return touch;
     }
@@ -105,9 +114,9 @@ fn clashes_standing(
     g: usize,
     w: Fraction,
 ) -> bool
-    requires { ⌜ Asked (record { marks = now marks; count = n; edition = edition; popups = now popups }) (now schedule) × Subjected (now marks) n (now schedule) q × (g < n) ⌝ }
+    requires { ⌜ Asked (record { marks = now marks; count = n; edition = edition; shape = q .shape; popups = now popups }) (now schedule) × Subjected (now marks) n (now schedule) q × (g < n) ⌝ }
     requires { ⌜ (w ≡ limitAt (now schedule) g) × (less w (q .value) ≡ false) ⌝ }
-    ensures { λ r. ⌜ r ≡ clash (record { marks = now (marks .entry); count = n; edition = edition; popups = now (popups .entry) }) (now (schedule .entry)) (q .m) g ⌝ }
+    ensures { λ r. ⌜ r ≡ clash (record { marks = now (marks .entry); count = n; edition = edition; shape = q .shape; popups = now (popups .entry) }) (now (schedule .entry)) (q .m) g ⌝ }
 {
     if g == q.m {
         return false;
@@ -139,8 +148,8 @@ fn clashes(
     q: Subject,
     g: usize,
 ) -> bool
-    requires { ⌜ Asked (record { marks = now marks; count = n; edition = edition; popups = now popups }) (now schedule) × Subjected (now marks) n (now schedule) q × (g < n) ⌝ }
-    ensures { λ r. ⌜ r ≡ clash (record { marks = now (marks .entry); count = n; edition = edition; popups = now (popups .entry) }) (now (schedule .entry)) (q .m) g ⌝ }
+    requires { ⌜ Asked (record { marks = now marks; count = n; edition = edition; shape = q .shape; popups = now popups }) (now schedule) × Subjected (now marks) n (now schedule) q × (g < n) ⌝ }
+    ensures { λ r. ⌜ r ≡ clash (record { marks = now (marks .entry); count = n; edition = edition; shape = q .shape; popups = now (popups .entry) }) (now (schedule .entry)) (q .m) g ⌝ }
 {
     let w = limit_at(schedule, g);
     let v = q.value;
@@ -225,8 +234,8 @@ fn search(
     size: usize,
     axis: bool,
 ) -> bool
-    requires { ⌜ Searchable (record { marks = now marks; count = n; edition = edition; popups = now popups }) (now schedule) (now index) (now splits) q lo size axis ⌝ }
-    ensures { λ r. ⌜ Searched (record { marks = now (marks .entry); count = n; edition = edition; popups = now (popups .entry) }) (now (schedule .entry)) (now (index .entry)) q lo size r ⌝ }
+    requires { ⌜ Searchable (record { marks = now marks; count = n; edition = edition; shape = q .shape; popups = now popups }) (now schedule) (now index) (now splits) q lo size axis ⌝ }
+    ensures { λ r. ⌜ Searched (record { marks = now (marks .entry); count = n; edition = edition; shape = q .shape; popups = now (popups .entry) }) (now (schedule .entry)) (now (index .entry)) q lo size r ⌝ }
 {
     if size == 0 {
         return true;
@@ -443,8 +452,8 @@ fn large_clear(
     large: &[u16],
     k: usize,
 ) -> bool
-    requires { ⌜ Asked (record { marks = now marks; count = n; edition = edition; popups = now popups }) (now schedule) × Subjected (now marks) n (now schedule) q × AllListed (now large) k n ⌝ }
-    ensures { λ r. ⌜ LargeClear (record { marks = now (marks .entry); count = n; edition = edition; popups = now (popups .entry) }) (now (schedule .entry)) (q .m) (now (large .entry)) k r ⌝ }
+    requires { ⌜ Asked (record { marks = now marks; count = n; edition = edition; shape = q .shape; popups = now popups }) (now schedule) × Subjected (now marks) n (now schedule) q × AllListed (now large) k n ⌝ }
+    ensures { λ r. ⌜ LargeClear (record { marks = now (marks .entry); count = n; edition = edition; shape = q .shape; popups = now (popups .entry) }) (now (schedule .entry)) (q .m) (now (large .entry)) k r ⌝ }
 {
     let mut i = 0;
     while i < k {
@@ -462,6 +471,7 @@ fn large_clear(
 fn is_clear(
     marks: &[u8],
     edition: u8,
+    shape: u8,
     popups: &[u8],
     schedule: &[u8],
     index: &[u8],
@@ -472,10 +482,10 @@ fn is_clear(
     bound: u16,
     m: usize,
 ) -> bool
-    requires { ⌜ Ready (record { marks = now marks; count = n; edition = edition; popups = now popups }) (now schedule) (now index) (now splits) (now large) k bound × (m < n) ⌝ }
-    ensures { λ r. ⌜ r ≡ isClear (record { marks = now (marks .entry); count = n; edition = edition; popups = now (popups .entry) }) (now (schedule .entry)) m ⌝ }
+    requires { ⌜ Ready (record { marks = now marks; count = n; edition = edition; shape = shape; popups = now popups }) (now schedule) (now index) (now splits) (now large) k bound × (m < n) ⌝ }
+    ensures { λ r. ⌜ r ≡ isClear (record { marks = now (marks .entry); count = n; edition = edition; shape = shape; popups = now (popups .entry) }) (now (schedule .entry)) m ⌝ }
 {
-    let q = subject_of(marks, popups, schedule, bound, m);
+    let q = subject_of(marks, shape, popups, schedule, bound, m);
     if !large_clear(marks, edition, popups, schedule, n, q, large, k) {
         return false;
     }
@@ -498,6 +508,7 @@ fn is_clear(
 fn all_clear(
     marks: &[u8],
     edition: u8,
+    shape: u8,
     popups: &[u8],
     schedule: &[u8],
     index: &[u8],
@@ -507,14 +518,15 @@ fn all_clear(
     k: usize,
     bound: u16,
 ) -> bool
-    requires { ⌜ Ready (record { marks = now marks; count = n; edition = edition; popups = now popups }) (now schedule) (now index) (now splits) (now large) k bound ⌝ }
-    ensures { λ r. ⌜ r ≡ allClear (record { marks = now (marks .entry); count = n; edition = edition; popups = now (popups .entry) }) (now (schedule .entry)) ⌝ }
+    requires { ⌜ Ready (record { marks = now marks; count = n; edition = edition; shape = shape; popups = now popups }) (now schedule) (now index) (now splits) (now large) k bound ⌝ }
+    ensures { λ r. ⌜ r ≡ allClear (record { marks = now (marks .entry); count = n; edition = edition; shape = shape; popups = now (popups .entry) }) (now (schedule .entry)) ⌝ }
 {
     let mut m = 0;
     while m < n {
         if !is_clear(
             marks,
             edition,
+            shape,
             popups,
             schedule,
             index,
@@ -536,6 +548,7 @@ fn all_clear(
 fn judge_by(
     marks: &[u8],
     edition: u8,
+    shape: u8,
     popups: &[u8],
     schedule: &[u8],
     index: &[u8],
@@ -543,8 +556,8 @@ fn judge_by(
     large: &mut [u16],
     n: usize,
 ) -> bool
-    requires { ⌜ Tabled (record { marks = now marks; count = n; edition = edition; popups = now popups }) (now schedule) (now index) (now splits) × (length (now large) ≡ mostLarge) ⌝ }
-    ensures { λ r. ⌜ r ≡ allClear (record { marks = now (marks .entry); count = n; edition = edition; popups = now (popups .entry) }) (now (schedule .entry)) ⌝ }
+    requires { ⌜ Tabled (record { marks = now marks; count = n; edition = edition; shape = shape; popups = now popups }) (now schedule) (now index) (now splits) × (length (now large) ≡ mostLarge) ⌝ }
+    ensures { λ r. ⌜ r ≡ allClear (record { marks = now (marks .entry); count = n; edition = edition; shape = shape; popups = now (popups .entry) }) (now (schedule .entry)) ⌝ }
 {
     let bound = pick_bound(marks, n, large);
     let k = list_large(marks, n, bound, large);
@@ -553,6 +566,7 @@ fn judge_by(
         return all_clear(
             marks,
             edition,
+            shape,
             popups,
             schedule,
             index,
@@ -566,6 +580,7 @@ fn judge_by(
     all_clear(
         marks,
         edition,
+        shape,
         popups,
         schedule,
         index,
@@ -577,17 +592,18 @@ fn judge_by(
     )
 }
 
-// Does the judge accept the schedule? The parts are those of a sheet that passed questions 4 to 9, 19 and 21.
+// Does the judge accept the schedule? The parts are those of a sheet that passed questions 4 to 9, 19, 21 and 24.
 pub fn judge(
     marks: &[u8],
     edition: u8,
+    shape: u8,
     popups: &[u8],
     schedule: &[u8],
     index: &[u8],
     n: usize,
 ) -> bool
-    requires { ⌜ Judgeable (record { marks = now marks; count = n; edition = edition; popups = now popups }) (now schedule) (now index) ⌝ }
-    ensures { λ r. ⌜ r ≡ judgeSchedule (record { marks = now (marks .entry); count = n; edition = edition; popups = now (popups .entry) }) (now (schedule .entry)) ⌝ }
+    requires { ⌜ Judgeable (record { marks = now marks; count = n; edition = edition; shape = shape; popups = now popups }) (now schedule) (now index) ⌝ }
+    ensures { λ r. ⌜ r ≡ judgeSchedule (record { marks = now (marks .entry); count = n; edition = edition; shape = shape; popups = now (popups .entry) }) (now (schedule .entry)) ⌝ }
 {
     let mut splits = [0u16; 4096];
     let mut large = [0u16; MOST_LARGE];
@@ -595,6 +611,7 @@ pub fn judge(
     judge_by(
         marks,
         edition,
+        shape,
         popups,
         schedule,
         index,

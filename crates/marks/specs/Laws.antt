@@ -7,15 +7,15 @@ use mathlib.Core.Logic.{_↔_, _≢_}
 use native.Mathlib.Decide.{decLt}
 use native.Mathlib.Nat.{mul-pos, mul-le-mul}
 use native.Mathlib.Omega.{arith}
-use borrow.Author.Tests.{ltb-true, eqb-true, leb-true, lt-ltb, le-ltb, eq-eqb, ne-eqb}
+use borrow.Author.Tests.{ltb-true, eqb-true, leb-true, leb-false, le-leb, lt-ltb, le-ltb, eq-eqb, ne-eqb}
 use borrow.Author.Needs.{sfits-of}
-use lib.Dec.{ltb, eqb, eqb·suc-zero}
+use lib.Dec.{ltb, leb, eqb, eqb·suc-zero}
 use lib.IntN.{ℤ, pos, negsuc, negℤ, natAbs, subℕ, _+ℤ_, _-ℤ_, +ℤ-comm, negℤ-+ℤ, negℤ-negℤ}
 use lib.Signed.{mag}
 use mir.Syntax.{w16}
 use mir.Val.{SFits, toZ, ofZ}
 use mir.Facts.{toZ-ofZ}
-use Rattle.lists.specs.TestLaws.{or-and}
+use Rattle.lists.specs.TestLaws.{or-and, by-cases}
 use Rattle.numbers.specs.Little.{leAt, signed, Bytes}
 use Rattle.numbers.specs.Laws.{le-bound, signed-fits}
 use Rattle.fractions.specs.Order.{Small}
@@ -23,7 +23,7 @@ use Rattle.marks.specs.Marks.{markSize, yOffset, priorityOffset, radiusA
 use Rattle.marks.specs.declared.House.the-variants.{Radius, Refused}
 use Rattle.marks.specs.declared.Label.{Label}
 use Rattle.marks.specs.Marks.{Group, note, spot, streak, patch, break, kindGroup, groupNumber, groupRadius, houseRadius, oldGroupRadius, oldRadius}
-use Rattle.marks.specs.Marks.{labelAt, apart, distance, touchingOf, touching, rankRadius, outranks, rankKey}
+use Rattle.marks.specs.Marks.{labelAt, apart, larger, distance, touchingOf, touching, rankRadius, outranks, rankKey}
 
 -- ---- kinds
 
@@ -142,49 +142,81 @@ difference-turned a b =
 apart-symmetric : (a b : ℤ) → apart a b ≡ apart b a
 apart-symmetric a b = rw (difference-turned a b, abs-negℤ (a -ℤ b))
 
+-- ---- the larger of two
+
+pub larger-symmetric : (a b : ℕ) → larger a b ≡ larger b a
+larger-symmetric a b =
+    by-cases (leb a b)
+    (λ e. by-cases (leb b a) (λ g. rw (e, g) (omega (arith, leb-true a b e, leb-true b a g))) (λ g. rw (e, g)))
+    (λ e. by-cases (leb b a) (λ g. rw (e, g)) (λ g. absurd (omega (arith, leb-false a b e, leb-false b a g))))
+
+pub larger-least : (a b : ℕ) → (a ≤ larger a b) × (b ≤ larger a b)
+larger-least a b = by-cases (leb a b) (λ e. rw e (omega (arith, leb-true a b e), omega arith)) (λ e. rw e (omega arith, omega (arith, leb-false a b e)))
+
+pub larger-most : (a b most : ℕ) → a ≤ most → b ≤ most → larger a b ≤ most
+larger-most a b most p q = by-cases (leb a b) (λ e. rw e q) (λ e. rw e p)
+
+-- squaring keeps the order
+pub larger-squared : (a b : ℕ) → larger a b * larger a b ≡ larger (a * a) (b * b)
+larger-squared a b =
+    by-cases (leb a b)
+    (λ e. let h = leb-true a b e in rw (e, le-leb (a * a) (b * b) (mul-le-mul h h)))
+    (λ e.
+    let h : b ≤ a = omega (arith, leb-false a b e) in
+    rw e (by-cases (leb (a * a) (b * b)) (λ g. rw g (omega (arith, leb-true (a * a) (b * b) g, mul-le-mul h h))) (λ g. rw g)))
+
 -- ---- distances
 
-pub distance-grows : {a b c d : ℕ} → a ≤ c → b ≤ d → distance a b ≤ distance c d
+pub distance-grows : (shape : ℕ) {a b c d : ℕ} → a ≤ c → b ≤ d → distance shape a b ≤ distance shape c d
 unfolding distance
-distance-grows p q = omega (arith, mul-le-mul p p, mul-le-mul q q)
+distance-grows shape {a} {b} {c} {d} p q =
+    by-cases (eqb shape 2)
+    (λ e.
+    let g = larger-least c d in
+    let h = larger-most a b (larger c d) (omega (arith, g .0)) (omega (arith, g .1)) in
+    rw e (mul-le-mul h h))
+    (λ e. rw e (omega (arith, mul-le-mul p p, mul-le-mul q q)))
 
-pub distance-symmetric : (a b : ℕ) → distance a b ≡ distance b a
+pub distance-symmetric : (shape a b : ℕ) → distance shape a b ≡ distance shape b a
 unfolding distance
-distance-symmetric a b = omega arith
+distance-symmetric shape a b = by-cases (eqb shape 2) (λ e. rw (e, larger-symmetric a b)) (λ e. rw e (omega arith))
 
 -- No difference squared is more than it, and it is no more than the sum of their squares.
-pub distance-x : (a b : ℕ) → a * a ≤ distance a b
+pub distance-x : (shape a b : ℕ) → a * a ≤ distance shape a b
 unfolding distance
-distance-x a b = omega arith
+distance-x shape a b =
+    let h = larger-least a b .0 in
+    by-cases (eqb shape 2) (λ e. rw e (mul-le-mul h h)) (λ e. rw e (omega arith))
 
-pub distance-y : (a b : ℕ) → b * b ≤ distance a b
-unfolding distance
-distance-y a b = omega arith
+pub distance-y : (shape a b : ℕ) → b * b ≤ distance shape a b
+distance-y shape a b = omega (arith, distance-symmetric shape a b, distance-x shape b a)
 
-pub distance-most : (a b : ℕ) → distance a b ≤ a * a + b * b
+pub distance-most : (shape a b : ℕ) → distance shape a b ≤ a * a + b * b
 unfolding distance
-distance-most a b = omega arith
+distance-most shape a b =
+    by-cases (eqb shape 2)
+    (λ e. rw (e, larger-squared a b) (larger-most (a * a) (b * b) (a * a + b * b) (omega arith) (omega arith)))
+    (λ e. rw e (omega arith))
 
-pub distance-bound : {a b : ℕ} → a ≤ 65535 → b ≤ 65535 → distance a b ≤ 8589672450
-unfolding distance
-distance-bound p q = omega (arith, mul-le-mul p p, mul-le-mul q q)
+pub distance-bound : (shape : ℕ) {a b : ℕ} → a ≤ 65535 → b ≤ 65535 → distance shape a b ≤ 8589672450
+distance-bound shape {a} {b} p q = omega (arith, distance-most shape a b, mul-le-mul p p, mul-le-mul q q)
 
 -- ---- touching values
 
-pub touchingOf-symmetric : (a b : Label) → touchingOf a b ≡ touchingOf b a
+pub touchingOf-symmetric : (shape : ℕ) (a b : Label) → touchingOf shape a b ≡ touchingOf shape b a
 unfolding touchingOf
-touchingOf-symmetric a b =
+touchingOf-symmetric shape a b =
     let e : a .radius + b .radius ≡ b .radius + a .radius = omega arith in
     rw (apart-symmetric (a .x) (b .x), apart-symmetric (a .y) (b .y), e)
 
-pub touching-symmetric : (s : List ℕ) (a b : ℕ) → touching s a b ≡ touching s b a
+pub touching-symmetric : (shape : ℕ) (s : List ℕ) (a b : ℕ) → touching shape s a b ≡ touching shape s b a
 unfolding touching
-touching-symmetric s a b = touchingOf-symmetric (labelAt s a) (labelAt s b)
+touching-symmetric shape s a b = touchingOf-symmetric shape (labelAt s a) (labelAt s b)
 
--- for all s a b: a mark past the end of s has a used radius above 0 too
-pub touching-positive : (s : List ℕ) (a b : ℕ) → 0 < (touching s a b) .den
+-- for all shapes, s, a and b: a mark past the end of s has a used radius above 0 too
+pub touching-positive : (shape : ℕ) (s : List ℕ) (a b : ℕ) → 0 < (touching shape s a b) .den
 unfolding touching touchingOf
-touching-positive s a b =
+touching-positive shape s a b =
     let h : 0 < usedAt s a + usedAt s b = omega (arith, used-positive (radiusAt s a) (kindAt s a)) in
     mul-pos h h
 
@@ -193,20 +225,20 @@ pub record Placed (a : Label) : Type 0 where
   pub x-fits : SFits w16 (a .x)
   pub y-fits : SFits w16 (a .y)
 
-pub touchingOf-small : (a b : Label) → Placed a → Placed b → a .radius ≤ 16383 → b .radius ≤ 16383 → Small (touchingOf a b)
+pub touchingOf-small : (shape : ℕ) (a b : Label) → Placed a → Placed b → a .radius ≤ 16383 → b .radius ≤ 16383 → Small (touchingOf shape a b)
 unfolding touchingOf
-touchingOf-small a b p q ra rb =
-    let d = distance-bound (difference-bound (a .x) (b .x) (p .x-fits) (q .x-fits)) (difference-bound (a .y) (b .y) (p .y-fits) (q .y-fits)) in
+touchingOf-small shape a b p q ra rb =
+    let d = distance-bound shape (difference-bound (a .x) (b .x) (p .x-fits) (q .x-fits)) (difference-bound (a .y) (b .y) (p .y-fits) (q .y-fits)) in
     let r : a .radius + b .radius ≤ 32766 = omega arith in
     record { num-small = d; den-small = omega (arith, mul-le-mul r r) }
 
 label-placed : (s : List ℕ) (m : ℕ) → Bytes s → Placed (labelAt s m)
 label-placed s m b = record { x-fits = place-fits s (markSize * m) b; y-fits = place-fits s (markSize * m + yOffset) b }
 
-pub touching-small : (s : List ℕ) (a b : ℕ) → Bytes s → usedAt s a ≤ 16383 → usedAt s b ≤ 16383
-    → Small (touching s a b)
+pub touching-small : (shape : ℕ) (s : List ℕ) (a b : ℕ) → Bytes s → usedAt s a ≤ 16383 → usedAt s b ≤ 16383
+    → Small (touching shape s a b)
 unfolding touching
-touching-small s a b k = touchingOf-small (labelAt s a) (labelAt s b) (label-placed s a k) (label-placed s b k)
+touching-small shape s a b k = touchingOf-small shape (labelAt s a) (labelAt s b) (label-placed s a k) (label-placed s b k)
 
 -- ---- rank
 

@@ -1,4 +1,4 @@
--- 01, "A mark" and "Touching, rank, removal" up to the process, with the house radii of 02, request 2, and the rank by editions of request 6. `s` is part 1 of a sheet, the marks' bytes, and `m` a mark's number.
+-- 01, "A mark" and "Touching, rank, removal" up to the process, with the house radii of 02, request 2, the rank by editions of request 6 and the shapes of request 13. `s` is part 1 of a sheet, the marks' bytes, and `m` a mark's number.
 use Prim.Native.Nat.{ℕ, suc, _+_, _-_, _*_}
 use mathlib.Core.Bool.{Bool, cond, _&&_, _||_}
 use mathlib.Core.List.{List, _++_}
@@ -143,21 +143,26 @@ labelAt s m = record { x = xAt s m; y = yAt s m; radius = usedAt s m }
 abbrev pub apart : ℤ → ℤ → ℕ
 apart a b = natAbs (a -ℤ b)
 
--- "The squared distance" of two places that lie so far apart on the axes. It grows with each of the two: `distance-grows` of Laws.
-unfoldable pub distance : ℕ → ℕ → ℕ
-distance dx dy = dx * dx + dy * dy
+abbrev pub larger : ℕ → ℕ → ℕ
+larger a b = cond (leb a b) b a
+
+-- "The squared distance" of two places that lie so far apart on the axes. 02, request 13: "Part 7, one byte, names 1 disk or 2 square", and
+-- "for squares the distance is the larger of the x and y differences". By any shape but 2 it is that of disks. It grows with each of the
+-- two differences: `distance-grows` of Laws.
+unfoldable pub distance : ℕ → ℕ → ℕ → ℕ
+distance shape dx dy = cond (eqb shape 2) (larger dx dy * larger dx dy) (dx * dx + dy * dy)
 
 -- "Two marks touch first where z² equals their touching value: the squared distance over the squared sum of radii,
 -- kept as these two whole numbers, never reduced."
-unfoldable pub touchingOf : Label → Label → Fraction
-touchingOf a b =
+unfoldable pub touchingOf : ℕ → Label → Label → Fraction
+touchingOf shape a b =
     record {
-      num = distance (apart (a .x) (b .x)) (apart (a .y) (b .y));
+      num = distance shape (apart (a .x) (b .x)) (apart (a .y) (b .y));
       den = (a .radius + b .radius) * (a .radius + b .radius);
     }
 
-unfoldable pub touching : List ℕ → ℕ → ℕ → Fraction
-touching s a b = touchingOf (labelAt s a) (labelAt s b)
+unfoldable pub touching : ℕ → List ℕ → ℕ → ℕ → Fraction
+touching shape s a b = touchingOf shape (labelAt s a) (labelAt s b)
 
 -- ---- rank
 

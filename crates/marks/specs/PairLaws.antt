@@ -7,31 +7,17 @@ use mathlib.Core.List.{List, [], _∷_}
 use mathlib.Core.Logic.{inl, inr}
 use native.Mathlib.Nat.{mul-le-mul}
 use native.Mathlib.Omega.{arith}
-use borrow.Author.Tests.{ltb-true, ltb-false, leb-true, leb-false}
-use lib.Dec.{leb, ltb}
+use borrow.Author.Tests.{ltb-true, ltb-false}
+use lib.Dec.{ltb}
 use lib.ListN.{length}
 use Rattle.lists.specs.TestLaws.{by-cases}
 use Rattle.numbers.specs.Little.{leAt, Bytes}
 use Rattle.fractions.specs.declared.Fraction.{Fraction}
 use Rattle.fractions.specs.Order.{less, AtMost, Small}
 use Rattle.fractions.specs.Laws.{less-iff}
-use Rattle.marks.specs.Marks.{usedAt, touching}
-use Rattle.marks.specs.Pairs.{popupAt, popupValue, larger, pairOf, pairValue, GoodPopup, GoodPopups}
-use Rattle.marks.specs.Laws.{touching-symmetric, touching-positive, touching-small}
-
--- ---- the larger k
-
-pub larger-symmetric : (a b : ℕ) → larger a b ≡ larger b a
-larger-symmetric a b =
-    by-cases (leb a b)
-    (λ e. by-cases (leb b a) (λ g. rw (e, g) (omega (arith, leb-true a b e, leb-true b a g))) (λ g. rw (e, g)))
-    (λ e. by-cases (leb b a) (λ g. rw (e, g)) (λ g. absurd (omega (arith, leb-false a b e, leb-false b a g))))
-
-pub larger-least : (a b : ℕ) → (a ≤ larger a b) × (b ≤ larger a b)
-larger-least a b = by-cases (leb a b) (λ e. rw e (omega (arith, leb-true a b e), omega arith)) (λ e. rw e (omega arith, omega (arith, leb-false a b e)))
-
-pub larger-most : (a b most : ℕ) → a ≤ most → b ≤ most → larger a b ≤ most
-larger-most a b most p q = by-cases (leb a b) (λ e. rw e q) (λ e. rw e p)
+use Rattle.marks.specs.Marks.{usedAt, larger, touching}
+use Rattle.marks.specs.Pairs.{popupAt, popupValue, pairOf, pairValue, GoodPopup, GoodPopups}
+use Rattle.marks.specs.Laws.{larger-symmetric, larger-most, touching-symmetric, touching-positive, touching-small}
 
 -- ---- a value and a popup
 
@@ -89,41 +75,41 @@ le-nothing (suc k) at = omega (arith, le-nothing k (suc at))
 pub popup-none : (m : ℕ) → popupAt [] m ≡ 0
 popup-none m = le-nothing 4 (4 * m)
 
-module _ (s q : List ℕ) (a b : ℕ) where
-  pub pairs-symmetric : pairValue s q a b ≡ pairValue s q b a
+module _ (shape : ℕ) (s q : List ℕ) (a b : ℕ) where
+  pub pairs-symmetric : pairValue shape s q a b ≡ pairValue shape s q b a
   unfolding pairValue
-  pairs-symmetric = rw (touching-symmetric s a b, larger-symmetric (popupAt q a) (popupAt q b))
+  pairs-symmetric = rw (touching-symmetric shape s a b, larger-symmetric (popupAt q a) (popupAt q b))
 
-  pub pairs-positive : 0 < (pairValue s q a b) .den
+  pub pairs-positive : 0 < (pairValue shape s q a b) .den
   unfolding pairValue
-  pairs-positive = pair-positive (touching s a b) (larger (popupAt q a) (popupAt q b)) (touching-positive s a b)
+  pairs-positive = pair-positive (touching shape s a b) (larger (popupAt q a) (popupAt q b)) (touching-positive shape s a b)
 
-  pub pairs-small : Bytes s → usedAt s a ≤ 16383 → usedAt s b ≤ 16383 → popupAt q a ≤ 65536 → popupAt q b ≤ 65536 → Small (pairValue s q a b)
+  pub pairs-small : Bytes s → usedAt s a ≤ 16383 → usedAt s b ≤ 16383 → popupAt q a ≤ 65536 → popupAt q b ≤ 65536 → Small (pairValue shape s q a b)
   unfolding pairValue
   pairs-small bytes p r u v =
-      pair-small (touching s a b) (larger (popupAt q a) (popupAt q b)) (touching-small s a b bytes p r) (larger-most (popupAt q a) (popupAt q b) 65536 u v)
+      pair-small (touching shape s a b) (larger (popupAt q a) (popupAt q b)) (touching-small shape s a b bytes p r) (larger-most (popupAt q a) (popupAt q b) 65536 u v)
 
   -- "The pair value becomes the larger of the touching value and both k²/4096."
-  pub pairs-touching : AtMost (touching s a b) (pairValue s q a b)
+  pub pairs-touching : AtMost (touching shape s a b) (pairValue shape s q a b)
   unfolding pairValue
-  pairs-touching = pair-least (touching s a b) (larger (popupAt q a) (popupAt q b))
+  pairs-touching = pair-least (touching shape s a b) (larger (popupAt q a) (popupAt q b))
 
-  pub pairs-popup : AtMost (popupValue (larger (popupAt q a) (popupAt q b))) (pairValue s q a b)
+  pub pairs-popup : AtMost (popupValue (larger (popupAt q a) (popupAt q b))) (pairValue shape s q a b)
   unfolding pairValue
-  pairs-popup = pair-popup (touching s a b) (larger (popupAt q a) (popupAt q b))
+  pairs-popup = pair-popup (touching shape s a b) (larger (popupAt q a) (popupAt q b))
 
   -- all k = 0: the touching value, number for number
-  pub pairs-none : popupAt q a ≡ 0 → popupAt q b ≡ 0 → pairValue s q a b ≡ touching s a b
+  pub pairs-none : popupAt q a ≡ 0 → popupAt q b ≡ 0 → pairValue shape s q a b ≡ touching shape s a b
   unfolding pairValue
-  pairs-none u v = rw (u, v) (pair-none (touching s a b))
+  pairs-none u v = rw (u, v) (pair-none (touching shape s a b))
 
-pub without-popups : (s : List ℕ) (a b : ℕ) → pairValue s [] a b ≡ touching s a b
-without-popups s a b = pairs-none s [] a b (popup-none a) (popup-none b)
+pub without-popups : (shape : ℕ) (s : List ℕ) (a b : ℕ) → pairValue shape s [] a b ≡ touching shape s a b
+without-popups shape s a b = pairs-none shape s [] a b (popup-none a) (popup-none b)
 
 -- as the code sees that there are none: the body is empty
-pub unpopped : (s q : List ℕ) (a b : ℕ) → length q ≡ 0 → touching s a b ≡ pairValue s q a b
-unpopped s [] a b e = sym (without-popups s a b)
-unpopped s (x ∷ q) a b e = absurd (omega arith)
+pub unpopped : (shape : ℕ) (s q : List ℕ) (a b : ℕ) → length q ≡ 0 → touching shape s a b ≡ pairValue shape s q a b
+unpopped shape s [] a b e = sym (without-popups shape s a b)
+unpopped shape s (x ∷ q) a b e = absurd (omega arith)
 
 -- each popup of good ones
 pub good-popup : {q : List ℕ} {n m : ℕ} → GoodPopups q n → m < n → GoodPopup q m

@@ -1,15 +1,14 @@
--- 02, request 9: popups and the pair value. `s` is part 1 of a sheet, `q` part 5, empty where it is not there, and `m` a mark's number.
+-- 02, request 9: popups and the pair value. `shape` is 1 or 2, `s` is part 1 of a sheet, `q` part 5, empty where it is not there, and `m` a mark's number.
 use Prim.Native.Nat.{ℕ, _+_, _*_, _<_, _≤_}
 use mathlib.Core.Path.{_≡_}
 use mathlib.Core.Bool.{cond}
 use mathlib.Core.List.{List}
 use mathlib.Core.Logic.{_⊎_}
-use lib.Dec.{leb}
 use lib.ListN.{length}
 use Rattle.numbers.specs.Little.{leAt}
 use Rattle.fractions.specs.declared.Fraction.{Fraction}
 use Rattle.fractions.specs.Order.{less}
-use Rattle.marks.specs.Marks.{touching}
+use Rattle.marks.specs.Marks.{larger, touching}
 
 -- "Part 5 gives each mark k, 4 bytes: it isn't there while 64z is below k." Without part 5 it is there from the start: k is 0.
 abbrev pub popupSize : ℕ
@@ -22,16 +21,13 @@ popupAt q m = leAt 4 q (popupSize * m)
 abbrev pub popupValue : ℕ → Fraction
 popupValue k = record { num = k * k; den = 4096 }
 
-abbrev pub larger : ℕ → ℕ → ℕ
-larger a b = cond (leb a b) b a
-
 -- "The pair value becomes the larger of the touching value and both k²/4096; a popup fraction is kept only where it exceeds the touching value."
 -- The larger of both is that of the larger k.
 unfoldable pub pairOf : Fraction → ℕ → Fraction
 pairOf f k = cond (less f (popupValue k)) (popupValue k) f
 
-unfoldable pub pairValue : List ℕ → List ℕ → ℕ → ℕ → Fraction
-pairValue s q a b = pairOf (touching s a b) (larger (popupAt q a) (popupAt q b))
+unfoldable pub pairValue : ℕ → List ℕ → List ℕ → ℕ → ℕ → Fraction
+pairValue shape s q a b = pairOf (touching shape s a b) (larger (popupAt q a) (popupAt q b))
 
 -- mark m's popup can be read, and is right
 pub record GoodPopup (q : List ℕ) (m : ℕ) : Type 0 where

@@ -7,10 +7,10 @@ ghost use lib.ListN.{length};
 ghost use lib.IntN.{_-ℤ_, natAbs};
 ghost use Rattle.numbers.specs.Little.{leBytes};
 ghost use Rattle.fractions.specs.Order.{Small};
-ghost use Rattle.marks.specs.Pairs.{popupSize, popupAt, larger, pairOf, pairValue, GoodPopup};
+ghost use Rattle.marks.specs.Pairs.{popupSize, popupAt, pairOf, pairValue, GoodPopup};
 ghost use Rattle.marks.specs.Marks.{markSize, xAt, yAt, shifted, radiusAt, priorityAt, kindAt, placeBits, markBytes};
 ghost use Rattle.marks.specs.Marks.{kindGroup, groupNumber, houseOf, oldRadius, usedRadius, usedAt};
-ghost use Rattle.marks.specs.Marks.{labelAt, distance, touchingOf, touching, rankRadius, outranks, rankKey};
+ghost use Rattle.marks.specs.Marks.{labelAt, larger, distance, touchingOf, touching, rankRadius, outranks, rankKey};
 
 // The bytes of a mark, and where the fields behind x begin.
 pub const MARK_SIZE: usize = 11;
@@ -24,6 +24,9 @@ pub const PRIORITY_OFFSET: usize = 6;
 pub const KIND_OFFSET: usize = 8;
 
 pub const TAG_OFFSET: usize = 9;
+
+// The shape of part 7 that is a square; any other is a disk.
+pub const SQUARE: u8 = 2;
 
 // The bytes of a popup.
 pub const POPUP_SIZE: usize = 4;
@@ -213,11 +216,16 @@ fn squared(d: i32) -> u64
     (e * e) as u64
 }
 
-// The squared distance of two places, from their differences on the axes.
-pub fn distance(dx: i32, dy: i32) -> u64
-    ensures { λ r. ⌜ r ≡ distance (natAbs dx) (natAbs dy) ⌝ }
+// The squared distance of two places, from their differences on the axes: of squares the larger one counts.
+pub fn distance(shape: u8, dx: i32, dy: i32) -> u64
+    ensures { λ r. ⌜ r ≡ distance shape (natAbs dx) (natAbs dy) ⌝ }
 {
-    squared(dx) + squared(dy)
+    let x = squared(dx);
+    let y = squared(dy);
+    if shape != SQUARE {
+        return x + y;
+    }
+    if x <= y { y } else { x }
 }
 
 // What is drawn of a mark: its place and its used radius.
@@ -239,23 +247,23 @@ pub fn label_at(s: &[u8], m: usize) -> Label
 }
 
 // The touching value of two labels.
-pub fn touching_of(a: Label, b: Label) -> Fraction
+pub fn touching_of(shape: u8, a: Label, b: Label) -> Fraction
     requires { ⌜ (a .radius ≤ 16383) × (b .radius ≤ 16383) ⌝ }
-    ensures { λ r. ⌜ (r ≡ touchingOf a b) × Small r ⌝ }
+    ensures { λ r. ⌜ (r ≡ touchingOf shape a b) × Small r ⌝ }
 {
     let radii = a.radius as u32 + b.radius as u32;
-    let num = distance(difference(a.x, b.x), difference(a.y, b.y));
+    let num = distance(shape, difference(a.x, b.x), difference(a.y, b.y));
     let den = radii * radii;
     Fraction { num: num, den: den }
 }
 
 // The same of marks a and b of a sheet.
-pub fn touching(s: &[u8], a: usize, b: usize) -> Fraction
+pub fn touching(s: &[u8], shape: u8, a: usize, b: usize) -> Fraction
     requires { ⌜ (markSize * a + markSize ≤ length (now s)) × (markSize * b + markSize ≤ length (now s)) ⌝ }
     requires { ⌜ (usedAt (now s) a ≤ 16383) × (usedAt (now s) b ≤ 16383) ⌝ }
-    ensures { λ r. ⌜ (r ≡ touching (now (s .entry)) a b) × Small r ⌝ }
+    ensures { λ r. ⌜ (r ≡ touching shape (now (s .entry)) a b) × Small r ⌝ }
 {
-    touching_of(label_at(s, a), label_at(s, b))
+    touching_of(shape, label_at(s, a), label_at(s, b))
 }
 
 // ---- popups
@@ -302,12 +310,12 @@ pub fn pair_of(f: Fraction, k: u32) -> Fraction
 }
 
 // The pair value of marks a and b. Part 5 is empty where it is not there, and then it is the touching value.
-pub fn pair(s: &[u8], popups: &[u8], a: usize, b: usize) -> Fraction
+pub fn pair(s: &[u8], shape: u8, popups: &[u8], a: usize, b: usize) -> Fraction
     requires { ⌜ (markSize * a + markSize ≤ length (now s)) × (markSize * b + markSize ≤ length (now s)) ⌝ }
     requires { ⌜ (usedAt (now s) a ≤ 16383) × (usedAt (now s) b ≤ 16383) × GoodPopup (now popups) a × GoodPopup (now popups) b ⌝ }
-    ensures { λ r. ⌜ r ≡ pairValue (now (s .entry)) (now (popups .entry)) a b ⌝ }
+    ensures { λ r. ⌜ r ≡ pairValue shape (now (s .entry)) (now (popups .entry)) a b ⌝ }
 {
-    let touch = touching(s, a, b);
+    let touch = touching(s, shape, a, b);
     if popups.len() == 0 {
         return touch;
     }

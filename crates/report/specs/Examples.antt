@@ -23,7 +23,7 @@ use Rattle.contents.specs.Questions.{question1, codesRight, question3, contents
 use Rattle.rows.specs.Rows as Rows
 use Rattle.columns.specs.Columns.{asColumns, asMarks, differences, sums, toColumns, fromColumns}
 use Rattle.changing.specs.Changing.{added, takenOut, addedPopup, takenOutPopup}
-use Rattle.bodies.specs.Questions.{question4, markQuestions, part1Questions, isEdition, isPopup, isPopups, question7, question19, question21, namesRight, recordRight, isSchedule, isSized, question8, question9, question23, lastQuestions, bodyQuestions}
+use Rattle.bodies.specs.Questions.{question4, markQuestions, part1Questions, isChoice, isPopup, isPopups, question7, isChosen, question19, question21, question24, namesRight, recordRight, isSchedule, isSized, question8, question9, question23, lastQuestions, bodyQuestions}
 use Rattle.judging.specs.Judge.{some, bothLater, firstRule, causes, secondRule, namesHighest, judge, judgeSchedule}
 use Rattle.filling.specs.Filling.{filledRadius, filled, fillQuestions}
 use Rattle.packed.specs.Packed.{magnitude, isMinus, withSign, areDigits, isLast, isPacked, isPlace, packedOf}
@@ -37,7 +37,7 @@ use Rattle.zoom.specs.Living.{livesAt}
 use Rattle.zoom.specs.Printed.{rootStep, root, nearestFrom, nearest}
 use Rattle.view.specs.declared.Window.{Window}
 use Rattle.turns.specs.Turns.{unit, quarter, productAt, times, turn, applied, turnedPlace}
-use Rattle.view.specs.Shown.{gap, distanceSquared, diskReaches, reaches, shown}
+use Rattle.view.specs.Shown.{gap, distanceSquared, labelReaches, reaches, shown}
 use Rattle.counting.specs.Lives.{poppedUp, lives}
 use Rattle.counting.specs.Counts.{livesAtStop, inGroup, livingCount, countsOf, isCounts}
 use Rattle.bitmap.specs.Map.{mapByte, mapPart, mapBytes, countShown}
@@ -75,6 +75,10 @@ popups (k ∷ ks) = leBytes 4 k ++ popups ks
 
 sheetWith : List ℕ → List Mark → List ℕ
 sheetWith ks l = join ((1 holds marks l) ∷ (5 holds popups ks) ∷ [])
+
+-- and with part 7, which names this shape
+shaped : ℕ → List Mark → List ℕ
+shaped shape l = join ((1 holds marks l) ∷ (7 holds (shape ∷ [])) ∷ [])
 
 -- ---- what is asked, and its answer as a list of numbers
 
@@ -194,6 +198,10 @@ house = mark (pos 0) (pos 0) 100 5 ∷ markOf (pos 300) (pos 0) 0 5 150 ∷ []
 -- the first two marks of P1, and the line that both lie on
 abbrev ends : List Mark
 ends = take 2 p1
+
+-- two marks that lie askew
+abbrev askew : List Mark
+askew = mark (pos 0) (pos 0) 10 9 ∷ mark (pos 30) (pos 40) 10 5 ∷ []
 
 -- a mark of this radius and this kind
 abbrev of : ℕ → ℕ → List Mark
@@ -464,23 +472,45 @@ table =
     ∷ (checks (join ((1 holds marks p1) ∷ (6 holds []) ∷ [])) gives (2 ∷ []))
     ∷ (counts (sheet p1) 0 gives (10 ∷ 0 ∷ []))
     ∷ (counts (scheduled (sheet p1)) 319 gives (13 ∷ 0 ∷ []))
+    -- 02, request 13: 30 and 40 apart, disks touch by 50 and squares by 40, "the larger of the x and y differences"
+    ∷ (removes (sheet askew) 1 gives (0 ∷ 2500 ∷ 400 ∷ []))
+    ∷ (removes (shaped 1 askew) 1 gives (0 ∷ 2500 ∷ 400 ∷ []))
+    ∷ (removes (shaped 2 askew) 1 gives (0 ∷ 1600 ∷ 400 ∷ []))
+    ∷ (prints (shaped 2 askew) gives text "marks 2\n0 -\n1 0 1600 400 128\n")
+    -- "in touching and in reaching a rectangle": a square of 10 reaches the corner 10 and 10 away, a disk does not
+    ∷ (views (shaped 2 askew) (window (negsuc 19) (negsuc 9) (negsuc 19) (negsuc 9) 0) (wheel 0x3f80_0000) gives (0 ∷ 1 ∷ 0x01 ∷ []))
+    ∷ (views (shaped 1 askew) (window (negsuc 19) (negsuc 9) (negsuc 19) (negsuc 9) 0) (wheel 0x3f80_0000) gives (0 ∷ 0 ∷ 0x00 ∷ []))
+    -- "Squares take no turn but 0": 20, before 11, and not where part 7 names disks
+    ∷ (views (shaped 2 p1) (window (pos 250) (pos 50) (pos 0) (pos 0) 1) (Stop 0) gives (20 ∷ 0 ∷ []))
+    ∷ (views (shaped 1 p1) (window (negsuc 9) (pos 10) (pos 50) (pos 250) 1) (wheel 0x3f80_0000) gives (0 ∷ 2 ∷ 0x06 ∷ []))
+    -- part 7 is kept, behind part 6, and the judge goes by it
+    ∷ (keeps (shaped 2 askew) gives (1 ∷ 2 ∷ 3 ∷ 7 ∷ []))
+    ∷ (keeps (withOwnCounts (scheduled (shaped 2 askew))) gives (1 ∷ 2 ∷ 3 ∷ 6 ∷ 7 ∷ []))
+    ∷ (judges (scheduled (shaped 2 askew)) gives (0 ∷ []))
+    -- 24: part 7 "isn't one byte of 1 or 2"; after 21, and before 8
+    ∷ (checks (shaped 0 askew) gives (24 ∷ []))
+    ∷ (checks (shaped 3 askew) gives (24 ∷ []))
+    ∷ (checks (join ((1 holds marks askew) ∷ (7 holds []) ∷ [])) gives (24 ∷ []))
+    ∷ (checks (join ((1 holds marks askew) ∷ (7 holds (2 ∷ 2 ∷ [])) ∷ [])) gives (24 ∷ []))
+    ∷ (checks (join ((1 holds marks askew) ∷ (5 holds []) ∷ (7 holds []) ∷ [])) gives (21 ∷ []))
+    ∷ (checks (join ((1 holds marks askew) ∷ (2 holds leBytes 28 0) ∷ (7 holds []) ∷ [])) gives (24 ∷ []))
     ∷ []
 
 -- No row is lost.
-pub table-length : length table ≡ 132
+pub table-length : length table ≡ 149
 unfolding table
 table-length = refl
 
 -- Every answer is the expected one.
 pub examples : map (λ (r : Row). answers (r .asked)) table ≡ map (λ (r : Row). r .expected) table
-unfolding table answers recordOf pairs sheet sheetIn popups sheetWith marks by never oldSheet neverSheet together lowerNamed ofBits
+unfolding table answers recordOf pairs sheet sheetIn popups sheetWith shaped marks by never oldSheet neverSheet together lowerNamed ofBits
     leAt leBytes less same later level kindGroup houseRadius oldRadius houseOf isKind isRadius usedRadius distance touchingOf touching pairOf pairValue rankRadius outranks rankKey
     least put before pair next run process isNever valueAt records scheduleOf treeOf beats coordinate axisKey indexOf indexBytes sameBytes isIndex
     startAt split entries contentsOf chain join answer inTurn every question1 codesRight question3 contentsQuestions question4
     magnitude isMinus withSign areDigits isLast isPacked isPlace packedOf placeBits marksOfLog logOfMarks
     logSize recordQuestions logChecks logQuestions marksQuestions logToMarksJob marksToLogJob
-    Rows.rows filledRadius filled fillQuestions markQuestions part1Questions isSized isEdition isPopup isPopups question7 question19 question21 namesRight recordRight isSchedule question8
-    question9 question23 lastQuestions bodyQuestions checkQuestions check partsQuestions assembleQuestions stopScale wheelScale scaleOf livesAt gap distanceSquared diskReaches unit quarter productAt times turn applied turnedPlace reaches
-    poppedUp lives livesAtStop inGroup livingCount countsOf isCounts notes shown mapByte mapPart mapBytes howMany countShown question10 indexedQuestions Viewing.isEdge Viewing.question20 Viewing.question11 Viewing.viewQuestions outcome checkJob scheduled
+    Rows.rows filledRadius filled fillQuestions markQuestions part1Questions isSized isChoice isPopup isPopups question7 isChosen question19 question21 question24 namesRight recordRight isSchedule question8
+    question9 question23 lastQuestions bodyQuestions checkQuestions check partsQuestions assembleQuestions stopScale wheelScale scaleOf livesAt gap distanceSquared labelReaches unit quarter productAt times turn applied turnedPlace reaches
+    poppedUp lives livesAtStop inGroup livingCount countsOf isCounts notes shown mapByte mapPart mapBytes howMany countShown question10 indexedQuestions Viewing.isEdge Viewing.isWindow Viewing.question20 Viewing.question11 Viewing.viewQuestions outcome checkJob scheduled
     added Rows.without takenOut addedPopup takenOutPopup addChecks takeOutChecks some bothLater firstRule causes secondRule namesHighest judge judgeSchedule question22 judgeQuestions judgeJob countChecks countJob columnQuestions toColumnsJob fromColumnsJob toColumns fromColumns asColumns asMarks differences sums schedulingQuestions schedulingJob assembleJob fillJob shownIn viewJob digits line rootStep root nearestFrom nearest markLine markLines listing refusalLine printQuestions printed
 examples = refl

@@ -26,7 +26,7 @@ ghost use Rattle.jobs.specs.Counted.{MeetsCounting};
 
 // ---- sheets
 
-// Questions 1 to 9, with 19, 21 and 23.
+// Questions 1 to 9, with 19, 21, 23 and 24.
 #[no_mangle]
 pub extern "C" fn rollmap_check(sheet: &[u8]) -> Answer
     ensures { λ r. ⌜ r ≡ answerOf (checkJob (now (sheet .entry))) ⌝ }
@@ -46,7 +46,7 @@ pub extern "C" fn rollmap_part(sheet: &[u8], code: u32) -> Extent
 }
 
 // Puts the bodies under these codes together into a sheet at the start of `out`: questions 1 (of the number of parts), 2 of the codes, 4 to 9
-// with 19, 21 and 23, and 13. Bodies behind those that the codes name are ignored. The sheet has these parts and is accepted; an accepted sheet's own
+// with 19, 21, 23 and 24, and 13. Bodies behind those that the codes name are ignored. The sheet has these parts and is accepted; an accepted sheet's own
 // parts give that sheet.
 #[no_mangle]
 pub extern "C" fn rollmap_assemble<'a>(
@@ -62,8 +62,8 @@ pub extern "C" fn rollmap_assemble<'a>(
 
 // ---- scheduling
 
-// Writes the sheet of three parts that a sheet's marks give, with parts 4 and 5 where they are there, and part 6 renewed, and answers its length:
-// questions 1 to 9, with 19, 21 and 23, and 13. What the work buffer holds plays no part, and what it is left with after a success is not said.
+// Writes the sheet of three parts that a sheet's marks give, with parts 4, 5 and 7 where they are there, and part 6 renewed, and answers its length:
+// questions 1 to 9, with 19, 21, 23 and 24, and 13. What the work buffer holds plays no part, and what it is left with after a success is not said.
 // The written sheet meets demand 3.
 #[no_mangle]
 pub extern "C" fn rollmap_schedule(sheet: &[u8], work: &mut [u8], out: &mut [u8]) -> Answer
@@ -75,7 +75,7 @@ pub extern "C" fn rollmap_schedule(sheet: &[u8], work: &mut [u8], out: &mut [u8]
 
 // ---- marks that come and go
 
-// Schedules a sheet's marks and one more, given by its fields and its popup, behind them, keeps parts 4 and 5 and renews part 6: questions 1 to 10,
+// Schedules a sheet's marks and one more, given by its fields and its popup, behind them, keeps parts 4, 5 and 7 and renews part 6: questions 1 to 10,
 // 18, then 5, 6 and 21 of the new mark, and 13. It is the sheet that scheduling writes for the new marks; the sheet's own schedule plays no part.
 #[no_mangle]
 pub extern "C" fn rollmap_add(
@@ -97,7 +97,7 @@ pub extern "C" fn rollmap_add(
     changes::add(sheet, x, y, radius, priority, kind, tag, popup, work, out)
 }
 
-// Schedules a sheet's marks without mark m, whereupon higher numbers drop by one, keeps part 4, and part 5 without m's row, and renews part 6:
+// Schedules a sheet's marks without mark m, whereupon higher numbers drop by one, keeps parts 4 and 7, and part 5 without m's row, and renews part 6:
 // questions 1 to 10, 17 and 13. It is the sheet that scheduling writes for the new marks.
 #[no_mangle]
 pub extern "C" fn rollmap_take_out(sheet: &[u8], m: u32, work: &mut [u8], out: &mut [u8]) -> Answer
@@ -120,7 +120,7 @@ pub extern "C" fn rollmap_judge(sheet: &[u8]) -> Answer
 
 // ---- counting
 
-// Writes a sheet with part 6, the counts of its own schedule, and answers its length: questions 1 to 9, with 19, 21 and 23, 10 where part 2 is
+// Writes a sheet with part 6, the counts of its own schedule, and answers its length: questions 1 to 9, with 19, 21, 23 and 24, 10 where part 2 is
 // lacking, and 13. Its other parts stay as they are.
 #[no_mangle]
 pub extern "C" fn rollmap_count(sheet: &[u8], out: &mut [u8]) -> Answer

@@ -19,10 +19,10 @@ lent-long a n h =
     let e = length-drop (markSize * n) a in
     rw (take-all (length a - markSize * n) (drop (markSize * n) a) (omega (arith, e))) (omega (arith, e))
 
-pub behind : (edition : ℕ) (popups a : List ℕ) (n from k : ℕ) {t : List ℕ} → from ≡ markSize * n → k ≡ length a - from
-    → t ≡ records (process (marksOf (reelIn edition popups a n))) n ++ drop (recordSize * n) (midOf from k a) → putMid from k a t ≡ withSchedule edition popups a n
+pub behind : (edition shape : ℕ) (popups a : List ℕ) (n from k : ℕ) {t : List ℕ} → from ≡ markSize * n → k ≡ length a - from
+    → t ≡ records (process (marksOf (reelIn edition shape popups a n))) n ++ drop (recordSize * n) (midOf from k a) → putMid from k a t ≡ withSchedule edition shape popups a n
 unfolding scheduleOf
-behind edition popups a n from k {t} from-is k-is t-is =
+behind edition shape popups a n from k {t} from-is k-is t-is =
     let less : length (drop from a) ≤ k = omega (arith, k-is, length-drop from a) in
     let lent : take k (drop from a) ≡ drop from a = take-all k (drop from a) less in
     let none : drop k (drop from a) ≡ [] = drop-of-length-le (drop from a) less in

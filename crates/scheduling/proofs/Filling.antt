@@ -13,8 +13,8 @@ use Rattle.lists.specs.Sorting.{Ranks}
 use Rattle.numbers.specs.Little.{Bytes}
 use Rattle.numbers.specs.Laws.{number-kept}
 use Rattle.sorting.specs.Laws.{sorted-ranks}
-use Rattle.marks.specs.Marks.{usedAt, touching, rankKey, touchingOf}
-use Rattle.marks.specs.Pairs.{popupAt, larger, pairOf, pairValue, GoodPopups}
+use Rattle.marks.specs.Marks.{usedAt, larger, touching, rankKey, touchingOf}
+use Rattle.marks.specs.Pairs.{popupAt, pairOf, pairValue, GoodPopups}
 use Rattle.marks.specs.PairLaws.{popup-none}
 use Rattle.marks.specs.declared.Label.{Label}
 use Rattle.sorting.specs.Keys.{keyAt, KeyPut, KeysSorted}
@@ -98,16 +98,16 @@ unpopped [] m e = popup-none m
 unpopped (x ∷ u) m e = absurd (omega arith)
 
 module _ {edition : ℕ} {s u w : List ℕ} {n : ℕ} (o : InRank edition s u w n) where
-  pub ordered : n ≤ 4096 → Ordered (marksOf (record { marks = s; count = n; edition = edition; popups = u })) (rowNumber w) w n
+  pub ordered : (shape : ℕ) → n ≤ 4096 → Ordered shape (marksOf (record { marks = s; count = n; edition = edition; shape = shape; popups = u })) (rowNumber w) w n
   unfolding touching pairValue
-  ordered few =
+  ordered shape few =
       record {
         proper = sheet-proper _ few;
         counted = refl;
         ranking = o .ranking;
         number = λ q h. refl;
         value = λ q p h k.
-            ap₂ pairOf (ap₂ touchingOf (o .label-is q (omega arith)) (o .label-is p k)) (ap₂ larger (o .popup-is q (omega arith)) (o .popup-is p k));
+            ap₂ pairOf (ap₂ (touchingOf shape) (o .label-is q (omega arith)) (o .label-is p k)) (ap₂ larger (o .popup-is q (omega arith)) (o .popup-is p k));
       }
 
   pub numbered : RowsNumbered w n

@@ -16,8 +16,8 @@ use Rattle.numbers.specs.Little.{leAt}
 use Rattle.numbers.specs.Laws.{number-kept}
 use Rattle.fractions.specs.Order.{Small}
 use Rattle.marks.specs.declared.Label.{Label}
-use Rattle.marks.specs.Marks.{touchingOf}
-use Rattle.marks.specs.Pairs.{larger, pairOf}
+use Rattle.marks.specs.Marks.{larger, touchingOf}
+use Rattle.marks.specs.Pairs.{pairOf}
 use Rattle.elimination.specs.declared.Record.{Record}
 use Rattle.elimination.specs.Marks.{Marks}
 use Rattle.elimination.specs.Process.{Removal, stays, put}
@@ -34,15 +34,15 @@ use Rattle.scheduling.proofs.Bytes.{record-back, put-kept, off-field, o
 -- ---- one row
 
 -- the record that was put is read back; u is w but for bytes behind the rows
-pub settles : {w u v : List ℕ} {n p b : ℕ} {t : Record} → p < n → rowSize * n ≤ length w → t .num < 2 ^ 64 → t .den < 4294967296
-    → Kept w u (rowSize * n) b → v ≡ sets u (rowSize * p + rowRecordOffset) (recordBytes t) → Scanned w p t → Settles n w v p
-settles {w} {u} {v} {n} {p} {b} {t} hp room hn hd ku e sc =
+pub settles : {shape : ℕ} {w u v : List ℕ} {n p b : ℕ} {t : Record} → p < n → rowSize * n ≤ length w → t .num < 2 ^ 64 → t .den < 4294967296
+    → Kept w u (rowSize * n) b → v ≡ sets u (rowSize * p + rowRecordOffset) (recordBytes t) → Scanned shape w p t → Settles shape n w v p
+settles {shape} {w} {u} {v} {n} {p} {b} {t} hp room hn hd ku e sc =
     let k : Kept u v (rowSize * p + rowRecordOffset) (rowSize * p + rowSize) = put-kept p t e in
     let is : rowRecord v p ≡ t = rw e (record-back u (rowSize * p + rowRecordOffset) t (omega (arith, ku .long)) (sc .number) hn hd) in
     record {
       long = k .long ∙ ku .long;
       kept = λ m a l o. number-kept k m a o ∙ number-kept ku m a (omega arith);
-      scanned = subst (Scanned w p) (sym is) sc;
+      scanned = subst (Scanned shape w p) (sym is) sc;
     }
 
 -- ---- the fields stay
@@ -56,8 +56,8 @@ same-kept k =
       popup = λ q h. number-kept k 3 (rowSize * q + rowPopupOffset) (omega arith);
     }
 
-same-more : {n p : ℕ} {w v u : List ℕ} → SameFields n w v → Settles n v u p → SameFields n w u
-same-more {n} {p} s k =
+same-more : {shape n p : ℕ} {w v u : List ℕ} → SameFields n w v → Settles shape n v u p → SameFields n w u
+same-more {n = n} {p = p} s k =
     record {
       long = k .long ∙ s .long;
       field = λ q j h l. k .kept 2 (rowSize * q + j) (omega arith) (off-field q p j l) ∙ s .field q j h l;
@@ -75,8 +75,8 @@ module _ {n : ℕ} {w v : List ℕ} (s : SameFields n w v) where
   pub radius-same : (q : ℕ) → q < n → rowLabel v q .radius ≡ rowLabel w q .radius
   radius-same q h = s .field q rowRadiusOffset h (omega arith)
 
-  touch-same : (q p : ℕ) → q < n → p < n → rowsPair v q p ≡ rowsPair w q p
-  touch-same q p hq hp = ap₂ pairOf (ap₂ touchingOf (label-same q hq) (label-same p hp)) (ap₂ larger (s .popup q hq) (s .popup p hp))
+  touch-same : (shape q p : ℕ) → q < n → p < n → rowsPair shape v q p ≡ rowsPair shape w q p
+  touch-same shape q p hq hp = ap₂ pairOf (ap₂ (touchingOf shape) (label-same q hq) (label-same p hp)) (ap₂ larger (s .popup q hq) (s .popup p hp))
 
   pub small-same : {popped : Bool} → RowsSmall popped w n → RowsSmall popped v n
   small-same g =
@@ -89,22 +89,22 @@ module _ {n : ℕ} {w v : List ℕ} (s : SameFields n w v) where
 -- ---- the loop
 
 -- v is w with what was found in the rows before p: it is small, and settles the marks of those rows
-pub record Progress (n p : ℕ) (w v : List ℕ) : Type 0 where
+pub record Progress (shape n p : ℕ) (w v : List ℕ) : Type 0 where
   pub fields : SameFields n w v
   pub small : (q : ℕ) → q < p → Small (rowValue v q)
-  pub settled : (M : Marks) (order : ℕ → ℕ) → Ordered M order w n
+  pub settled : (M : Marks) (order : ℕ → ℕ) → Ordered shape M order w n
       → (s : ℕ → Removal) × ((q : ℕ) → q < p → StoredAt v q (s (order q))) × ((q : ℕ) → q < p → SettledAt M s (order q))
 
-pub start : (n : ℕ) (w : List ℕ) → Progress n 0 w w
-start n w =
+pub start : (shape n : ℕ) (w : List ℕ) → Progress shape n 0 w w
+start shape n w =
     record {
       fields = same-kept (kept-none w (rowSize * n) 0);
       small = λ q h. absurd (omega arith);
       settled = λ M order o. ((λ _. stays), (λ q h. absurd (omega arith)), (λ q h. absurd (omega arith)));
     }
 
-pub ready : {popped : Bool} {n p : ℕ} {w v : List ℕ} → n ≤ 4096 → rowSize * n ≤ length w → RowsSmall popped w n → p < n → Progress n p w v → Scannable popped v n p
-ready {popped} {n} {p} {w} {v} few room small hp g =
+pub ready : {popped : Bool} {shape n p : ℕ} {w v : List ℕ} → n ≤ 4096 → rowSize * n ≤ length w → RowsSmall popped w n → p < n → Progress shape n p w v → Scannable popped v n p
+ready {popped} {shape} {n} {p} {w} {v} few room small hp g =
     let here = small-same (g .fields) small in
     record {
       few = few;
@@ -137,7 +137,7 @@ unfolding put
 put-other s h r i d = rw (ne-eqb i h d)
 
 -- the mark in row p joins the settled ones
-module _ {n p : ℕ} {w v u : List ℕ} (hp : p < n) (g : Progress n p w v) (x : Settles n v u p) where
+module _ {shape n p : ℕ} {w v u : List ℕ} (hp : p < n) (g : Progress shape n p w v) (x : Settles shape n v u p) where
   -- what was found for the earlier rows stays
   number-off : (k a q : ℕ) → q < p → a + k ≤ recordSize → leAt k u (rowSize * q + rowRecordOffset + a) ≡ leAt k v (rowSize * q + rowRecordOffset + a)
   number-off k a q h l = x .kept k (rowSize * q + rowRecordOffset + a) (omega arith) (omega arith)
@@ -149,18 +149,18 @@ module _ {n p : ℕ} {w v u : List ℕ} (hp : p < n) (g : Progress n p w v) (x :
   stored-off : (q : ℕ) → q < p → (r : Removal) → StoredAt v q r → StoredAt u q r
   stored-off q h r = subst (Stored r) (sym (record-off q h))
 
-  module _ (M : Marks) (order : ℕ → ℕ) (o : Ordered M order w n) where
+  module _ (M : Marks) (order : ℕ → ℕ) (o : Ordered shape M order w n) where
     inside : p < M .count
     inside = omega (arith, o .counted)
 
     apart : (q : ℕ) → q < p → order q ≢ order p
     apart q h e = let k = ap (M .key) e in omega (arith, o .ranking .rising q p h inside)
 
-    above : (s : ℕ → Removal) → ((q : ℕ) → q < p → StoredAt v q (s (order q))) → Above M order s v p
+    above : (s : ℕ → Removal) → ((q : ℕ) → q < p → StoredAt v q (s (order q))) → Above shape M order s v p
     above s st =
         record {
           number = λ q h. number-same (g .fields) q (omega arith) ∙ o .number q (omega arith);
-          value = λ q h. touch-same (g .fields) q p (omega arith) hp ∙ o .value q p h hp;
+          value = λ q h. touch-same (g .fields) shape q p (omega arith) hp ∙ o .value q p h hp;
           removal = st;
         }
 
@@ -178,7 +178,7 @@ module _ {n p : ℕ} {w v u : List ℕ} (hp : p < n) (g : Progress n p w v) (x :
               (omega arith),
         )
 
-  pub advance : Progress n (p + 1) w u
+  pub advance : Progress shape n (p + 1) w u
   advance =
       record {
         fields = same-more (g .fields) x;
@@ -186,8 +186,8 @@ module _ {n p : ℕ} {w v u : List ℕ} (hp : p < n) (g : Progress n p w v) (x :
         settled = settled-on;
       }
 
-pub finish : {n p : ℕ} {w v : List ℕ} → p ≡ n → Progress n p w v → Processed n w v
-finish {n} {p} {w} {v} e g =
+pub finish : {shape n p : ℕ} {w v : List ℕ} → p ≡ n → Progress shape n p w v → Processed shape n w v
+finish {shape} {n} {p} {w} {v} e g =
     record {
       fields = g .fields;
       removals = λ M order o k h.
@@ -198,8 +198,8 @@ finish {n} {p} {w} {v} e g =
     }
 
 -- the rows of v are those of w
-pub processed-like : {n : ℕ} {w v u : List ℕ} → SameFields n w v → Processed n v u → Processed n w u
-processed-like s x =
+pub processed-like : {shape n : ℕ} {w v u : List ℕ} → SameFields n w v → Processed shape n v u → Processed shape n w u
+processed-like {shape} s x =
     record {
       fields =
           record {
@@ -214,6 +214,6 @@ processed-like s x =
             counted = o .counted;
             ranking = o .ranking;
             number = λ q h. number-same s q h ∙ o .number q h;
-            value = λ q p h k. touch-same s q p (omega arith) k ∙ o .value q p h k;
+            value = λ q p h k. touch-same s shape q p (omega arith) k ∙ o .value q p h k;
           });
     }

@@ -66,8 +66,8 @@ gather s out n (suc k) h all =
     let e : recordSize * suc k ≡ recordSize * k + recordSize = omega arith in
     rw e (take-add (recordSize * k) recordSize out ∙ rw (gather s out n k (omega arith) all, all k (omega arith)))
 
-pub published : {w v : List ℕ} {n : ℕ} {out₀ out : List ℕ} → Processed n w v → Spread v n n out₀ out → Published w n out₀ out
-published {w} {v} {n} {out₀} {out} pr sp =
+pub published : {shape : ℕ} {w v : List ℕ} {n : ℕ} {out₀ out : List ℕ} → Processed shape n w v → Spread v n n out₀ out → Published shape w n out₀ out
+published {shape} {w} {v} {n} {out₀} {out} pr sp =
     record {
       records-are = λ M order o.
           let each : (i : ℕ) → i < n → slot out i ≡ recordBytes (removalRecord (process M i)) = λ i h.

@@ -3,13 +3,12 @@ use Prim.Native.Nat.{ℕ, _+_, _*_, _%_, _<_, _≤_}
 use mathlib.Core.Path.{_≡_}
 use mathlib.Core.List.{List, _++_}
 use lib.ListN.{length}
+use Rattle.lists.specs.Sorting.{Ranks}
 use Rattle.numbers.specs.Little.{leAt, leBytes}
 use Rattle.marks.specs.Marks.{markSize, yOffset, usedAt, labelAt, rankKey}
 use Rattle.marks.specs.Pairs.{popupAt, GoodPopups}
 use Rattle.marks.specs.Good.{GoodMarks}
 use Rattle.sorting.specs.Keys.{keyAt}
-use Rattle.elimination.specs.RankOrder.{Ranking}
-use Rattle.elimination.specs.Reel.{marksOf}
 use Rattle.elimination.specs.Records.{recordSize}
 use Rattle.searching.specs.Rows.{rowSize, rowXOffset, rowYOffset, rowRadiusOffset, rowPopupOffset, rowNumber, rowLabel, rowPopup}
 
@@ -65,7 +64,7 @@ pub record RowsPut (s u : List ℕ) (n p : ℕ) (w₀ w : List ℕ) : Type 0 whe
 
 -- the rows of w are the marks of s in the order of rank in this edition
 pub record InRank (edition : ℕ) (s u w : List ℕ) (n : ℕ) : Type 0 where
-  pub ranking : Ranking (marksOf (record { marks = s; count = n; edition = edition; popups = u })) (rowNumber w)
+  pub ranking : Ranks n (rankKey edition s) (rowNumber w)
   pub label-is : (q : ℕ) → q < n → rowLabel w q ≡ labelAt s (rowNumber w q)
   pub popup-is : (q : ℕ) → q < n → rowPopup w q ≡ popupAt u (rowNumber w q)
 

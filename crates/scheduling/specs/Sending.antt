@@ -37,5 +37,5 @@ pub record Spread (w : List ℕ) (n p : ℕ) (out₀ out : List ℕ) : Type 0 wh
   pub slots : (q : ℕ) → q < p → slot out (rowNumber w q) ≡ sendAt w q
 
 -- out begins with the process's records, for the marks whose rows w has, and goes on as out₀ does
-pub record Published (w : List ℕ) (n : ℕ) (out₀ out : List ℕ) : Type 0 where
-  pub records-are : (M : Marks) (order : ℕ → ℕ) → Ordered M order w n → out ≡ records (process M) n ++ drop (recordSize * n) out₀
+pub record Published (shape : ℕ) (w : List ℕ) (n : ℕ) (out₀ out : List ℕ) : Type 0 where
+  pub records-are : (M : Marks) (order : ℕ → ℕ) → Ordered shape M order w n → out ≡ records (process M) n ++ drop (recordSize * n) out₀

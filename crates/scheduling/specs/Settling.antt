@@ -31,20 +31,20 @@ pub record Scannable (popped : Bool) (w : List ℕ) (n p : ℕ) : Type 0 where
   pub plain : popped ≡ false → (q : ℕ) → q ≤ p → rowPopup w q ≡ 0
 
 -- v is w with what the search finds for row p written there; behind the rows it may differ
-pub record Settles (n : ℕ) (w v : List ℕ) (p : ℕ) : Type 0 where
+pub record Settles (shape n : ℕ) (w v : List ℕ) (p : ℕ) : Type 0 where
   pub long : length v ≡ length w
   pub kept : (k a : ℕ) → a + k ≤ rowSize * n → Clear a k (rowSize * p + rowRecordOffset) (rowSize * p + rowSize) → leAt k v a ≡ leAt k w a
-  pub scanned : Scanned w p (rowRecord v p)
+  pub scanned : Scanned shape w p (rowRecord v p)
 
 -- ---- all rows
 
--- the rows of w are those of the marks of M, in the order of rank
-pub record Ordered (M : Marks) (order : ℕ → ℕ) (w : List ℕ) (n : ℕ) : Type 0 where
+-- the rows of w are those of the marks of M, in the order of rank, with the pair values of this shape
+pub record Ordered (shape : ℕ) (M : Marks) (order : ℕ → ℕ) (w : List ℕ) (n : ℕ) : Type 0 where
   pub proper : Proper M
   pub counted : M .count ≡ n
   pub ranking : Ranking M order
   pub number : (q : ℕ) → q < n → rowNumber w q ≡ order q
-  pub value : (q p : ℕ) → q < p → p < n → rowsPair w q p ≡ M .value (order q) (order p)
+  pub value : (q p : ℕ) → q < p → p < n → rowsPair shape w q p ≡ M .value (order q) (order p)
 
 -- the fields of the n rows are the same in v as in w
 pub record SameFields (n : ℕ) (w v : List ℕ) : Type 0 where
@@ -53,6 +53,6 @@ pub record SameFields (n : ℕ) (w v : List ℕ) : Type 0 where
   pub popup : (q : ℕ) → q < n → rowPopup v q ≡ rowPopup w q
 
 -- v is w with the process's removals in the rows
-pub record Processed (n : ℕ) (w v : List ℕ) : Type 0 where
+pub record Processed (shape n : ℕ) (w v : List ℕ) : Type 0 where
   pub fields : SameFields n w v
-  pub removals : (M : Marks) (order : ℕ → ℕ) → Ordered M order w n → (p : ℕ) → p < n → StoredAt v p (process M (order p))
+  pub removals : (M : Marks) (order : ℕ → ℕ) → Ordered shape M order w n → (p : ℕ) → p < n → StoredAt v p (process M (order p))

@@ -43,35 +43,35 @@ const KEYS: usize = 24;
 // ---- the removals of all rows
 
 // Finds and writes what becomes of the mark in row p. `popped` is false only where no row has a popup.
-fn settle(w: &mut [u8], n: usize, p: usize, popped: bool)
+fn settle(w: &mut [u8], n: usize, p: usize, shape: u8, popped: bool)
     requires { ⌜ Scannable popped (now w) n p ⌝ }
-    ensures { λ _. ⌜ Settles n (now (w .entry)) (now (w .exit)) p ⌝ }
+    ensures { λ _. ⌜ Settles shape n (now (w .entry)) (now (w .exit)) p ⌝ }
 {
     let label = searching::row_label(w, p);
-    let found = searching::best_of(w, p, label, popped);
+    let found = searching::best_of(w, p, shape, label, popped);
     elimination::put_record(w, ROW_SIZE * p + ROW_RECORD, found);
 }
 
-fn settle_rows(w: &mut [u8], n: usize, popped: bool)
+fn settle_rows(w: &mut [u8], n: usize, shape: u8, popped: bool)
     requires { ⌜ (n ≤ 4096) × (rowSize * n ≤ length (now w)) × RowsSmall popped (now w) n ⌝ }
-    ensures { λ _. ⌜ Processed n (now (w .entry)) (now (w .exit)) ⌝ }
+    ensures { λ _. ⌜ Processed shape n (now (w .entry)) (now (w .exit)) ⌝ }
 {
     let mut p = 0;
     while p < n {
-        settle(w, n, p, popped);
+        settle(w, n, p, shape, popped);
         p += 1;
     }
 }
 
 // The same as `settle` by cells; then row p goes into its cell.
-fn settle_in_grid(w: &mut [u8], n: usize, p: usize, plan: Plan, popped: bool)
+fn settle_in_grid(w: &mut [u8], n: usize, p: usize, plan: Plan, shape: u8, popped: bool)
     requires { ⌜ Scannable popped (now w) n p × Gridded (now w) (rowSize * n) p × (workSize n ≤ length (now w)) × (256 ≤ n) × Divides plan ⌝ }
-    ensures { λ _. ⌜ Settles n (now (w .entry)) (now (w .exit)) p × Gridded (now (w .exit)) (rowSize * n) (p + 1) ⌝ }
+    ensures { λ _. ⌜ Settles shape n (now (w .entry)) (now (w .exit)) p × Gridded (now (w .exit)) (rowSize * n) (p + 1) ⌝ }
 {
     let at = ROW_SIZE * n;
     let label = searching::row_label(w, p);
     let c = grid::cell_of(plan, label);
-    let found = searching::best_in_grid(w, at, p, c, label, popped);
+    let found = searching::best_in_grid(w, at, p, c, shape, label, popped);
     grid::add(w, at, p, c, label);
     elimination::put_record(w, ROW_SIZE * p + ROW_RECORD, found);
 }
@@ -96,27 +96,27 @@ fn plan_grid(w: &[u8], n: usize) -> Plan
     grid::plan_of(e, n)
 }
 
-fn settle_by_cells(w: &mut [u8], n: usize, popped: bool)
+fn settle_by_cells(w: &mut [u8], n: usize, shape: u8, popped: bool)
     requires { ⌜ (256 ≤ n) × (n ≤ 4096) × (workSize n ≤ length (now w)) × RowsSmall popped (now w) n ⌝ }
-    ensures { λ _. ⌜ Processed n (now (w .entry)) (now (w .exit)) ⌝ }
+    ensures { λ _. ⌜ Processed shape n (now (w .entry)) (now (w .exit)) ⌝ }
 {
     let plan = plan_grid(w, n);
     grid::clear(w, ROW_SIZE * n);
     let mut p = 0;
     while p < n {
-        settle_in_grid(w, n, p, plan, popped);
+        settle_in_grid(w, n, p, plan, shape, popped);
         p += 1;
     }
 }
 
-fn settle_all(w: &mut [u8], n: usize, popped: bool)
+fn settle_all(w: &mut [u8], n: usize, shape: u8, popped: bool)
     requires { ⌜ (n ≤ 4096) × (workSize n ≤ length (now w)) × RowsSmall popped (now w) n ⌝ }
-    ensures { λ _. ⌜ Processed n (now (w .entry)) (now (w .exit)) ⌝ }
+    ensures { λ _. ⌜ Processed shape n (now (w .entry)) (now (w .exit)) ⌝ }
 {
     if n < MANY {
-        settle_rows(w, n, popped);
+        settle_rows(w, n, shape, popped);
     } else {
-        settle_by_cells(w, n, popped);
+        settle_by_cells(w, n, shape, popped);
     }
 }
 
@@ -157,12 +157,12 @@ fn send_all(w: &[u8], out: &mut [u8], n: usize)
 }
 
 // The schedule of the marks whose rows stand in w in the order of rank. `popped` is false only where none has a popup.
-fn schedule_rows(w: &mut [u8], out: &mut [u8], n: usize, popped: bool)
+fn schedule_rows(w: &mut [u8], out: &mut [u8], n: usize, shape: u8, popped: bool)
     requires { ⌜ (n ≤ 4096) × (workSize n ≤ length (now w)) × (recordSize * n ≤ length (now out)) ⌝ }
     requires { ⌜ RowsSmall popped (now w) n × RowsNumbered (now w) n ⌝ }
-    ensures { λ _. ⌜ Published (now (w .entry)) n (now (out .entry)) (now (out .exit)) ⌝ }
+    ensures { λ _. ⌜ Published shape (now (w .entry)) n (now (out .entry)) (now (out .exit)) ⌝ }
 {
-    settle_all(w, n, popped);
+    settle_all(w, n, shape, popped);
     send_all(w, out, n);
 }
 
@@ -233,22 +233,30 @@ fn put_ranked_in(all: &[u8], edition: u8, at: usize, work: &mut [u8], n: usize)
     put_ranked(&all[..size], edition, &all[at..], work, n);
 }
 
-// Writes part 2 for the n marks at the start of `marks`, ranked by this edition, with these popups: who removes each mark, and where.
-pub fn schedule(marks: &[u8], edition: u8, popups: &[u8], work: &mut [u8], out: &mut [u8], n: usize)
+// Writes part 2 for the n marks at the start of `marks`, ranked by this edition, of this shape and with these popups: who removes each mark, and where.
+pub fn schedule(
+    marks: &[u8],
+    edition: u8,
+    shape: u8,
+    popups: &[u8],
+    work: &mut [u8],
+    out: &mut [u8],
+    n: usize,
+)
     requires { ⌜ Schedulable (now marks) (now popups) (now work) (now out) n ⌝ }
-    ensures { λ _. ⌜ now (out .exit) ≡ scheduleOf (record { marks = now (marks .entry); count = n; edition = edition; popups = now (popups .entry) }) ++ drop (recordSize * n) (now (out .entry)) ⌝ }
+    ensures { λ _. ⌜ now (out .exit) ≡ scheduleOf (record { marks = now (marks .entry); count = n; edition = edition; shape = shape; popups = now (popups .entry) }) ++ drop (recordSize * n) (now (out .entry)) ⌝ }
 {
     put_ranked(marks, edition, popups, work, n);
-    schedule_rows(work, out, n, 0 < popups.len());
+    schedule_rows(work, out, n, shape, 0 < popups.len());
 }
 
 // Part 2 where the marks stand in the buffer that is written, with the room for it behind them, and the popups at its end, from `at` on: no
 // copy of them stands elsewhere.
-pub fn schedule_behind(all: &mut [u8], edition: u8, at: usize, work: &mut [u8], n: usize)
+pub fn schedule_behind(all: &mut [u8], edition: u8, shape: u8, at: usize, work: &mut [u8], n: usize)
     requires { ⌜ GoodMarks (take (markSize * n) (now all)) n × (workSize n ≤ length (now work)) × (scheduleEnd n ≤ length (now all)) × (at ≤ length (now all)) × GoodPopups (drop at (now all)) n ⌝ }
-    ensures { λ _. ⌜ now (all .exit) ≡ withSchedule edition (drop at (now (all .entry))) (now (all .entry)) n ⌝ }
+    ensures { λ _. ⌜ now (all .exit) ≡ withSchedule edition shape (drop at (now (all .entry))) (now (all .entry)) n ⌝ }
 {
     put_ranked_in(all, edition, at, work, n);
     let popped = at < all.len();
-    schedule_rows(work, &mut all[MARK_SIZE * n..], n, popped);
+    schedule_rows(work, &mut all[MARK_SIZE * n..], n, shape, popped);
 }

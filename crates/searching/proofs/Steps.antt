@@ -59,16 +59,16 @@ precedes-no f j g k e = go (less f g) (less g f) (ltb j k) refl refl refl e
 
 -- ---- steps one after the other
 
-module _ {w : List ℕ} {p : ℕ} where
+module _ {shape : ℕ} {w : List ℕ} {p : ℕ} where
   -- a candidate that goes before the rows of T already
-  pub adds-before : (T : ℕ → Type 0) (c : Leader) → (Positive w p → (q : ℕ) → q < p → T q → Before w p c q) → Adds w p T c c
+  pub adds-before : (T : ℕ → Type 0) (c : Leader) → (Positive shape w p → (q : ℕ) → q < p → T q → Before shape w p c q) → Adds shape w p T c c
   adds-before T c h = record { step = λ pos re. (re, (λ q b x. x), h pos) }
 
-  pub adds-like : (T S : ℕ → Type 0) {c d : Leader} → ((q : ℕ) → q < p → S q → T q) → Adds w p T c d → Adds w p S c d
+  pub adds-like : (T S : ℕ → Type 0) {c d : Leader} → ((q : ℕ) → q < p → S q → T q) → Adds shape w p T c d → Adds shape w p S c d
   adds-like T S h x = record { step = λ pos re. let (r, k, n) = x .step pos re in (r, k, λ q b y. n q b (h q b y)) }
 
   pub adds-then : (T U S : ℕ → Type 0) {c d e : Leader} → ((q : ℕ) → q < p → S q → T q ⊎ U q)
-      → Adds w p T c d → Adds w p U d e → Adds w p S c e
+      → Adds shape w p T c d → Adds shape w p U d e → Adds shape w p S c e
   adds-then T U S split x y =
       record {
         step = λ pos re.
@@ -80,10 +80,10 @@ module _ {w : List ℕ} {p : ℕ} where
             );
       }
 
-  pub higher-none : (c : Leader) → Adds w p (Higher 0) c c
+  pub higher-none : (c : Leader) → Adds shape w p (Higher 0) c c
   higher-none c = adds-before (Higher 0) c (λ pos q h x. absurd (omega arith))
 
-  pub higher-more : {k : ℕ} {c d e : Leader} → Adds w p (Higher k) c d → Adds w p (Only k) d e → Adds w p (Higher (k + 1)) c e
+  pub higher-more : {k : ℕ} {c d e : Leader} → Adds shape w p (Higher k) c d → Adds shape w p (Only k) d e → Adds shape w p (Higher (k + 1)) c e
   higher-more {k} =
       adds-then (Higher k) (Only k) (Higher (k + 1)) (λ q h l. elim (ℕ-discrete q k) [ yes e ↦ inr e | no e ↦ inl (omega arith) ])
 
@@ -92,22 +92,22 @@ module _ {w : List ℕ} {p : ℕ} where
 abbrev pub row-of : ℕ → Fraction → Leader
 row-of q v = record { num = v .num; den = v .den; row = q }
 
-module _ {w : List ℕ} {p q : ℕ} {c : Leader} {v : Fraction} (b : q < p) (v-is : v ≡ rowsPair w q p) where
-  cover : Before w p c q → Adds w p (Only q) c c
+module _ {shape : ℕ} {w : List ℕ} {p q : ℕ} {c : Leader} {v : Fraction} (b : q < p) (v-is : v ≡ rowsPair shape w q p) where
+  cover : Before shape w p c q → Adds shape w p (Only q) c c
   cover x = adds-before (Only q) c (λ pos k h i. rw i x)
 
-  pub keep-behind : precedes v (leaderValue c) (ltb q (c .row)) ≡ false → Adds w p (Only q) c c
+  pub keep-behind : precedes v (leaderValue c) (ltb q (c .row)) ≡ false → Adds shape w p (Only q) c c
   keep-behind t =
       cover
       (elim (precedes-no v q (leaderValue c) (c .row) t) [
-        | inl h ↦ (let l : Less (leaderValue c) (rowsPair w q p) = rw v-is at h in record { atMost = λ s. record { cross = omega arith }; less = λ s k. l })
+        | inl h ↦ (let l : Less (leaderValue c) (rowsPair shape w q p) = rw v-is at h in record { atMost = λ s. record { cross = omega arith }; less = λ s k. l })
         | inr h ↦ record { atMost = λ s. rw v-is at (h .0); less = λ s k. absurd (omega (arith, h .1)) }
       ])
 
-  pub keep-gone : (Less v (rowValue w q) → ⊥) → Adds w p (Only q) c c
+  pub keep-gone : (Less v (rowValue w q) → ⊥) → Adds shape w p (Only q) c c
   keep-gone nay = cover (record { atMost = λ s. absurd (nay (rw v-is s)); less = λ s k. absurd (nay (rw v-is s)) })
 
-  pub take : precedes v (leaderValue c) (ltb q (c .row)) ≡ true → Less v (rowValue w q) → Adds w p (Only q) c (row-of q v)
+  pub take : precedes v (leaderValue c) (ltb q (c .row)) ≡ true → Less v (rowValue w q) → Adds shape w p (Only q) c (row-of q v)
   take t l =
       record {
         step = λ pos re. (
@@ -120,7 +120,7 @@ module _ {w : List ℕ} {p q : ℕ} {c : Leader} {v : Fraction} (b : q < p) (v-i
         );
       }
     where
-      won : (k : ℕ) → 0 < rowsPair w k p .den → Before w p c k → Less v (leaderValue c) → Before w p (row-of q v) k
+      won : (k : ℕ) → 0 < rowsPair shape w k p .den → Before shape w p c k → Less v (leaderValue c) → Before shape w p (row-of q v) k
       won k z x y =
           record {
             atMost = λ s. let u = less-atMost z y (x .atMost s) in record { cross = omega arith };
@@ -128,13 +128,13 @@ module _ {w : List ℕ} {p q : ℕ} {c : Leader} {v : Fraction} (b : q < p) (v-i
           }
 
       -- what is at most v is not 1/0
-      known : Positive w p → Real w p c → AtMost (leaderValue c) v → 0 < c .den
+      known : Positive shape w p → Real shape w p c → AtMost (leaderValue c) v → 0 < c .den
       known pos (inl e) a =
           absurd (let z : 0 < v .den = rw v-is (pos q b) in let u : AtMost never v = rw e at a in omega arith)
       known pos (inr x) a =
-          let g : c .den ≡ rowsPair w (c .row) p .den = ap (λ (f : Fraction). f .den) (x .exact) in rw g (pos (c .row) (x .below))
+          let g : c .den ≡ rowsPair shape w (c .row) p .den = ap (λ (f : Fraction). f .den) (x .exact) in rw g (pos (c .row) (x .below))
 
-      drawn : (k : ℕ) → 0 < rowsPair w q p .den → 0 < c .den → Before w p c k → AtMost v (leaderValue c) → q < c .row → Before w p (row-of q v) k
+      drawn : (k : ℕ) → 0 < rowsPair shape w q p .den → 0 < c .den → Before shape w p c k → AtMost v (leaderValue c) → q < c .row → Before shape w p (row-of q v) k
       drawn k zq zd x y i =
           record {
             atMost = λ s. atMost-trans {g = leaderValue c} zd y (x .atMost s);
@@ -143,18 +143,18 @@ module _ {w : List ℕ} {p q : ℕ} {c : Leader} {v : Fraction} (b : q < p) (v-i
 
 -- ---- all rows were taken in
 
-module _ {w : List ℕ} {p : ℕ} (c : Leader) (t : Record) (t-is : fractionOf t ≡ leaderValue c) (who : t .eliminator ≡ rowNumber w (c .row))
-    (M : Marks) (order : ℕ → ℕ) (s : ℕ → Removal) (ok : Proper M) (rows : Above M order s w p) (bef : (q : ℕ) → q < p → Before w p c q) where
-  stood : (q : ℕ) → q < p → Stands M order s (order p) q → StandsAt w p q
+module _ {shape : ℕ} {w : List ℕ} {p : ℕ} (c : Leader) (t : Record) (t-is : fractionOf t ≡ leaderValue c) (who : t .eliminator ≡ rowNumber w (c .row))
+    (M : Marks) (order : ℕ → ℕ) (s : ℕ → Removal) (ok : Proper M) (rows : Above shape M order s w p) (bef : (q : ℕ) → q < p → Before shape w p c q) where
+  stood : (q : ℕ) → q < p → Stands M order s (order p) q → StandsAt shape w p q
   stood q h y = rw (rows .value q h) (later-less (s (order q)) (rowRecord w q) (ok .positive _ _) (rows .removal q h) y)
 
-  done : Real w p c → (r : Removal) × Stored r t × Found M order s (order p) p r
+  done : Real shape w p c → (r : Removal) × Stored r t × Found M order s (order p) p r
   done (inl e) = (
     stays,
     t-is ∙ e,
     λ q h y.
-        let z : 0 < rowsPair w q p .den = rw (rows .value q h) (ok .positive _ _) in
-        let u : AtMost never (rowsPair w q p) = rw e at (bef q h .atMost (stood q h y)) in
+        let z : 0 < rowsPair shape w q p .den = rw (rows .value q h) (ok .positive _ _) in
+        let u : AtMost never (rowsPair shape w q p) = rw e at (bef q h .atMost (stood q h y)) in
         omega arith,
   )
   done (inr x) =
@@ -176,14 +176,14 @@ module _ {w : List ℕ} {p : ℕ} (c : Leader) (t : Record) (t-is : fractionOf t
         ),
       )
 
-pub searched : {w : List ℕ} {p : ℕ} {c : Leader} (t : Record) → fractionOf t ≡ leaderValue c → t .eliminator ≡ rowNumber w (c .row)
-    → t .eliminator < 65536 → Admitted p c → Adds w p (Higher p) none c → Scanned w p t
-searched {w} {p} {c} t t-is who small ad x =
+pub searched : {shape : ℕ} {w : List ℕ} {p : ℕ} {c : Leader} (t : Record) → fractionOf t ≡ leaderValue c → t .eliminator ≡ rowNumber w (c .row)
+    → t .eliminator < 65536 → Admitted p c → Adds shape w p (Higher p) none c → Scanned shape w p t
+searched {shape} {w} {p} {c} t t-is who small ad x =
     record {
       small = rw t-is (ad .small);
       number = small;
       found = λ M order s ok rows.
-          let pos : Positive w p = λ q h. rw (rows .value q h) (ok .positive _ _) in
+          let pos : Positive shape w p = λ q h. rw (rows .value q h) (ok .positive _ _) in
           let (re, _, bef) = x .step pos (inl refl) in
           done c t t-is who M order s ok rows (λ q h. bef q h h) re;
     }

@@ -26,15 +26,15 @@ abbrev pub Tail : (ℕ → ℕ) → ℕ → ℕ → ℕ → Type 0
 Tail cell c h q = (cell q ≡ c) × (h ≤ q)
 
 -- `best` goes before the rows of cell c from h on, and row h - 1 is the next one
-pub record Walked (w : List ℕ) (at p c h : ℕ) (from best : Leader) : Type 0 where
+pub record Walked (shape : ℕ) (w : List ℕ) (at p c h : ℕ) (from best : Leader) : Type 0 where
   pub next : (cell : ℕ → ℕ) → InGrid w at p cell → (i : ℕ) → h ≡ suc i → cell i ≡ c
-  pub adds : (cell : ℕ → ℕ) → InGrid w at p cell → Adds w p (Tail cell c h) from best
+  pub adds : (cell : ℕ → ℕ) → InGrid w at p cell → Adds shape w p (Tail cell c h) from best
 
 -- ---- cells
 
 -- from c to d: d goes before the rows of the cells T as well
-pub record CellAdded (w : List ℕ) (at p : ℕ) (T : ℕ → Type 0) (c d : Leader) : Type 0 where
-  pub adds : (cell : ℕ → ℕ) → InGrid w at p cell → Adds w p (λ q. T (cell q)) c d
+pub record CellAdded (shape : ℕ) (w : List ℕ) (at p : ℕ) (T : ℕ → Type 0) (c d : Leader) : Type 0 where
+  pub adds : (cell : ℕ → ℕ) → InGrid w at p cell → Adds shape w p (λ q. T (cell q)) c d
 
 abbrev pub Own : ℕ → ℕ → Type 0
 Own c d = d ≡ c

@@ -7,8 +7,8 @@ use Rattle.numbers.specs.Little.{leAt, signed}
 use Rattle.fractions.specs.declared.Fraction.{Fraction}
 use Rattle.fractions.specs.Order.{Small}
 use Rattle.marks.specs.declared.Label.{Label}
-use Rattle.marks.specs.Marks.{touchingOf}
-use Rattle.marks.specs.Pairs.{larger, pairOf}
+use Rattle.marks.specs.Marks.{larger, touchingOf}
+use Rattle.marks.specs.Pairs.{pairOf}
 use Rattle.elimination.specs.declared.Record.{Record}
 use Rattle.elimination.specs.Process.{Removal, stays, gone}
 use Rattle.elimination.specs.Records.{recordAt, fractionOf}
@@ -55,11 +55,11 @@ abbrev pub rowValue : List ℕ → ℕ → Fraction
 rowValue w q = fractionOf (rowRecord w q)
 
 -- the touching value of two rows, and their pair value
-abbrev pub rowsTouch : List ℕ → ℕ → ℕ → Fraction
-rowsTouch w q p = touchingOf (rowLabel w q) (rowLabel w p)
+abbrev pub rowsTouch : ℕ → List ℕ → ℕ → ℕ → Fraction
+rowsTouch shape w q p = touchingOf shape (rowLabel w q) (rowLabel w p)
 
-abbrev pub rowsPair : List ℕ → ℕ → ℕ → Fraction
-rowsPair w q p = pairOf (rowsTouch w q p) (larger (rowPopup w q) (rowPopup w p))
+abbrev pub rowsPair : ℕ → List ℕ → ℕ → ℕ → Fraction
+rowsPair shape w q p = pairOf (rowsTouch shape w q p) (larger (rowPopup w q) (rowPopup w p))
 
 -- ---- what was found
 

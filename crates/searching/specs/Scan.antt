@@ -11,14 +11,14 @@ use Rattle.elimination.specs.Records.{fractionOf}
 use Rattle.searching.specs.Rows.{rowNumber, rowsPair, Stored, StoredAt}
 
 -- the rows above p are those of the marks `order 0`, .., with the removals s
-pub record Above (M : Marks) (order : ℕ → ℕ) (s : ℕ → Removal) (w : List ℕ) (p : ℕ) : Type 0 where
+pub record Above (shape : ℕ) (M : Marks) (order : ℕ → ℕ) (s : ℕ → Removal) (w : List ℕ) (p : ℕ) : Type 0 where
   pub number : (q : ℕ) → q < p → rowNumber w q ≡ order q
-  pub value : (q : ℕ) → q < p → rowsPair w q p ≡ M .value (order q) (order p)
+  pub value : (q : ℕ) → q < p → rowsPair shape w q p ≡ M .value (order q) (order p)
   pub removal : (q : ℕ) → q < p → StoredAt w q (s (order q))
 
 -- `t` is what a search of the rows above p finds for row p: its best candidate
-pub record Scanned (w : List ℕ) (p : ℕ) (t : Record) : Type 0 where
+pub record Scanned (shape : ℕ) (w : List ℕ) (p : ℕ) (t : Record) : Type 0 where
   pub small : Small (fractionOf t)
   pub number : t .eliminator < 65536
-  pub found : (M : Marks) (order : ℕ → ℕ) (s : ℕ → Removal) → Proper M → Above M order s w p
+  pub found : (M : Marks) (order : ℕ → ℕ) (s : ℕ → Removal) → Proper M → Above shape M order s w p
       → (r : Removal) × Stored r t × Found M order s (order p) p r

@@ -8,8 +8,10 @@ use lib.ListN.{length}
 use Rattle.fractions.specs.declared.Fraction.{Fraction}
 use Rattle.fractions.specs.Order.{less, Less, AtMost, Small}
 use Rattle.marks.specs.declared.Label.{Label}
+use Rattle.elimination.specs.declared.Record.{Record}
 use Rattle.searching.specs.declared.Leader.{Leader}
 use Rattle.searching.specs.Rows.{rowSize, rowLabel, rowPopup, rowValue, rowsPair, never, Complete}
+use Rattle.searching.specs.Scan.{Scanned}
 
 -- ---- what is searched
 
@@ -40,41 +42,40 @@ pub record Admitted (p : ℕ) (c : Leader) : Type 0 where
 unfoldable pub precedes : Fraction → Fraction → Bool → Bool
 precedes f g tie = cond (less f g) true (cond (less g f) false tie)
 
--- v is the pair value of rows q and p
-pub record Paired (w : List ℕ) (p q : ℕ) (v : Fraction) : Type 0 where
+-- v can be compared with what was found for row q
+pub record Comparable (w : List ℕ) (p q : ℕ) (v : Fraction) : Type 0 where
   pub room : rowSize * q + rowSize ≤ length w
   pub few : p < 4096
-  pub value-is : v ≡ rowsPair w q p
   pub small : Small v
   pub removal-small : Small (rowValue w q)
 
 -- ---- what a step of the search adds
 
 -- row q is removed later than its value with row p
-abbrev pub StandsAt : List ℕ → ℕ → ℕ → Type 0
-StandsAt w p q = Less (rowsPair w q p) (rowValue w q)
+abbrev pub StandsAt : ℕ → List ℕ → ℕ → ℕ → Type 0
+StandsAt shape w p q = Less (rowsPair shape w q p) (rowValue w q)
 
-abbrev pub Positive : List ℕ → ℕ → Type 0
-Positive w p = (q : ℕ) → q < p → 0 < rowsPair w q p .den
+abbrev pub Positive : ℕ → List ℕ → ℕ → Type 0
+Positive shape w p = (q : ℕ) → q < p → 0 < rowsPair shape w q p .den
 
 -- the leader goes before row q, if that one stands
-pub record Before (w : List ℕ) (p : ℕ) (c : Leader) (q : ℕ) : Type 0 where
-  pub atMost : StandsAt w p q → AtMost (leaderValue c) (rowsPair w q p)
-  pub less : StandsAt w p q → q < c .row → Less (leaderValue c) (rowsPair w q p)
+pub record Before (shape : ℕ) (w : List ℕ) (p : ℕ) (c : Leader) (q : ℕ) : Type 0 where
+  pub atMost : StandsAt shape w p q → AtMost (leaderValue c) (rowsPair shape w q p)
+  pub less : StandsAt shape w p q → q < c .row → Less (leaderValue c) (rowsPair shape w q p)
 
 -- it is a row that stands, with its value
-pub record Leads (w : List ℕ) (p : ℕ) (c : Leader) : Type 0 where
+pub record Leads (shape : ℕ) (w : List ℕ) (p : ℕ) (c : Leader) : Type 0 where
   pub below : c .row < p
-  pub exact : leaderValue c ≡ rowsPair w (c .row) p
-  pub stands : StandsAt w p (c .row)
+  pub exact : leaderValue c ≡ rowsPair shape w (c .row) p
+  pub stands : StandsAt shape w p (c .row)
 
-abbrev pub Real : List ℕ → ℕ → Leader → Type 0
-Real w p c = (leaderValue c ≡ never) ⊎ Leads w p c
+abbrev pub Real : ℕ → List ℕ → ℕ → Leader → Type 0
+Real shape w p c = (leaderValue c ≡ never) ⊎ Leads shape w p c
 
 -- from c to d: d goes before all rows that c does, and before the rows of T
-pub record Adds (w : List ℕ) (p : ℕ) (T : ℕ → Type 0) (c d : Leader) : Type 0 where
-  pub step : Positive w p → Real w p c
-      → Real w p d × ((q : ℕ) → q < p → Before w p c q → Before w p d q) × ((q : ℕ) → q < p → T q → Before w p d q)
+pub record Adds (shape : ℕ) (w : List ℕ) (p : ℕ) (T : ℕ → Type 0) (c d : Leader) : Type 0 where
+  pub step : Positive shape w p → Real shape w p c
+      → Real shape w p d × ((q : ℕ) → q < p → Before shape w p c q → Before shape w p d q) × ((q : ℕ) → q < p → T q → Before shape w p d q)
 
 abbrev pub Only : ℕ → ℕ → Type 0
 Only j q = q ≡ j
@@ -82,6 +83,14 @@ Only j q = q ≡ j
 abbrev pub Higher : ℕ → ℕ → Type 0
 Higher k q = q < k
 
+-- from c to d with row q, by any shape by which v is its pair value with row p
+pub record AddsBy (w : List ℕ) (p q : ℕ) (v : Fraction) (c d : Leader) : Type 0 where
+  pub adds : (shape : ℕ) → v ≡ rowsPair shape w q p → Adds shape w p (Only q) c d
+
 -- d names row q, or the row that c names
 abbrev pub OneOf : ℕ → Leader → Leader → Type 0
 OneOf q c d = (d .row ≡ q) ⊎ (d .row ≡ c .row)
+
+-- t is what is found for row p, by any shape by which c goes before all rows above it
+pub record FoundBy (w : List ℕ) (p : ℕ) (c : Leader) (t : Record) : Type 0 where
+  pub found : (shape : ℕ) → Adds shape w p (Higher p) none c → Scanned shape w p t

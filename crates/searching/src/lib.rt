@@ -13,7 +13,7 @@ ghost use Rattle.marks.specs.Marks.{touchingOf};
 ghost use Rattle.grid.specs.Table.{cellCount, EntriesLow};
 ghost use Rattle.searching.specs.Rows.{rowSize, rowLabel, rowPopup, rowRecord, rowValue};
 ghost use Rattle.searching.specs.Scan.{Scanned};
-ghost use Rattle.searching.specs.Search.{leaderValue, none, precedes, Paired, Admitted, SearchFor, Adds, Only, Higher, OneOf};
+ghost use Rattle.searching.specs.Search.{leaderValue, none, precedes, Comparable, Admitted, SearchFor, Adds, AddsBy, FoundBy, Only, Higher, OneOf};
 ghost use Rattle.searching.specs.Cells.{Gridded, CellAdded, Own, Other, Range};
 
 // Among so few rows a scan of all is as fast as a search by cells.
@@ -72,12 +72,12 @@ fn row_value(w: &[u8], q: usize) -> Fraction
     elimination::fraction_of(row_record(w, q))
 }
 
-// The touching value of row q and a label.
-fn touching_row(w: &[u8], q: usize, label: Label) -> Fraction
+// The touching value of row q and a label, by the shape of the labels.
+fn touching_row(w: &[u8], q: usize, shape: u8, label: Label) -> Fraction
     requires { ⌜ (rowSize * q + rowSize ≤ length (now w)) × (rowLabel (now w) q .radius ≤ 16383) × (label .radius ≤ 16383) ⌝ }
-    ensures { λ v. ⌜ (v ≡ touchingOf (rowLabel (now (w .entry)) q) label) × Small v ⌝ }
+    ensures { λ v. ⌜ (v ≡ touchingOf shape (rowLabel (now (w .entry)) q) label) × Small v ⌝ }
 {
-    marks::touching_of(row_label(w, q), label)
+    marks::touching_of(shape, row_label(w, q), label)
 }
 
 // ---- one row against the best so far
@@ -114,8 +114,8 @@ fn precedes(f: Fraction, g: Fraction, tie: bool) -> bool
 // Row q, whose pair value with row p is v, against the best found so far: it takes its place if v goes before its value and row q is removed
 // later. A tie goes to the higher-ranked row, which `tie` says is row q.
 fn better_pair(w: &[u8], q: usize, p: usize, v: Fraction, best: Leader, tie: bool) -> Leader
-    requires { ⌜ Paired (now w) p q v × (q < p) × Admitted p best × (tie ≡ ltb q (best .row)) ⌝ }
-    ensures { λ t. ⌜ Admitted p t × Adds (now (w .entry)) p (Only q) best t × OneOf q best t ⌝ }
+    requires { ⌜ Comparable (now w) p q v × (q < p) × Admitted p best × (tie ≡ ltb q (best .row)) ⌝ }
+    ensures { λ t. ⌜ Admitted p t × AddsBy (now (w .entry)) p q v best t × OneOf q best t ⌝ }
 {
     if precedes(v, leader_value(best), tie) {
         if fractions::less_small(v, row_value(w, q)) {
@@ -136,15 +136,16 @@ fn better(
     w: &[u8],
     q: usize,
     p: usize,
+    shape: u8,
     label: Label,
     best: Leader,
     tie: bool,
     popped: bool,
 ) -> Leader
     requires { ⌜ SearchFor popped (now w) p label × (q < p) × Admitted p best × (tie ≡ ltb q (best .row)) ⌝ }
-    ensures { λ t. ⌜ Admitted p t × Adds (now (w .entry)) p (Only q) best t × OneOf q best t ⌝ }
+    ensures { λ t. ⌜ Admitted p t × Adds shape (now (w .entry)) p (Only q) best t × OneOf q best t ⌝ }
 {
-    let touch = touching_row(w, q, label);
+    let touch = touching_row(w, q, shape, label);
     if popped {
         let k = marks::larger(row_popup(w, q), row_popup(w, p));
         return better_pair(w, q, p, marks::pair_of(touch, k), best, tie);
@@ -154,9 +155,9 @@ fn better(
 
 // The best of all rows above p. They are met from the highest rank down, so that no tie goes to a later one: the inner loop does not ask, and takes
 // two rows a turn, so that it counts half as often.
-fn scan_rows(w: &[u8], p: usize, label: Label, popped: bool) -> Leader
+fn scan_rows(w: &[u8], p: usize, shape: u8, label: Label, popped: bool) -> Leader
     requires { ⌜ SearchFor popped (now w) p label ⌝ }
-    ensures { λ t. ⌜ Admitted p t × Adds (now (w .entry)) p (Higher p) none t ⌝ }
+    ensures { λ t. ⌜ Admitted p t × Adds shape (now (w .entry)) p (Higher p) none t ⌝ }
 {
     let mut best = Leader {
         num: 1,
@@ -165,12 +166,12 @@ fn scan_rows(w: &[u8], p: usize, label: Label, popped: bool) -> Leader
     };
     let mut q = 0;
     while q + 1 < p {
-        best = better(w, q, p, label, best, false, popped);
-        best = better(w, q + 1, p, label, best, false, popped);
+        best = better(w, q, p, shape, label, best, false, popped);
+        best = better(w, q + 1, p, shape, label, best, false, popped);
         q += 2;
     }
     if q < p {
-        return better(w, q, p, label, best, false, popped);
+        return better(w, q, p, shape, label, best, false, popped);
     }
     best
 }
@@ -183,19 +184,20 @@ fn scan_cell(
     at: usize,
     p: usize,
     c: usize,
+    shape: u8,
     label: Label,
     from: Leader,
     popped: bool,
 ) -> Leader
     requires { ⌜ SearchFor popped (now w) p label × EntriesLow (now w) at p × (c < cellCount) × Admitted p from ⌝ }
-    ensures { λ t. ⌜ Admitted p t × CellAdded (now (w .entry)) at p (Own c) from t ⌝ }
+    ensures { λ t. ⌜ Admitted p t × CellAdded shape (now (w .entry)) at p (Own c) from t ⌝ }
 {
     let mut best = from;
     let mut h = grid::last_row(w, at, c);
     while 0 < h {
         let q = h - 1;
         let row = best.row as usize;
-        best = better(w, q, p, label, best, q < row, popped);
+        best = better(w, q, p, shape, label, best, q < row, popped);
         h = grid::previous_row(w, at, q);
     }
     best
@@ -208,12 +210,13 @@ fn scan_other(
     p: usize,
     skip: usize,
     c: usize,
+    shape: u8,
     label: Label,
     best: Leader,
     popped: bool,
 ) -> Leader
     requires { ⌜ SearchFor popped (now w) p label × EntriesLow (now w) at p × (c < cellCount) × Admitted p best ⌝ }
-    ensures { λ t. ⌜ Admitted p t × CellAdded (now (w .entry)) at p (Other skip c) best t ⌝ }
+    ensures { λ t. ⌜ Admitted p t × CellAdded shape (now (w .entry)) at p (Other skip c) best t ⌝ }
 {
     if c == skip {
         return best;
@@ -222,11 +225,11 @@ fn scan_other(
         return best;
     }
     let value = leader_value(best);
-    let bound = grid::bound(w, at, c, label);
+    let bound = grid::bound(w, at, c, shape, label);
     if fractions::less_small(value, bound) {
         return best;
     }
-    scan_cell(w, at, p, c, label, best, popped)
+    scan_cell(w, at, p, c, shape, label, best, popped)
 }
 
 // The rows of the cells from `lo` to below `hi` but for the cell `skip`. The cells of the large marks, which touch soonest, come first.
@@ -237,27 +240,36 @@ fn scan_cells(
     lo: usize,
     hi: usize,
     skip: usize,
+    shape: u8,
     label: Label,
     from: Leader,
     popped: bool,
 ) -> Leader
     requires { ⌜ SearchFor popped (now w) p label × EntriesLow (now w) at p × (hi ≤ cellCount) × Admitted p from ⌝ }
-    ensures { λ t. ⌜ Admitted p t × CellAdded (now (w .entry)) at p (Range lo hi skip) from t ⌝ }
+    ensures { λ t. ⌜ Admitted p t × CellAdded shape (now (w .entry)) at p (Range lo hi skip) from t ⌝ }
 {
     let mut best = from;
     let mut c = hi;
     while lo < c {
         c -= 1;
-        best = scan_other(w, at, p, skip, c, label, best, popped);
+        best = scan_other(w, at, p, skip, c, shape, label, best, popped);
     }
     best
 }
 
 // The best of all rows above p by cells, for a mark that belongs into the cell `own`: what lies near comes first, so that the rest is soon too
 // far. Its own cell and then all others go through one loop, so that the loop over rows is compiled into it.
-fn scan_grid(w: &[u8], at: usize, p: usize, own: usize, label: Label, popped: bool) -> Leader
+fn scan_grid(
+    w: &[u8],
+    at: usize,
+    p: usize,
+    own: usize,
+    shape: u8,
+    label: Label,
+    popped: bool,
+) -> Leader
     requires { ⌜ SearchFor popped (now w) p label × Gridded (now w) at p × (own < cellCount) ⌝ }
-    ensures { λ t. ⌜ Admitted p t × Adds (now (w .entry)) p (Higher p) none t ⌝ }
+    ensures { λ t. ⌜ Admitted p t × Adds shape (now (w .entry)) p (Higher p) none t ⌝ }
 {
     let mut best = Leader {
         num: 1,
@@ -269,7 +281,7 @@ fn scan_grid(w: &[u8], at: usize, p: usize, own: usize, label: Label, popped: bo
     let mut skip = grid::CELLS;
     let mut pass = 0usize;
     while pass < 2 {
-        best = scan_cells(w, at, p, lo, hi, skip, label, best, popped);
+        best = scan_cells(w, at, p, lo, hi, skip, shape, label, best, popped);
         lo = 0;
         hi = grid::CELLS;
         skip = own;
@@ -279,25 +291,33 @@ fn scan_grid(w: &[u8], at: usize, p: usize, own: usize, label: Label, popped: bo
 }
 
 // The best of all rows above p. Where they are few, or most of them are in the cell that the mark belongs into, all are scanned.
-fn search(w: &[u8], at: usize, p: usize, own: usize, label: Label, popped: bool) -> Leader
+fn search(
+    w: &[u8],
+    at: usize,
+    p: usize,
+    own: usize,
+    shape: u8,
+    label: Label,
+    popped: bool,
+) -> Leader
     requires { ⌜ SearchFor popped (now w) p label × Gridded (now w) at p × (own < cellCount) ⌝ }
-    ensures { λ t. ⌜ Admitted p t × Adds (now (w .entry)) p (Higher p) none t ⌝ }
+    ensures { λ t. ⌜ Admitted p t × Adds shape (now (w .entry)) p (Higher p) none t ⌝ }
 {
     if p < FEW {
-        return scan_rows(w, p, label, popped);
+        return scan_rows(w, p, shape, label, popped);
     }
     if p < 2 * grid::row_count(w, at, own) {
-        return scan_rows(w, p, label, popped);
+        return scan_rows(w, p, shape, label, popped);
     }
-    scan_grid(w, at, p, own, label, popped)
+    scan_grid(w, at, p, own, shape, label, popped)
 }
 
 // ---- what was found
 
 // What was found for row p, as its record.
 fn found_of(w: &[u8], p: usize, best: Leader) -> Record
-    requires { ⌜ (rowSize * p + rowSize ≤ length (now w)) × Admitted p best × Adds (now w) p (Higher p) none best ⌝ }
-    ensures { λ t. ⌜ Scanned (now (w .entry)) p t ⌝ }
+    requires { ⌜ (rowSize * p + rowSize ≤ length (now w)) × Admitted p best ⌝ }
+    ensures { λ t. ⌜ FoundBy (now (w .entry)) p best t ⌝ }
 {
     let row = best.row as usize;
     let number = numbers::read_u16(w, ROW_SIZE * row) as u32;
@@ -309,17 +329,25 @@ fn found_of(w: &[u8], p: usize, best: Leader) -> Record
 }
 
 // What the rows above p make of the mark in row p, whose label is given. `popped` is false only where none of them has a popup.
-pub fn best_of(w: &[u8], p: usize, label: Label, popped: bool) -> Record
+pub fn best_of(w: &[u8], p: usize, shape: u8, label: Label, popped: bool) -> Record
     requires { ⌜ SearchFor popped (now w) p label ⌝ }
-    ensures { λ t. ⌜ Scanned (now (w .entry)) p t ⌝ }
+    ensures { λ t. ⌜ Scanned shape (now (w .entry)) p t ⌝ }
 {
-    found_of(w, p, scan_rows(w, p, label, popped))
+    found_of(w, p, scan_rows(w, p, shape, label, popped))
 }
 
 // The same by the grid at `at`, for a mark that belongs into the cell `own`.
-pub fn best_in_grid(w: &[u8], at: usize, p: usize, own: usize, label: Label, popped: bool) -> Record
+pub fn best_in_grid(
+    w: &[u8],
+    at: usize,
+    p: usize,
+    own: usize,
+    shape: u8,
+    label: Label,
+    popped: bool,
+) -> Record
     requires { ⌜ SearchFor popped (now w) p label × Gridded (now w) at p × (own < cellCount) ⌝ }
-    ensures { λ t. ⌜ Scanned (now (w .entry)) p t ⌝ }
+    ensures { λ t. ⌜ Scanned shape (now (w .entry)) p t ⌝ }
 {
-    found_of(w, p, search(w, at, p, own, label, popped))
+    found_of(w, p, search(w, at, p, own, shape, label, popped))
 }

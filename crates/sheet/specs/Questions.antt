@@ -7,7 +7,7 @@ use lib.Dec.{leb}
 use Rattle.contents.specs.Contents.{Part, has, split, join}
 use Rattle.contents.specs.Asking.{Question, _asks_, answer}
 use Rattle.contents.specs.Questions.{contentsQuestions}
-use Rattle.bodies.specs.Questions.{countOf, bodyQuestions}
+use Rattle.bodies.specs.Questions.{countOf, shapeOf, bodyQuestions}
 
 -- "Checking asks 1 to 9."
 unfoldable pub checkQuestions : List ℕ → List Question
@@ -28,6 +28,10 @@ indexedQuestions s = checkQuestions s ++ ((10 asks question10 (split s)) ∷ [])
 -- n: how many marks a sheet has
 abbrev pub sheetCount : List ℕ → ℕ
 sheetCount s = countOf (split s)
+
+-- the shape of their labels
+abbrev pub sheetShape : List ℕ → ℕ
+sheetShape s = shapeOf (split s)
 
 -- Of parts whose codes are right putting together asks "4 to 9 and 13". `room` is the length of the written buffer.
 unfoldable pub partsQuestions : List Part → ℕ → List Question

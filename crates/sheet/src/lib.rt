@@ -31,6 +31,7 @@ pub fn check(s: &[u8]) -> u32
         contents::body(s, 3),
         contents::body(s, 4),
         contents::body(s, 5),
+        contents::body(s, 6),
     ];
     bodies::bodies_answer(&codes[..count], &lent[..count])
 }

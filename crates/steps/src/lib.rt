@@ -23,8 +23,8 @@ const WORK_BESIDE: usize = 1024;
 
 const SHEET_BESIDE: usize = 32;
 
-// What part 4 takes of a sheet: its entry in the contents, and its byte.
-const EDITION_BYTES: usize = 11;
+// What part 4 takes of a sheet, and part 7: an entry in the contents, and a byte.
+const CHOICE_BYTES: usize = 11;
 
 // What part 5 takes of a sheet beside its rows: its entry in the contents.
 const POPUPS_BESIDE: usize = 10;
@@ -48,27 +48,28 @@ fn size_if(there: bool, size: usize) -> usize
     if there { size } else { 0 }
 }
 
-// How many bytes the scheduled sheet of n marks has, with the part 4 that is kept, of so many bytes, part 5, where it is kept, and part 6, where
-// it is counted.
-fn scheduled_size(n: usize, edition: usize, popups: bool, counted: bool) -> usize
-    requires { ⌜ (n ≤ 4096) × (edition ≤ 1) ⌝ }
-    ensures { λ r. ⌜ r ≡ 27 * n + 32 + (11 * edition + cond popups (10 + 4 * n) 0) + cond counted 180 0 ⌝ }
+// How many bytes the scheduled sheet of n marks has, with the parts 4 and 7 that are kept, of so many bytes, part 5, where it is kept, and part 6,
+// where it is counted.
+fn scheduled_size(n: usize, edition: usize, popups: bool, shape: usize, counted: bool) -> usize
+    requires { ⌜ (n ≤ 4096) × (edition ≤ 1) × (shape ≤ 1) ⌝ }
+    ensures { λ r. ⌜ r ≡ 27 * n + 32 + (11 * edition + cond popups (10 + 4 * n) 0 + 11 * shape) + cond counted 180 0 ⌝ }
 {
-    let kept = EDITION_BYTES * edition + size_if(popups, POPUPS_BESIDE + POPUP_SIZE * n);
+    let kept = CHOICE_BYTES * edition
+        + size_if(popups, POPUPS_BESIDE + POPUP_SIZE * n)
+        + CHOICE_BYTES * shape;
     SHEET_EACH * n + SHEET_BESIDE + kept + size_if(counted, COUNTS_BYTES)
 }
 
-// 13. Are the work buffer and the written one long enough for n marks, for the part 4 that is kept, of so many bytes, for part 5, where it is
-// there, and for part 6, where it is counted?
-fn has_room(n: usize, edition: usize, there: bool, counted: bool, work: usize, out: usize) -> bool
-    requires { ⌜ (n ≤ 4096) × (edition ≤ 1) ⌝ }
-    ensures { λ r. ⌜ r ≡ (leb (workSize n) work && leb (27 * n + 32 + (11 * edition + cond there (10 + 4 * n) 0) + cond counted 180 0) out) ⌝ }
+// 13. Are the work buffer and the written one long enough for n marks, for a sheet of this size?
+fn has_room(n: usize, size: usize, work: usize, out: usize) -> bool
+    requires { ⌜ n ≤ 4096 ⌝ }
+    ensures { λ r. ⌜ r ≡ (leb (workSize n) work && leb size out) ⌝ }
 {
-    WORK_EACH * n + WORK_BESIDE <= work && scheduled_size(n, edition, there, counted) <= out
+    WORK_EACH * n + WORK_BESIDE <= work && size <= out
 }
 
-// What is left of a job that schedules n marks, those of `head` and then those of `tail`, keeps part 4 and, where it is there, part 5, with the
-// popups of `popups` and then those of `last`, and renews part 6, where it is counted, once its other questions are answered with yes: 13, and
+// What is left of a job that schedules n marks, those of `head` and then those of `tail`, keeps parts 4 and 7 and, where it is there, part 5, with
+// the popups of `popups` and then those of `last`, and renews part 6, where it is counted, once its other questions are answered with yes: 13, and
 // then the sheet and its length.
 pub fn schedule_marks(
     head: &[u8],
@@ -77,16 +78,18 @@ pub fn schedule_marks(
     there: bool,
     popups: &[u8],
     last: &[u8],
+    shape: &[u8],
     counted: bool,
     work: &mut [u8],
     out: &mut [u8],
     n: usize,
 ) -> Answer
-    requires { ⌜ GoodMarks (now head ++ now tail) n × (length (now head ++ now tail) ≡ markSize * n) × (length (now edition) ≤ 1) × PopupsLent there (now popups ++ now last) n ⌝ }
-    ensures { λ r. ⌜ Gives (schedulingJob [] (now (head .entry) ++ now (tail .entry)) (keptFrom (now (edition .entry)) there (now (popups .entry) ++ now (last .entry))) counted (length (now (work .entry))) (length (now (out .entry)))) (now (out .entry)) r (now (out .exit)) ⌝ }
+    requires { ⌜ GoodMarks (now head ++ now tail) n × (length (now head ++ now tail) ≡ markSize * n) × (length (now edition) ≤ 1) × (length (now shape) ≤ 1) × PopupsLent there (now popups ++ now last) n ⌝ }
+    ensures { λ r. ⌜ Gives (schedulingJob [] (now (head .entry) ++ now (tail .entry)) (keptFrom (now (edition .entry)) there (now (popups .entry) ++ now (last .entry)) (now (shape .entry))) counted (length (now (work .entry))) (length (now (out .entry)))) (now (out .entry)) r (now (out .exit)) ⌝ }
     ensures { λ r. ⌜ Lent r (now (work .entry)) (now (work .exit)) ⌝ }
 {
-    if !has_room(n, edition.len(), there, counted, work.len(), out.len()) {
+    let size = scheduled_size(n, edition.len(), there, shape.len(), counted);
+    if !has_room(n, size, work.len(), out.len()) {
         return refused(13);
     }
     writing::put_sheet(
@@ -96,6 +99,7 @@ pub fn schedule_marks(
         there,
         popups,
         last,
+        shape,
         counted,
         work,
         out,
@@ -103,6 +107,6 @@ pub fn schedule_marks(
     );
     Answer {
         number: 0,
-        value: scheduled_size(n, edition.len(), there, counted) as u32,
+        value: size as u32,
     }
 }

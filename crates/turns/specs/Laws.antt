@@ -5,6 +5,7 @@ use native.Mathlib.Omega.{arith}
 use lib.IntN.{negℤ, negℤ-negℤ}
 use lib.Signed.{mag, natAbs-le}
 use Rattle.marks.specs.Marks.{apart, distance}
+use Rattle.marks.specs.Laws.{distance-symmetric}
 use Rattle.turns.specs.declared.Place.{Place}
 use Rattle.turns.specs.Turns.{Grid, entry, unit, quarter, productAt, times, turn, applied, turnedPlace}
 use Rattle.turns.specs.Small.{UpTo, Small, Within}
@@ -66,22 +67,18 @@ turned-add (suc t) u p =
 
 -- ---- distances stay
 
-swapped : (a b : ℕ) → distance a b ≡ distance b a
-unfolding distance
-swapped a b = omega arith
+abbrev away : ℕ → Place → Place → ℕ
+away shape p q = distance shape (apart (p .x) (q .x)) (apart (p .y) (q .y))
 
-abbrev away : Place → Place → ℕ
-away p q = distance (apart (p .x) (q .x)) (apart (p .y) (q .y))
-
-pub turned-distance : (t : ℕ) (p q : Place)
-    → distance (apart ((turnedPlace t p) .x) ((turnedPlace t q) .x)) (apart ((turnedPlace t p) .y) ((turnedPlace t q) .y))
-    ≡ distance (apart (p .x) (q .x)) (apart (p .y) (q .y))
-turned-distance zero p q = ap₂ away (turned-0 p) (turned-0 q)
-turned-distance (suc t) p q =
-    ap₂ away (turned-suc t p) (turned-suc t q)
-    ∙ ap (λ n. distance n (apart ((turnedPlace t p) .x) ((turnedPlace t q) .x))) (apart-neg ((turnedPlace t p) .y) ((turnedPlace t q) .y))
-    ∙ swapped (apart ((turnedPlace t p) .y) ((turnedPlace t q) .y)) (apart ((turnedPlace t p) .x) ((turnedPlace t q) .x))
-    ∙ turned-distance t p q
+pub turned-distance : (shape t : ℕ) (p q : Place)
+    → distance shape (apart ((turnedPlace t p) .x) ((turnedPlace t q) .x)) (apart ((turnedPlace t p) .y) ((turnedPlace t q) .y))
+    ≡ distance shape (apart (p .x) (q .x)) (apart (p .y) (q .y))
+turned-distance shape zero p q = ap₂ (away shape) (turned-0 p) (turned-0 q)
+turned-distance shape (suc t) p q =
+    ap₂ (away shape) (turned-suc t p) (turned-suc t q)
+    ∙ ap (λ n. distance shape n (apart ((turnedPlace t p) .x) ((turnedPlace t q) .x))) (apart-neg ((turnedPlace t p) .y) ((turnedPlace t q) .y))
+    ∙ distance-symmetric shape (apart ((turnedPlace t p) .y) ((turnedPlace t q) .y)) (apart ((turnedPlace t p) .x) ((turnedPlace t q) .x))
+    ∙ turned-distance shape t p q
 
 -- ---- bounds
 

@@ -11,8 +11,8 @@ use Rattle.zoom.specs.declared.Zoom.{Zoom}
 use Rattle.zoom.specs.declared.Scale.{Scale}
 use Rattle.zoom.specs.declared.Scale.the-variants.{Taken, Refused}
 use Rattle.zoom.specs.Zoom.{scaleOf}
-use Rattle.contents.specs.Asking.{Question, _asks_}
-use Rattle.sheet.specs.Questions.{indexedQuestions, sheetCount}
+use Rattle.contents.specs.Asking.{Question, _asks_, ifThere}
+use Rattle.sheet.specs.Questions.{indexedQuestions, sheetCount, sheetShape}
 use Rattle.view.specs.declared.Window.{Window}
 use Rattle.bitmap.specs.Map.{mapSize}
 
@@ -23,9 +23,13 @@ isEdge z = leZ (negsuc 32767) z && leZ z (pos 32768)
 pub record IsEdge (z : ℤ) : Type 0 where
   pub is : isEdge z ≡ true
 
--- 20. "20 for another turn or an edge beyond that range, between 10 and 11"
-unfoldable pub question20 : Window → Bool
-question20 w = leb (w .turn) 3 && (isEdge (w .x0) && isEdge (w .x1)) && (isEdge (w .y0) && isEdge (w .y1))
+-- not "another turn or an edge beyond that range"
+unfoldable pub isWindow : Window → Bool
+isWindow w = leb (w .turn) 3 && (isEdge (w .x0) && isEdge (w .x1)) && (isEdge (w .y0) && isEdge (w .y1))
+
+-- 20. "20 for another turn or an edge beyond that range, between 10 and 11"; request 13: "20 also for a turned view of squares"
+unfoldable pub question20 : ℕ → Window → Bool
+question20 shape w = isWindow w && ifThere (eqb shape 2) (eqb (w .turn) 0)
 
 -- 11. "Is x0 ≤ x1 and y0 ≤ y1?"
 unfoldable pub question11 : Window → Bool
@@ -43,7 +47,7 @@ isTaken r = eqb (scaleNumber r) 0
 unfoldable pub viewQuestions : List ℕ → Window → Zoom → ℕ → List Question
 viewQuestions s w zoom room =
     indexedQuestions s
-    ++ ((20 asks question20 w)
+    ++ ((20 asks question20 (sheetShape s) w)
     ∷ (11 asks question11 w)
     ∷ (12 asks isTaken (scaleOf zoom))
     ∷ (13 asks leb (mapSize (sheetCount s)) room)

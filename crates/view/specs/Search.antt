@@ -35,7 +35,7 @@ widestLiving s p k (suc n) = wider s p k (widestLiving s p k n) n
 unfoldable pub moved : ℕ → Bool → ℕ → ℕ
 moved edge low by = cond low (edge - by) (edge + by)
 
--- the edges widened by what a disk of the radius r takes up at z
+-- the edges widened by what a label of the radius r takes up at z
 unfoldable pub boundsOf : Bounds → ℕ → ℕ → Bounds
 boundsOf b k r =
     let by = k * r / 64 in

@@ -53,15 +53,15 @@ pub record Edged (b : Bounds) : Type 0 where
 abbrev pub gapHere : ℕ → ℕ → ℕ → ℕ
 gapHere low high c = (low - c) + (c - high)
 
-unfoldable pub distanceHere : List ℕ → Bounds → ℕ → ℕ
-distanceHere s b m = distance (gapHere (b .x0) (b .x1) (coordinate s true m)) (gapHere (b .y0) (b .y1) (coordinate s false m))
+unfoldable pub distanceHere : ℕ → List ℕ → Bounds → ℕ → ℕ
+distanceHere shape s b m = distance shape (gapHere (b .x0) (b .x1) (coordinate s true m)) (gapHere (b .y0) (b .y1) (coordinate s false m))
 
-unfoldable pub reachesHere : List ℕ → ℕ → Bounds → ℕ → Bool
-reachesHere s k b m = leb (4096 * distanceHere s b m) (k * k * (usedAt s m * usedAt s m))
+unfoldable pub reachesHere : ℕ → List ℕ → ℕ → Bounds → ℕ → Bool
+reachesHere shape s k b m = leb (4096 * distanceHere shape s b m) (k * k * (usedAt s m * usedAt s m))
 
 -- who is shown, if it is not removed yet
-unfoldable pub visibleHere : List ℕ → List ℕ → ℕ → Bounds → ℕ → Bool
-visibleHere s q k b m = poppedUp q k m && reachesHere s k b m
+unfoldable pub visibleHere : ℕ → List ℕ → List ℕ → ℕ → Bounds → ℕ → Bool
+visibleHere shape s q k b m = poppedUp q k m && reachesHere shape s k b m
 
-unfoldable pub shownHere : List ℕ → List ℕ → List ℕ → ℕ → Bounds → ℕ → Bool
-shownHere s p q k b m = livesAt k (valueAt p m) && visibleHere s q k b m
+unfoldable pub shownHere : ℕ → List ℕ → List ℕ → List ℕ → ℕ → Bounds → ℕ → Bool
+shownHere shape s p q k b m = livesAt k (valueAt p m) && visibleHere shape s q k b m

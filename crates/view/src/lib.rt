@@ -1,5 +1,5 @@
 // Who is shown: the search down the index, the map and the count. `marks`, `schedule`, `index` and `popups` are the bytes of parts 1, 2, 3
-// and 5 of a sheet, the last empty where it is not there; an `axis` is true for x.
+// and 5 of a sheet, the last empty where it is not there; `shape` is that of the labels, and an `axis` is true for x.
 use turns::Place;
 ghost use mathlib.Core.Path.{_≡_};
 ghost use mathlib.Core.Bool.{true};
@@ -16,7 +16,7 @@ ghost use Rattle.index.specs.Index.{indexEntrySize};
 ghost use Rattle.index.specs.Blocks.{entryAt};
 ghost use Rattle.index.specs.Check.{AllMarked};
 ghost use Rattle.view.specs.Shown.{shown};
-ghost use Rattle.view.specs.Questions.{isEdge, IsEdge, question20, question11};
+ghost use Rattle.view.specs.Questions.{isEdge, IsEdge, isWindow, question20, question11};
 ghost use Rattle.view.specs.View.{Viewable, Viewed};
 ghost use Rattle.view.specs.Turning.{cornerOf, lower, higher, turnedBack, Edged, gapHere, reachesHere, visibleHere, shownHere};
 ghost use Rattle.view.specs.Search.{wider, widestLiving, moved, boundsOf, boundOn, isBeyond, sizeToSearch, BitsSet, Searchable};
@@ -38,13 +38,26 @@ fn is_edge(v: i32) -> bool
     (-32768 <= v) & (v <= 32768)
 }
 
-// 20. Is the turn one of 0 to 3, and does each edge lie in the range of turned places?
-pub fn is_window(window: Window) -> bool
-    ensures { λ r. ⌜ r ≡ question20 window ⌝ }
+// Is the turn one of 0 to 3, and does each edge lie in the range of turned places?
+fn is_window(window: Window) -> bool
+    ensures { λ r. ⌜ r ≡ isWindow window ⌝ }
 {
     let x = is_edge(window.x0) & is_edge(window.x1);
     let y = is_edge(window.y0) & is_edge(window.y1);
     (window.turn <= 3) & x & y
+}
+
+// 20. Is this a window, and not turned where the labels are squares?
+pub fn is_taken(shape: u8, window: Window) -> bool
+    ensures { λ r. ⌜ r ≡ question20 shape window ⌝ }
+{
+    if !is_window(window) {
+        return false;
+    }
+    if shape != marks::SQUARE {
+        return true;
+    }
+    window.turn == 0
 }
 
 // 11. Is x0 ≤ x1 and y0 ≤ y1?
@@ -103,7 +116,7 @@ fn higher(a: u32, b: u32) -> u32
 // The window in the sheet's own places: two corners are turned on until all four quarter turns are made, which change no place. So the marks
 // need not be turned, nor the index.
 fn turned_back(window: Window) -> Bounds
-    requires { ⌜ question20 window ≡ true ⌝ }
+    requires { ⌜ isWindow window ≡ true ⌝ }
     ensures { λ r. ⌜ r ≡ turnedBack window ⌝ }
 {
     let quarters = 4 - window.turn;
@@ -137,11 +150,11 @@ fn gap(low: u32, high: u32, coordinate: u32) -> i32
     (above(low, coordinate) + above(coordinate, high)) as i32
 }
 
-// Does mark m's disk at z = k/64 reach the window, touching included? Both products fit 64 bits. Where the point lies inside the radius
+// Does mark m's label at z = k/64 reach the window, touching included? Both products fit 64 bits. Where the point lies inside the radius
 // is not read: in a view of all places no mark's is.
-fn reaches(marks: &[u8], edges: Bounds, k: u32, m: usize) -> bool
+fn reaches(marks: &[u8], shape: u8, edges: Bounds, k: u32, m: usize) -> bool
     requires { ⌜ (markSize * m + markSize ≤ length (now marks)) × (k ≤ largestScale) × Edged edges ⌝ }
-    ensures { λ r. ⌜ r ≡ reachesHere (now (marks .entry)) k edges m ⌝ }
+    ensures { λ r. ⌜ r ≡ reachesHere shape (now (marks .entry)) k edges m ⌝ }
 {
     let x = gap(edges.x0, edges.x1, index::coordinate(marks, true, m) as u32);
     let y = gap(
@@ -149,7 +162,7 @@ fn reaches(marks: &[u8], edges: Bounds, k: u32, m: usize) -> bool
         edges.y1,
         index::coordinate(marks, false, m) as u32,
     );
-    let squared = marks::distance(x, y);
+    let squared = marks::distance(shape, x, y);
     if squared == 0 {
         return true;
     }
@@ -158,23 +171,23 @@ fn reaches(marks: &[u8], edges: Bounds, k: u32, m: usize) -> bool
     4096 * squared <= scale * scale * (radius * radius)
 }
 
-// Has mark m popped up at z = k/64, and does its disk reach the window?
-fn is_visible(marks: &[u8], popups: &[u8], edges: Bounds, k: u32, m: usize) -> bool
+// Has mark m popped up at z = k/64, and does its label reach the window?
+fn is_visible(marks: &[u8], shape: u8, popups: &[u8], edges: Bounds, k: u32, m: usize) -> bool
     requires { ⌜ (markSize * m + markSize ≤ length (now marks)) × (k ≤ largestScale) × Edged edges × GoodPopup (now popups) m ⌝ }
-    ensures { λ r. ⌜ r ≡ visibleHere (now (marks .entry)) (now (popups .entry)) k edges m ⌝ }
+    ensures { λ r. ⌜ r ≡ visibleHere shape (now (marks .entry)) (now (popups .entry)) k edges m ⌝ }
 {
     if k < marks::popup_at(popups, m) {
         return false;
     }
-    reaches(marks, edges, k, m)
+    reaches(marks, shape, edges, k, m)
 }
 
 // Sets mark m's bit if it is visible.
-fn visit(marks: &[u8], popups: &[u8], edges: Bounds, k: u32, m: usize, map: &mut [u8])
+fn visit(marks: &[u8], shape: u8, popups: &[u8], edges: Bounds, k: u32, m: usize, map: &mut [u8])
     requires { ⌜ (markSize * m + markSize ≤ length (now marks)) × (k ≤ largestScale) × Edged edges × GoodPopup (now popups) m × (m / 8 < length (now map)) ⌝ }
-    ensures { λ _. ⌜ BitsSet (visibleHere (now (marks .entry)) (now (popups .entry)) k edges) (m ∷ []) (now (map .entry)) (now (map .exit)) ⌝ }
+    ensures { λ _. ⌜ BitsSet (visibleHere shape (now (marks .entry)) (now (popups .entry)) k edges) (m ∷ []) (now (map .entry)) (now (map .exit)) ⌝ }
 {
-    if is_visible(marks, popups, edges, k, m) {
+    if is_visible(marks, shape, popups, edges, k, m) {
         bitmap::set_bit(map, m);
     }
 }
@@ -223,7 +236,7 @@ fn moved(edge: u32, low: bool, by: u32) -> u32
     above(edge, by)
 }
 
-// The edges widened by what a disk of the radius `widest` takes up at z = k/64, rounded down: distances on an axis are whole.
+// The edges widened by what a label of the radius `widest` takes up at z = k/64, rounded down: distances on an axis are whole.
 fn bounds_of(edges: Bounds, k: u32, widest: u16) -> Bounds
     requires { ⌜ Edged edges × (k ≤ largestScale) ⌝ }
     ensures { λ r. ⌜ r ≡ boundsOf edges k widest ⌝ }
@@ -291,6 +304,7 @@ fn size_to_search(
 // block may be shown.
 fn search(
     marks: &[u8],
+    shape: u8,
     schedule: &[u8],
     popups: &[u8],
     index: &[u8],
@@ -302,8 +316,8 @@ fn search(
     size: usize,
     axis: bool,
 )
-    requires { ⌜ Searchable (shownHere (now marks) (now schedule) (now popups) k edges) (now marks) (now schedule) (now popups) (now index) (now map) bounds k lo size axis × Edged edges ⌝ }
-    ensures { λ _. ⌜ BitsSet (shownHere (now (marks .entry)) (now (schedule .entry)) (now (popups .entry)) k edges) (block (entryAt (now (index .entry))) lo size) (now (map .entry)) (now (map .exit)) ⌝ }
+    requires { ⌜ Searchable (shownHere shape (now marks) (now schedule) (now popups) k edges) (now marks) (now schedule) (now popups) (now index) (now map) bounds k lo size axis × Edged edges ⌝ }
+    ensures { λ _. ⌜ BitsSet (shownHere shape (now (marks .entry)) (now (schedule .entry)) (now (popups .entry)) k edges) (block (entryAt (now (index .entry))) lo size) (now (map .entry)) (now (map .exit)) ⌝ }
 {
     if size == 0 {
         return;
@@ -312,7 +326,7 @@ fn search(
     if !zoom::lives(elimination::value_at(schedule, root), k) {
         return;
     }
-    visit(marks, popups, edges, k, root, map);
+    visit(marks, shape, popups, edges, k, root, map);
     // Of the others the first half is the larger: half of `size`, rounded down, since `size` counts the root too.
     let first = size / 2;
     let second = size - 1 - first;
@@ -321,6 +335,7 @@ fn search(
     let left = size_to_search(marks, index, bounds, axis, true, q, second, first);
     search(
         marks,
+        shape,
         schedule,
         popups,
         index,
@@ -335,6 +350,7 @@ fn search(
     let right = size_to_search(marks, index, bounds, axis, false, p, first, second);
     search(
         marks,
+        shape,
         schedule,
         popups,
         index,
@@ -351,6 +367,7 @@ fn search(
 // Writes the map of the n marks at the start of `map`, and answers how many are shown. The parts are those of an accepted sheet.
 pub fn show(
     marks: &[u8],
+    shape: u8,
     schedule: &[u8],
     popups: &[u8],
     index: &[u8],
@@ -360,8 +377,8 @@ pub fn show(
     map: &mut [u8],
 ) -> u32
     requires { ⌜ Viewable (now marks) (now schedule) (now popups) (now index) (now map) n × (k ≤ largestScale) ⌝ }
-    requires { ⌜ (question20 window ≡ true) × (question11 window ≡ true) ⌝ }
-    ensures { λ r. ⌜ Viewed (shown (now (marks .entry)) (now (schedule .entry)) (now (popups .entry)) k window) n (now (map .entry)) (now (map .exit)) r ⌝ }
+    requires { ⌜ (isWindow window ≡ true) × (question11 window ≡ true) ⌝ }
+    ensures { λ r. ⌜ Viewed (shown shape (now (marks .entry)) (now (schedule .entry)) (now (popups .entry)) k window) n (now (map .entry)) (now (map .exit)) r ⌝ }
 {
     let edges = turned_back(window);
     let size = (n + 7) / 8;
@@ -369,6 +386,7 @@ pub fn show(
     let bounds = bounds_of(edges, k, widest_living(marks, schedule, k, n));
     search(
         marks,
+        shape,
         schedule,
         popups,
         index,

@@ -11,8 +11,8 @@ ghost use Prim.Native.Nat.{_≤_};
 ghost use lib.ListN.{length};
 ghost use Rattle.contents.specs.Contents.{split};
 ghost use Rattle.contents.specs.Places.{layoutOf};
-ghost use Rattle.sheet.specs.Questions.{check, question10};
-ghost use Rattle.view.specs.Questions.{question20, question11, isMap};
+ghost use Rattle.sheet.specs.Questions.{sheetShape, check, question10};
+ghost use Rattle.view.specs.Questions.{isWindow, question11, isMap};
 ghost use Rattle.jobs.specs.Jobs.{viewJob, walkJob, isShownJob};
 ghost use Rattle.jobs.specs.Answers.{answerOf, Gives};
 ghost use Rattle.jobs.specs.Steps.{viewAt};
@@ -22,10 +22,17 @@ const MOST_MARKS: usize = 4096;
 
 // ---- viewing
 
-// The view of an accepted sheet with parts 2 and 3 at z = k/64: question 13, and then the map and the count.
-fn view_at(sheet: &[u8], layout: Layout, window: Window, k: u32, map: &mut [u8]) -> Answer
+// The view of an accepted sheet with parts 2 and 3, of this shape, at z = k/64: question 13, and then the map and the count.
+fn view_at(
+    sheet: &[u8],
+    layout: Layout,
+    shape: u8,
+    window: Window,
+    k: u32,
+    map: &mut [u8],
+) -> Answer
     requires { ⌜ (check (now sheet) ≡ 0) × (layout ≡ layoutOf (now sheet)) × (question10 (split (now sheet)) ≡ true) × (k ≤ 65536) ⌝ }
-    requires { ⌜ (question20 window ≡ true) × (question11 window ≡ true) ⌝ }
+    requires { ⌜ (shape ≡ sheetShape (now sheet)) × (isWindow window ≡ true) × (question11 window ≡ true) ⌝ }
     ensures { λ r. ⌜ Gives (viewAt (now (sheet .entry)) window k (length (now (map .entry)))) (now (map .entry)) r (now (map .exit)) ⌝ }
 {
     let marks = contents::part(sheet, layout, 1);
@@ -38,7 +45,7 @@ fn view_at(sheet: &[u8], layout: Layout, window: Window, k: u32, map: &mut [u8])
     let popups = contents::part(sheet, layout, 5);
     Answer {
         number: 0,
-        value: view::show(marks, schedule, popups, index, n, window, k, map),
+        value: view::show(marks, shape, schedule, popups, index, n, window, k, map),
     }
 }
 
@@ -52,7 +59,8 @@ pub fn view(sheet: &[u8], window: Window, zoom: Zoom, map: &mut [u8]) -> Answer
         return steps::refused(number);
     }
     let layout = found.layout;
-    if !view::is_window(window) {
+    let shape = bodies::choice_of(contents::part(sheet, layout, 7));
+    if !view::is_taken(shape, window) {
         return steps::refused(20);
     }
     if !view::is_ordered(window) {
@@ -60,7 +68,7 @@ pub fn view(sheet: &[u8], window: Window, zoom: Zoom, map: &mut [u8]) -> Answer
     }
     match zoom::scale_of(zoom) {
         Scale::Refused => steps::refused(12),
-        Scale::Taken(k) => view_at(sheet, layout, window, k, map),
+        Scale::Taken(k) => view_at(sheet, layout, shape, window, k, map),
     }
 }
 

@@ -26,13 +26,13 @@ ghost use Rattle.jobs.specs.Steps.{keptFrom, PopupsLent, codesFrom, sizesFrom, 
 // What each mark takes of the sheet in parts 1 to 3.
 pub const SHEET_EACH: usize = 27;
 
-// Writes part 2, the schedule of the n marks that `all` begins with, by this edition and with the popups that `all` ends with, from `at` on, and
+// Writes part 2, the schedule of the n marks that `all` begins with, by this edition, of this shape and with the popups that `all` ends with, from `at` on, and
 // part 3, their index, behind the marks.
-fn put_results(all: &mut [u8], edition: u8, at: usize, work: &mut [u8], n: usize)
+fn put_results(all: &mut [u8], edition: u8, shape: u8, at: usize, work: &mut [u8], n: usize)
     requires { ⌜ GoodMarks (take (markSize * n) (now all)) n × (workSize n ≤ length (now work)) × (indexEnd n ≤ at) × (at ≤ length (now all)) × GoodPopups (drop at (now all)) n ⌝ }
-    ensures { λ _. ⌜ now (all .exit) ≡ resultsOver (reelIn edition (drop at (now (all .entry))) (now (all .entry)) n) (now (all .entry)) ⌝ }
+    ensures { λ _. ⌜ now (all .exit) ≡ resultsOver (reelIn edition shape (drop at (now (all .entry))) (now (all .entry)) n) (now (all .entry)) ⌝ }
 {
-    scheduling::schedule_behind(all, edition, at, work, n);
+    scheduling::schedule_behind(all, edition, shape, at, work, n);
     indexing::build(all, work, n);
 }
 
@@ -56,7 +56,7 @@ fn list_part(
     count
 }
 
-// Writes the contents of a sheet of n marks with part 2, by which of parts 3 to 6 are there, and answers where the marks start.
+// Writes the contents of a sheet of n marks with part 2, by which of parts 3 to 7 are there, and answers where the marks start.
 pub fn put_head(
     out: &mut [u8],
     n: usize,
@@ -64,16 +64,18 @@ pub fn put_head(
     edition: bool,
     popups: bool,
     counts: bool,
+    shape: bool,
 ) -> usize
-    requires { ⌜ (n ≤ 4096) × (contentsSize (length (codesFrom index edition popups counts)) ≤ length (now out)) ⌝ }
-    ensures { λ r. ⌜ (r ≡ contentsSize (length (codesFrom index edition popups counts))) × (now (out .exit) ≡ sets (now (out .entry)) 0 (contentsOf (codesFrom index edition popups counts) (sizesFrom n index edition popups counts))) ⌝ }
+    requires { ⌜ (n ≤ 4096) × (contentsSize (length (codesFrom index edition popups counts shape)) ≤ length (now out)) ⌝ }
+    ensures { λ r. ⌜ (r ≡ contentsSize (length (codesFrom index edition popups counts shape))) × (now (out .exit) ≡ sets (now (out .entry)) 0 (contentsOf (codesFrom index edition popups counts shape) (sizesFrom n index edition popups counts shape))) ⌝ }
 {
-    let mut codes: [u16; 6] = [1, 2, 0, 0, 0, 0];
-    let mut sizes = [MARK_SIZE * n, RECORD_SIZE * n, 0, 0, 0, 0];
+    let mut codes: [u16; 7] = [1, 2, 0, 0, 0, 0, 0];
+    let mut sizes = [MARK_SIZE * n, RECORD_SIZE * n, 0, 0, 0, 0, 0];
     let third = list_part(&mut codes, &mut sizes, 2, index, 3, INDEX_ENTRY_SIZE * n);
     let fourth = list_part(&mut codes, &mut sizes, third, edition, 4, 1);
     let fifth = list_part(&mut codes, &mut sizes, fourth, popups, 5, POPUP_SIZE * n);
-    let count = list_part(&mut codes, &mut sizes, fifth, counts, 6, COUNTS_SIZE);
+    let sixth = list_part(&mut codes, &mut sizes, fifth, counts, 6, COUNTS_SIZE);
+    let count = list_part(&mut codes, &mut sizes, sixth, shape, 7, 1);
     joining::put_contents(out, &codes[..count], &sizes[..count])
 }
 
@@ -86,7 +88,7 @@ fn put_pieces(out: &mut [u8], at: usize, first: &[u8], second: &[u8]) -> usize
     joining::put(out, middle, second)
 }
 
-// Writes the scheduled sheet of n marks up to part 6, those of `head` and then those of `tail`, of the part 4 that is kept, and of part 5, where
+// Writes the scheduled sheet of n marks up to parts 6 and 7, those of `head` and then those of `tail`, of the part 4 that is kept, and of part 5, where
 // it is there: the popups of `popups` and then those of `last`. All is put together in `out` and scheduled there. Answers where the marks start.
 fn put_scheduled(
     head: &[u8],
@@ -95,22 +97,32 @@ fn put_scheduled(
     there: bool,
     popups: &[u8],
     last: &[u8],
+    shape: &[u8],
     counted: bool,
     work: &mut [u8],
     out: &mut [u8],
     n: usize,
 ) -> usize
-    requires { ⌜ GoodMarks (now head ++ now tail) n × (length (now head ++ now tail) ≡ markSize * n) × (length (now edition) ≤ 1) × PopupsLent there (now popups ++ now last) n ⌝ }
-    requires { ⌜ (workSize n ≤ length (now work)) × (scheduledSize n (keptFrom (now edition) there (now popups ++ now last)) counted ≤ length (now out)) ⌝ }
-    ensures { λ r. ⌜ (r ≡ contentsSize (length (codesFrom true (ltb 0 (length (now (edition .entry)))) there counted))) × (now (out .exit) ≡ over (bareFrom (now (head .entry) ++ now (tail .entry)) (keptFrom (now (edition .entry)) there (now (popups .entry) ++ now (last .entry))) counted) (now (out .entry))) ⌝ }
+    requires { ⌜ GoodMarks (now head ++ now tail) n × (length (now head ++ now tail) ≡ markSize * n) × (length (now edition) ≤ 1) × (length (now shape) ≤ 1) × PopupsLent there (now popups ++ now last) n ⌝ }
+    requires { ⌜ (workSize n ≤ length (now work)) × (scheduledSize n (keptFrom (now edition) there (now popups ++ now last) (now shape)) counted ≤ length (now out)) ⌝ }
+    ensures { λ r. ⌜ (r ≡ contentsSize (length (codesFrom true (ltb 0 (length (now (edition .entry)))) there counted (ltb 0 (length (now (shape .entry))))))) × (now (out .exit) ≡ over (bareFrom (now (head .entry) ++ now (tail .entry)) (now (edition .entry)) there (now (popups .entry) ++ now (last .entry)) (now (shape .entry)) counted) (now (out .entry))) ⌝ }
 {
-    let start = put_head(out, n, true, 0 < edition.len(), there, counted);
+    let start = put_head(
+        out,
+        n,
+        true,
+        0 < edition.len(),
+        there,
+        counted,
+        0 < shape.len(),
+    );
     put_pieces(out, start, head, tail);
     let from = joining::put(out, start + SHEET_EACH * n, edition);
     let end = put_pieces(out, from, popups, last);
     put_results(
         &mut out[start..end],
-        bodies::edition_of(edition),
+        bodies::choice_of(edition),
+        bodies::choice_of(shape),
         from - start,
         work,
         n,
@@ -118,18 +130,29 @@ fn put_scheduled(
     start
 }
 
-// Writes the counts of n marks to `end`: those of the marks at `start`, of the schedule behind them, and of the popups from `from` to `end`.
-fn put_counts(out: &mut [u8], start: usize, from: usize, end: usize, n: usize)
-    requires { ⌜ (n ≤ 4096) × (start + 25 * n ≤ from) × (from ≤ end) × (end + 170 ≤ length (now out)) × GoodPopups (take (end - from) (drop from (now out))) n ⌝ }
-    ensures { λ _. ⌜ now (out .exit) ≡ sets (now (out .entry)) end (countsOf (take (11 * n) (drop start (now (out .entry)))) (take (14 * n) (drop (start + 11 * n) (now (out .entry)))) (take (end - from) (drop from (now (out .entry)))) n) ⌝ }
+// Writes the counts of n marks to `end`, where they are wanted: those of the marks at `start`, of the schedule behind them, and of the popups from
+// `from` to `end`. Answers where they end.
+fn put_counts(
+    out: &mut [u8],
+    start: usize,
+    from: usize,
+    end: usize,
+    n: usize,
+    counted: bool,
+) -> usize
+    requires { ⌜ (n ≤ 4096) × (start + 25 * n ≤ from) × (from ≤ end) × (end + cond counted 170 0 ≤ length (now out)) × GoodPopups (take (end - from) (drop from (now out))) n ⌝ }
+    ensures { λ r. ⌜ (r ≡ end + cond counted 170 0) × (now (out .exit) ≡ sets (now (out .entry)) end (cond counted (countsOf (take (11 * n) (drop start (now (out .entry)))) (take (14 * n) (drop (start + 11 * n) (now (out .entry)))) (take (end - from) (drop from (now (out .entry)))) n) [])) ⌝ }
 {
+    if !counted {
+        return end;
+    }
     let middle = start + MARK_SIZE * n;
     let last = middle + RECORD_SIZE * n;
     let counts = counting::counts_of(&out[start..middle], &out[middle..last], &out[from..end], n);
-    joining::put(out, end, &counts);
+    joining::put(out, end, &counts)
 }
 
-// The same with part 6, where it is counted: the whole sheet.
+// The same with part 6, where it is counted, and with the part 7 that is kept: the whole sheet.
 pub fn put_sheet(
     head: &[u8],
     tail: &[u8],
@@ -137,14 +160,15 @@ pub fn put_sheet(
     there: bool,
     popups: &[u8],
     last: &[u8],
+    shape: &[u8],
     counted: bool,
     work: &mut [u8],
     out: &mut [u8],
     n: usize,
 )
-    requires { ⌜ GoodMarks (now head ++ now tail) n × (length (now head ++ now tail) ≡ markSize * n) × (length (now edition) ≤ 1) × PopupsLent there (now popups ++ now last) n ⌝ }
-    requires { ⌜ (workSize n ≤ length (now work)) × (scheduledSize n (keptFrom (now edition) there (now popups ++ now last)) counted ≤ length (now out)) ⌝ }
-    ensures { λ _. ⌜ now (out .exit) ≡ over (scheduledFrom (now (head .entry) ++ now (tail .entry)) (keptFrom (now (edition .entry)) there (now (popups .entry) ++ now (last .entry))) counted) (now (out .entry)) ⌝ }
+    requires { ⌜ GoodMarks (now head ++ now tail) n × (length (now head ++ now tail) ≡ markSize * n) × (length (now edition) ≤ 1) × (length (now shape) ≤ 1) × PopupsLent there (now popups ++ now last) n ⌝ }
+    requires { ⌜ (workSize n ≤ length (now work)) × (scheduledSize n (keptFrom (now edition) there (now popups ++ now last) (now shape)) counted ≤ length (now out)) ⌝ }
+    ensures { λ _. ⌜ now (out .exit) ≡ over (scheduledFrom (now (head .entry) ++ now (tail .entry)) (keptFrom (now (edition .entry)) there (now (popups .entry) ++ now (last .entry)) (now (shape .entry))) counted) (now (out .entry)) ⌝ }
 {
     let start = put_scheduled(
         head,
@@ -153,14 +177,20 @@ pub fn put_sheet(
         there,
         popups,
         last,
+        shape,
         counted,
         work,
         out,
         n,
     );
-    if !counted {
-        return;
-    }
     let from = start + SHEET_EACH * n + edition.len();
-    put_counts(out, start, from, from + popups.len() + last.len(), n);
+    let end = put_counts(
+        out,
+        start,
+        from,
+        from + popups.len() + last.len(),
+        n,
+        counted,
+    );
+    joining::put(out, end, shape);
 }

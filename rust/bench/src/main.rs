@@ -11,7 +11,8 @@ use std::hint::black_box;
 use oracle::mark::{write_marks, Mark};
 use oracle::popup::write_popups;
 use oracle::rank::Edition;
-use oracle::sample::{marks, popups, Popups, Shape};
+use oracle::sample::{marks, popups, Layout, Popups};
+use oracle::shape::Shape;
 use oracle::sheet::{join, join_parts};
 use oracle::view::{Edges, Window};
 use rollmap::{
@@ -22,16 +23,16 @@ use rollmap::{
 use plain::schedule::Desk;
 use race::{race, Micros};
 
-/// A shape of data, by the words for it.
-type Data = (&'static str, Shape);
+/// A layout of data, by the words for it.
+type Data = (&'static str, Layout);
 
-const UNIFORM: Data = ("uniform", Shape::Uniform);
-const CLUSTERED: Data = ("clustered", Shape::Clustered);
-const REEL: Data = ("reel", Shape::Reel);
-const LINE: Data = ("line", Shape::Line);
-const ONE_PLACE: Data = ("one place", Shape::OnePlace);
-const HUGE_RADIUS: Data = ("huge radius", Shape::HugeRadius);
-const FEW_HUGE: Data = ("1 % huge radius", Shape::FewHuge);
+const UNIFORM: Data = ("uniform", Layout::Uniform);
+const CLUSTERED: Data = ("clustered", Layout::Clustered);
+const REEL: Data = ("reel", Layout::Reel);
+const LINE: Data = ("line", Layout::Line);
+const ONE_PLACE: Data = ("one place", Layout::OnePlace);
+const HUGE_RADIUS: Data = ("huge radius", Layout::HugeRadius);
+const FEW_HUGE: Data = ("1 % huge radius", Layout::FewHuge);
 
 /// The data that scheduling is timed on.
 const DATA: [Data; 6] = [UNIFORM, CLUSTERED, LINE, ONE_PLACE, HUGE_RADIUS, FEW_HUGE];
@@ -98,16 +99,20 @@ fn main() {
     scheduling();
     editions();
     popping_up();
+    squares();
     growth();
     changing();
     judging();
     judging_popups();
+    judging_squares();
     checking();
     checking_popups();
     checking_counts();
+    checking_squares();
     counting();
     viewing();
     viewing_popups();
+    viewing_squares();
     walking();
     rearranging();
 }
@@ -142,13 +147,13 @@ fn three_parts(marks: &[Mark]) -> Vec<u8> {
 }
 
 /// The sheet of one part of a sample.
-fn sheet_of(shape: Shape, n: usize) -> Vec<u8> {
-    one_part(&marks(shape, n, 1))
+fn sheet_of(layout: Layout, n: usize) -> Vec<u8> {
+    one_part(&marks(layout, n, 1))
 }
 
 /// The scheduled sheet of a sample.
-fn scheduled(shape: Shape, n: usize) -> Vec<u8> {
-    three_parts(&marks(shape, n, 1))
+fn scheduled(layout: Layout, n: usize) -> Vec<u8> {
+    three_parts(&marks(layout, n, 1))
 }
 
 /// The least times of scheduling a sheet: proved, plain with the same cells, and plain
@@ -198,10 +203,10 @@ fn scheduling() {
             "times faster than all pairs",
         ],
     );
-    for (name, shape) in DATA {
-        let sheet = sheet_of(shape, MOST);
+    for (name, layout) in DATA {
+        let sheet = sheet_of(layout, MOST);
         let [proved, cells, scan] = time_scheduling(&sheet, MOST, 1);
-        let pairs = time_pairs(&sheet, &scheduled(shape, MOST));
+        let pairs = time_pairs(&sheet, &scheduled(layout, MOST));
         println!(
             "| {name} | {:.2} | {:.2} | {:.2} | {:.2} | {:.1} | {:.0} | {:.0} |",
             proved.millis(),
@@ -221,8 +226,8 @@ fn named_sheet_of(edition: Edition, marks: &[Mark]) -> Vec<u8> {
 }
 
 /// The marks of a sample, with as few priorities as this.
-fn with_priorities(shape: Shape, priorities: u16) -> Vec<Mark> {
-    let mut marks = marks(shape, MOST, 1);
+fn with_priorities(layout: Layout, priorities: u16) -> Vec<Mark> {
+    let mut marks = marks(layout, MOST, 1);
     marks
         .iter_mut()
         .for_each(|mark| mark.priority %= priorities);
@@ -280,9 +285,9 @@ fn editions() {
             "ratio",
         ],
     );
-    for (name, shape) in DATA {
+    for (name, layout) in DATA {
         for priorities in [1, 16] {
-            let marks = with_priorities(shape, priorities);
+            let marks = with_priorities(layout, priorities);
             let [first, second] = Edition::ALL.map(|edition| named_sheet_of(edition, &marks));
             let cells = scheduling_cells(time_two(&first, &second));
             println!("| {name} | {priorities} | {cells} |");
@@ -297,8 +302,8 @@ fn popping_sheet_of(how: Popups, marks: &[Mark]) -> Vec<u8> {
 }
 
 /// The scheduled sheet of a sample with popups.
-fn scheduled_popping_up(how: Popups, shape: Shape) -> Vec<u8> {
-    let sheet = popping_sheet_of(how, &marks(shape, MOST, 1));
+fn scheduled_popping_up(how: Popups, layout: Layout) -> Vec<u8> {
+    let sheet = popping_sheet_of(how, &marks(layout, MOST, 1));
     rollmap::schedule_to_vec(&sheet).expect("the marks are taken")
 }
 
@@ -315,13 +320,47 @@ fn popping_up() {
             "ratio",
         ],
     );
-    for (name, shape) in DATA {
-        let marks = marks(shape, MOST, 1);
+    for (name, layout) in DATA {
+        let marks = marks(layout, MOST, 1);
         for (popups, how) in POPPING_UP {
             let sheet = popping_sheet_of(how, &marks);
             let cells = scheduling_cells(time_two(&one_part(&marks), &sheet));
             println!("| {name} | {popups} | {cells} |");
         }
+    }
+}
+
+/// The sheet of some marks with a shape named in part 7.
+fn shaped_sheet_of(shape: Shape, marks: &[Mark]) -> Vec<u8> {
+    join_parts(&[(1, &write_marks(marks)), (7, &shape.write())])
+}
+
+/// The scheduled sheets of a sample as disks and as squares.
+fn scheduled_as_both(layout: Layout) -> [Vec<u8>; 2] {
+    let marks = marks(layout, MOST, 1);
+    Shape::ALL.map(|shape| {
+        let sheet = shaped_sheet_of(shape, &marks);
+        rollmap::schedule_to_vec(&sheet).expect("the marks are taken")
+    })
+}
+
+fn squares() {
+    table(
+        "Scheduling 4,096 marks as squares, against the same marks as disks",
+        &[
+            "data",
+            "proved as disks, ms",
+            "proved as squares, ms",
+            "ratio",
+            "plain Rust as squares, ms",
+            "ratio",
+        ],
+    );
+    for (name, layout) in DATA {
+        let marks = marks(layout, MOST, 1);
+        let [disks, squares] = Shape::ALL.map(|shape| shaped_sheet_of(shape, &marks));
+        let cells = scheduling_cells(time_two(&disks, &squares));
+        println!("| {name} | {cells} |");
     }
 }
 
@@ -347,11 +386,11 @@ fn growth() {
             "plain Rust by a scan, µs",
         ],
     );
-    for (name, shape) in ORDINARY {
+    for (name, layout) in ORDINARY {
         let (mut proved, mut plain) = (Vec::new(), Vec::new());
         for n in SMALL.into_iter().chain(SIZES) {
             let calls = (MOST / n) as u32;
-            let [ours, theirs, scan] = time_scheduling(&sheet_of(shape, n), n, calls);
+            let [ours, theirs, scan] = time_scheduling(&sheet_of(layout, n), n, calls);
             proved.push(ours);
             plain.push(theirs);
             println!(
@@ -424,10 +463,10 @@ fn changing() {
             "ratio",
         ],
     );
-    for (name, shape) in CHANGED {
+    for (name, layout) in CHANGED {
         for n in SIZES {
-            let new = marks(shape, n, 1);
-            let old = marks(shape, MOST.min(n + 1), 1);
+            let new = marks(layout, n, 1);
+            let old = marks(layout, MOST.min(n + 1), 1);
             for (change, n, [ours, whole, bare]) in [
                 ("adding", n, time_adding(&new)),
                 ("taking out", old.len() - 1, time_taking_out(&old)),
@@ -518,8 +557,8 @@ fn judging() {
          in each call",
         &[&["data"], &JUDGING_COLUMNS[..], &AS_WORDED].concat(),
     );
-    for (name, shape) in JUDGED {
-        let sheet = scheduled(shape, MOST);
+    for (name, layout) in JUDGED {
+        let sheet = scheduled(layout, MOST);
         let times = time_judging(&sheet);
         let [cells, wording] = [judging_cells(times), worded_cells(times[0], &sheet)];
         println!("| {name} | {cells} | {wording} |");
@@ -531,11 +570,23 @@ fn judging_popups() {
         "Judging 4,096 marks with popups, against scheduling them and against all pairs",
         &[&["data", "popups"], &JUDGING_COLUMNS[..]].concat(),
     );
-    for (name, shape) in JUDGED {
+    for (name, layout) in JUDGED {
         for (popups, how) in POPPING_UP {
-            let cells = judging_cells(time_judging(&scheduled_popping_up(how, shape)));
+            let cells = judging_cells(time_judging(&scheduled_popping_up(how, layout)));
             println!("| {name} | {popups} | {cells} |");
         }
+    }
+}
+
+fn judging_squares() {
+    table(
+        "Judging 4,096 marks as squares, against scheduling them and against all pairs",
+        &[&["data"], &JUDGING_COLUMNS[..]].concat(),
+    );
+    for (name, layout) in JUDGED {
+        let [_, squares] = scheduled_as_both(layout);
+        let cells = judging_cells(time_judging(&squares));
+        println!("| {name} | {cells} |");
     }
 }
 
@@ -564,11 +615,11 @@ fn checking() {
             "ratio",
         ],
     );
-    for (name, shape) in ORDINARY {
+    for (name, layout) in ORDINARY {
         let mut proved = Vec::new();
         for n in SIZES {
             let calls = (MOST / n) as u32;
-            let [ours, theirs] = time_checking(&scheduled(shape, n), calls);
+            let [ours, theirs] = time_checking(&scheduled(layout, n), calls);
             proved.push(ours);
             println!(
                 "| {name} | {n} | {:.1} | {} | {:.1} | {:.2} |",
@@ -581,19 +632,19 @@ fn checking() {
     }
 }
 
-/// The least times of checking a sheet and another one with a part more: proved of both, and
-/// plain of the second.
-fn time_checking_two(without: &[u8], with: &[u8]) -> [Micros; 3] {
-    let accepted = [without, with].map(|sheet| rollmap::check(sheet).is_ok());
+/// The least times of checking two sheets of the same marks: proved of both, and plain of the
+/// second.
+fn time_checking_two(first: &[u8], second: &[u8]) -> [Micros; 3] {
+    let accepted = [first, second].map(|sheet| rollmap::check(sheet).is_ok());
     assert_eq!(accepted, [true; 2]);
-    assert!(plain::sheet::open(with).is_ok());
+    assert!(plain::sheet::open(second).is_ok());
     race(
         QUICK_ROUNDS,
         1,
         [
-            &mut || _ = black_box(rollmap::check(black_box(without))),
-            &mut || _ = black_box(rollmap::check(black_box(with))),
-            &mut || _ = black_box(plain::sheet::open(black_box(with)).is_ok()),
+            &mut || _ = black_box(rollmap::check(black_box(first))),
+            &mut || _ = black_box(rollmap::check(black_box(second))),
+            &mut || _ = black_box(plain::sheet::open(black_box(second)).is_ok()),
         ],
     )
 }
@@ -607,27 +658,36 @@ const FURTHER_COLUMNS: [&str; 5] = [
     "ratio",
 ];
 
-/// The cells of these columns.
-fn further_cells([without, with, plain]: [Micros; 3]) -> String {
+/// The columns of the times as squares, against those as disks.
+const SQUARE_COLUMNS: [&str; 5] = [
+    "proved as disks, µs",
+    "proved as squares, µs",
+    "ratio",
+    "plain Rust as squares, µs",
+    "ratio",
+];
+
+/// The cells of these columns, and of those with a further part.
+fn further_cells([first, second, plain]: [Micros; 3]) -> String {
     format!(
         "{:.1} | {:.1} | {:.2} | {:.1} | {:.2}",
-        without.0,
-        with.0,
-        with.over(without),
+        first.0,
+        second.0,
+        second.over(first),
         plain.0,
-        with.over(plain),
+        second.over(plain),
     )
 }
 
 /// Prints the table of checking sheets with a further part, against the same without it: those
-/// of a shape that are given here, by the words for their popups, without the part and with it.
-fn checking_further(heading: &str, sheets: impl Fn(Shape) -> Vec<(&'static str, [Vec<u8>; 2])>) {
+/// of a layout that are given here, by the words for their popups, without the part and with it.
+fn checking_further(heading: &str, sheets: impl Fn(Layout) -> Vec<(&'static str, [Vec<u8>; 2])>) {
     table(
         heading,
         &[&["data", "popups"], &FURTHER_COLUMNS[..]].concat(),
     );
-    for (name, shape) in ORDINARY {
-        for (popups, [without, with]) in sheets(shape) {
+    for (name, layout) in ORDINARY {
+        for (popups, [without, with]) in sheets(layout) {
             let cells = further_cells(time_checking_two(&without, &with));
             println!("| {name} | {popups} | {cells} |");
         }
@@ -637,9 +697,9 @@ fn checking_further(heading: &str, sheets: impl Fn(Shape) -> Vec<(&'static str, 
 fn checking_popups() {
     checking_further(
         "Checking a scheduled sheet of 4,096 marks with popups, against the same marks without",
-        |shape| {
-            let bare = scheduled(shape, MOST);
-            let both = |how| [bare.clone(), scheduled_popping_up(how, shape)];
+        |layout| {
+            let bare = scheduled(layout, MOST);
+            let both = |how| [bare.clone(), scheduled_popping_up(how, layout)];
             POPPING_UP.map(|(popups, how)| (popups, both(how))).to_vec()
         },
     );
@@ -647,9 +707,9 @@ fn checking_popups() {
 
 /// The scheduled sheets of a sample that are counted: without popups, and with popups of each
 /// kind that checking is timed with; by the words for these.
-fn sheets_to_count(shape: Shape) -> Vec<(&'static str, Vec<u8>)> {
-    let popping_up = POPPING_UP.map(|(popups, how)| (popups, scheduled_popping_up(how, shape)));
-    let mut sheets = vec![("none", scheduled(shape, MOST))];
+fn sheets_to_count(layout: Layout) -> Vec<(&'static str, Vec<u8>)> {
+    let popping_up = POPPING_UP.map(|(popups, how)| (popups, scheduled_popping_up(how, layout)));
+    let mut sheets = vec![("none", scheduled(layout, MOST))];
     sheets.extend(popping_up);
     sheets
 }
@@ -657,17 +717,29 @@ fn sheets_to_count(shape: Shape) -> Vec<(&'static str, Vec<u8>)> {
 fn checking_counts() {
     checking_further(
         "Checking a scheduled sheet of 4,096 marks with counts, against the same without",
-        |shape| {
+        |layout| {
             let both = |sheet: Vec<u8>| {
                 let counted = rollmap::count_to_vec(&sheet).expect("it has a schedule");
                 [sheet, counted]
             };
-            let sheets = sheets_to_count(shape).into_iter();
+            let sheets = sheets_to_count(layout).into_iter();
             sheets
                 .map(|(popups, sheet)| (popups, both(sheet)))
                 .collect()
         },
     );
+}
+
+fn checking_squares() {
+    table(
+        "Checking a scheduled sheet of 4,096 marks as squares, against the same marks as disks",
+        &[&["data"], &SQUARE_COLUMNS[..]].concat(),
+    );
+    for (name, layout) in ORDINARY {
+        let [disks, squares] = scheduled_as_both(layout);
+        let cells = further_cells(time_checking_two(&disks, &squares));
+        println!("| {name} | {cells} |");
+    }
 }
 
 /// The least times of counting a sheet: proved, plain, and of the proved check alone. Both
@@ -704,8 +776,8 @@ fn counting() {
             "times the check alone",
         ],
     );
-    for (name, shape) in ORDINARY {
-        for (popups, sheet) in sheets_to_count(shape) {
+    for (name, layout) in ORDINARY {
+        for (popups, sheet) in sheets_to_count(layout) {
             let [ours, theirs, check] = time_counting(&sheet);
             println!(
                 "| {name} | {popups} | {:.1} | {:.1} | {:.2} | {:.2} |",
@@ -791,8 +863,8 @@ const VIEW_COLUMNS: [&str; 4] = ["rectangle", "64 times the zoom", "shown", "loo
 
 /// The rectangles that are viewed of a sample, by the words for them: one about its first mark,
 /// and all places.
-fn rectangles(shape: Shape) -> [(&'static str, Edges); 2] {
-    let first = marks(shape, MOST, 1)[0];
+fn rectangles(layout: Layout) -> [(&'static str, Edges); 2] {
+    let first = marks(layout, MOST, 1)[0];
     let small = square_about(first.x, first.y, 500);
     [("1,000 wide", small), ("whole", Edges::WHOLE)]
 }
@@ -816,9 +888,9 @@ fn viewing() {
         ]
         .concat(),
     );
-    for (name, shape) in VIEWED {
-        let sheet = scheduled(shape, MOST);
-        for (size, edges) in rectangles(shape) {
+    for (name, layout) in VIEWED {
+        let sheet = scheduled(layout, MOST);
+        for (size, edges) in rectangles(layout) {
             for k in [1, 64, 1_024, 16_384] {
                 let ([count, visited], times) = time_view(&sheet, edges, k);
                 let [ours, theirs, check, turned, theirs_turned] = times;
@@ -839,12 +911,11 @@ fn viewing() {
     }
 }
 
-/// The least times of a view at k/64 of a sheet and of another one with popups: proved of
-/// both, and plain of the second. Answers how many marks of the second are shown and looked
-/// at, too.
+/// The least times of a view at k/64 of two sheets of the same marks: proved of both, and
+/// plain of the second. Answers how many marks of the second are shown and looked at, too.
 fn time_viewing_two(
-    without: &[u8],
-    with: &[u8],
+    first: &[u8],
+    second: &[u8],
     edges: Edges,
     k: u32,
 ) -> ([usize; 2], [Micros; 3]) {
@@ -852,19 +923,19 @@ fn time_viewing_two(
     let (zoom, window) = (oracle::zoom::Zoom::Wheel(wheel), edges.unturned());
     let view = bound(window, wheel);
     let mut maps = [(); 3].map(|()| vec![0; map_bytes(MOST)]);
-    let [map_without, map_with, plain_map] = &mut maps;
+    let [map_first, map_second, plain_map] = &mut maps;
     let times = race(
         QUICK_ROUNDS,
         1,
         [
-            &mut || _ = black_box(rollmap::view(without, view, map_without)),
-            &mut || _ = black_box(rollmap::view(with, view, map_with)),
-            &mut || _ = black_box(plain::view::view(with, window, zoom, plain_map)),
+            &mut || _ = black_box(rollmap::view(first, view, map_first)),
+            &mut || _ = black_box(rollmap::view(second, view, map_second)),
+            &mut || _ = black_box(plain::view::view(second, window, zoom, plain_map)),
         ],
     );
-    assert!(map_with == plain_map, "both show the same");
-    let shown = map_with.iter().map(|byte| byte.count_ones()).sum::<u32>();
-    let visited = plain::view::visited(with, window, zoom);
+    assert!(map_second == plain_map, "both show the same");
+    let shown = map_second.iter().map(|byte| byte.count_ones()).sum::<u32>();
+    let visited = plain::view::visited(second, window, zoom);
     ([shown as usize, visited.expect("the view is taken")], times)
 }
 
@@ -874,11 +945,11 @@ fn viewing_popups() {
          each call",
         &[&["data", "popups"], &VIEW_COLUMNS[..], &FURTHER_COLUMNS].concat(),
     );
-    for (name, shape) in VIEWED {
-        let bare = scheduled(shape, MOST);
+    for (name, layout) in VIEWED {
+        let bare = scheduled(layout, MOST);
         for (popups, how) in VIEWED_POPPING_UP {
-            let sheet = scheduled_popping_up(how, shape);
-            for (size, edges) in rectangles(shape) {
+            let sheet = scheduled_popping_up(how, layout);
+            for (size, edges) in rectangles(layout) {
                 for k in [64, 1_024] {
                     let ([shown, visited], times) = time_viewing_two(&bare, &sheet, edges, k);
                     let cells = further_cells(times);
@@ -886,6 +957,24 @@ fn viewing_popups() {
                         "| {name} | {popups} | {size} | {k} | {shown} | {visited} | {cells} |"
                     );
                 }
+            }
+        }
+    }
+}
+
+fn viewing_squares() {
+    table(
+        "Viewing 4,096 marks as squares, against the same marks as disks; all check the sheet in \
+         each call",
+        &[&["data"], &VIEW_COLUMNS[..], &SQUARE_COLUMNS].concat(),
+    );
+    for (name, layout) in VIEWED {
+        let [disks, squares] = scheduled_as_both(layout);
+        for (size, edges) in rectangles(layout) {
+            for k in [64, 1_024] {
+                let ([shown, visited], times) = time_viewing_two(&disks, &squares, edges, k);
+                let cells = further_cells(times);
+                println!("| {name} | {size} | {k} | {shown} | {visited} | {cells} |");
             }
         }
     }
@@ -965,7 +1054,7 @@ fn rearranging() {
     );
     for n in SIZES {
         // What the marks hold plays no part.
-        let part_1 = write_marks(&marks(Shape::Reel, n, 1));
+        let part_1 = write_marks(&marks(Layout::Reel, n, 1));
         let columns = rollmap::to_columns_vec(&part_1).expect("the marks are taken");
         let calls = (REARRANGED / n) as u32;
         let [to, from] = [

@@ -2,7 +2,8 @@
 //! out. The sheet that is written is the one that scheduling the new marks writes,
 //! whatever schedule the old marks had, with the sheet's own part 4 (request 6), with its
 //! part 5, to which a new mark's popup comes, and from which that of one taken out goes
-//! (request 9), and with a new part 6, where the sheet has one (request 12).
+//! (request 9), with a new part 6, where the sheet has one (request 12), and with its own
+//! part 7 (request 13).
 
 use crate::contents::Part;
 use crate::mark::{Mark, MOST_MARKS};
@@ -62,7 +63,7 @@ fn schedule_afresh(
     out_length: usize,
 ) -> Result<Vec<u8>, Refusal> {
     let (old, part_5) = (&changed.bodies, changed.popups.as_deref().map(write_popups));
-    let present = [(4, old.get(4)), (5, part_5.as_deref())];
+    let present = [(4, old.get(4)), (5, part_5.as_deref()), (7, old.get(7))];
     let parts = present
         .into_iter()
         .filter_map(|(code, body)| Some((code, body?)));

@@ -1,6 +1,6 @@
 //! Contents and bodies of a sheet, and questions 1 to 3 (01, 'The sheet:
-//! contents, then bodies'; 02, requests 6, 9 and 12). A part goes by its code, and not by
-//! where it stands.
+//! contents, then bodies'; 02, requests 6, 9, 12 and 13). A part goes by its code, and not
+//! by where it stands.
 
 use crate::bytes::{field, put};
 use crate::{ask, Refusal};
@@ -17,7 +17,7 @@ const OFFSET_AT: usize = 2;
 const LENGTH_AT: usize = 6;
 
 /// The most parts a sheet has: one of each code.
-pub const MOST_PARTS: usize = 6;
+pub const MOST_PARTS: usize = 7;
 
 /// The code and the body of a part.
 pub type Part<'a> = (u16, &'a [u8]);
@@ -113,7 +113,7 @@ pub fn split(sheet: &[u8]) -> Result<Bodies<'_>, Refusal> {
 }
 
 /// Question 1: the entries, if there are the 2 bytes of the number of parts, 1 to
-/// 6 parts, and the whole contents.
+/// 7 parts, and the whole contents.
 #[inline]
 fn entries(sheet: &[u8]) -> Option<&[[u8; ENTRY_BYTES]]> {
     let (count, rest) = sheet.split_first_chunk()?;
@@ -130,7 +130,7 @@ pub(crate) fn count_fits(parts: usize) -> bool {
     (1..=MOST_PARTS).contains(&parts)
 }
 
-/// Question 2: "codes rising within 1 to" 6, "part 1 present and part 3 only with part
+/// Question 2: "codes rising within 1 to" 7, "part 1 present and part 3 only with part
 /// 2"; "code 6, only with part 2".
 #[inline]
 pub(crate) fn codes_fit(codes: impl Iterator<Item = u16> + Clone) -> bool {
@@ -172,8 +172,8 @@ pub(crate) fn extent(sheet: &[u8], code: u32) -> Option<(u32, u32)> {
 ///
 /// # Panics
 ///
-/// Where a body's end has no 4-byte number, which questions 4, 7, 19, 21 and 23 exclude, and
-/// where the buffer is short.
+/// Where a body's end has no 4-byte number, which questions 4, 7, 19, 21, 24 and 23 exclude,
+/// and where the buffer is short.
 #[inline]
 pub fn write_contents(parts: &[(u16, usize)], out: &mut [u8]) {
     let number = |length| u32::try_from(length).expect("the bodies are short");
@@ -235,13 +235,14 @@ mod tests {
 
     #[test]
     fn splitting_gives_the_joined_bodies_back() {
-        let all: [Part; 6] = [
+        let all: [Part; 7] = [
             (1, &[1, 2, 3, 4]),
             (2, &[]),
             (3, &[5; 300]),
             (4, &[6]),
             (5, &[7; 9]),
             (6, &[8; 170]),
+            (7, &[9]),
         ];
         for codes in CODES_TAKEN {
             let of_codes = |(code, _): &Part| codes.contains(code);
@@ -250,36 +251,46 @@ mod tests {
             let bodies = split(&sheet).unwrap();
             assert_eq!(bodies.present(), parts);
             assert_eq!(bodies, Bodies::of(&parts));
-            let carried = parts.iter().filter(|(code, _)| [4, 5].contains(code));
+            let carried = parts.iter().filter(|(code, _)| [4, 5, 7].contains(code));
             assert!(bodies.carried().iter().eq(carried));
         }
     }
 
     #[test]
     fn a_body_is_found_by_its_code() {
-        let sheet = join_parts(&[(1, &[7]), (2, &[]), (5, &[8, 9]), (6, &[1])]);
+        let sheet = join_parts(&[(1, &[7]), (2, &[]), (5, &[8, 9]), (6, &[1]), (7, &[5])]);
         let bodies = split(&sheet).unwrap();
-        let found = [0, 1, 2, 3, 4, 5, 6, 7].map(|code| bodies.get(code));
-        let [marks, popups, counts] = [&[7][..], &[8, 9], &[1]].map(Some);
+        let found = [0, 1, 2, 3, 4, 5, 6, 7, 8].map(|code| bodies.get(code));
+        let [marks, popups, counts, shape] = [&[7][..], &[8, 9], &[1], &[5]].map(Some);
         let [none, empty] = [None, Some(&[][..])];
         assert_eq!(
             found,
-            [none, marks, empty, none, none, popups, counts, none]
+            [none, marks, empty, none, none, popups, counts, shape, none]
         );
         assert_eq!(bodies.part_1(), [7]);
-        assert_eq!(extent(&sheet, 2), Some((43, 0)));
-        assert_eq!(extent(&sheet, 5), Some((43, 2)));
-        assert_eq!(extent(&sheet, 6), Some((45, 1)));
+        assert_eq!(extent(&sheet, 2), Some((53, 0)));
+        assert_eq!(extent(&sheet, 5), Some((53, 2)));
+        assert_eq!(extent(&sheet, 6), Some((55, 1)));
+        assert_eq!(extent(&sheet, 7), Some((56, 1)));
         assert_eq!(extent(&sheet, 4), None);
     }
 
     #[test]
-    fn only_twenty_lists_of_codes_are_taken() {
-        for length in 0..=7 {
-            each_list(&[0, 1, 2, 3, 4, 5, 6, 7], length, &mut |codes| {
-                let taken = count_fits(codes.len()) && codes_fit(codes.iter().copied());
-                assert_eq!(taken, CODES_TAKEN.contains(&codes), "{codes:?}");
-            });
+    fn only_forty_lists_of_codes_are_taken() {
+        let try_list = &mut |codes: &[u16]| {
+            let taken = count_fits(codes.len()) && codes_fit(codes.iter().copied());
+            assert_eq!(taken, CODES_TAKEN.contains(&codes), "{codes:?}");
+        };
+        for length in 0..=6 {
+            each_list(&[0, 1, 2, 3, 4, 5, 6, 7, 8], length, try_list);
+        }
+        // As many as there are, and one more.
+        for length in [7, 8] {
+            each_list(&[1, 2, 6, 7], length, try_list);
+        }
+        for first in [0, 1, 2] {
+            let rising: Vec<u16> = (first..first + 7).collect();
+            try_list(&rising);
         }
         assert!(!codes_fit([257].into_iter()));
     }

@@ -2,10 +2,12 @@
 //! removal').
 
 use crate::fraction::Fraction;
+use crate::shape::Shape;
 use crate::turn::turned;
 
 /// A place in map units and a used radius in screen pixels: at zoom z the label is a
-/// disk about the place, of z times the radius.
+/// disk about the place, of z times the radius, or a square that reaches as far along x and
+/// along y.
 #[derive(Clone, Copy, Debug, PartialEq, Eq)]
 pub struct Label {
     pub x: i32,
@@ -14,14 +16,14 @@ pub struct Label {
 }
 
 impl Label {
-    /// The touching value of two labels: the squared distance of their places over
-    /// the squared sum of their radii, as these two whole numbers. Both radii are
+    /// The touching value of two labels of a shape: the squared distance of their places
+    /// over the squared sum of their radii, as these two whole numbers. Both radii are
     /// ones that question 6 takes.
     #[inline]
-    pub fn touching_value(self, other: Self) -> Fraction {
+    pub fn touching_value(self, other: Self, shape: Shape) -> Fraction {
         let reach = self.radius + other.radius;
         Fraction {
-            numerator: squared_distance(self.x - other.x, self.y - other.y),
+            numerator: shape.squared_distance(self.x - other.x, self.y - other.y),
             denominator: reach * reach,
         }
     }
@@ -33,47 +35,18 @@ impl Label {
     }
 }
 
-/// The squared distance of two places that lie so far apart along x and along y.
-#[inline]
-pub fn squared_distance(dx: i32, dy: i32) -> u64 {
-    let square = |difference: i32| i64::from(difference) * i64::from(difference);
-    (square(dx) + square(dy)) as u64
-}
-
 #[cfg(test)]
 mod tests {
     use super::*;
-
-    #[test]
-    fn the_squares_are_taken_in_64_bits_at_both_ends() {
-        for d in [-65_535, 65_535] {
-            assert_eq!(squared_distance(d, 0), 4_294_836_225);
-            assert_eq!(squared_distance(0, d), 4_294_836_225);
-            assert_eq!(squared_distance(d, -d), 8_589_672_450);
-        }
-        // From a turned place to an edge it is one more.
-        assert_eq!(squared_distance(65_536, -65_536), 1 << 33);
-    }
 
     #[test]
     fn a_turned_label_keeps_its_radius_and_its_distances() {
         let of = |x, y, radius| Label { x, y, radius };
         let (a, b) = (of(-32_768, 32_767, 40), of(300, -7, 16_383));
         assert_eq!(a.turned(3), of(32_767, 32_768, 40));
-        for turn in 0..=3 {
-            let value = a.turned(turn).touching_value(b.turned(turn));
-            assert_eq!(value, a.touching_value(b));
-        }
-    }
-
-    #[test]
-    fn the_distance_grows_with_each_difference() {
-        for (dx, dy) in (0..9).flat_map(|dx| (0..9).map(move |dy| (dx, dy))) {
-            let squared = squared_distance(dx, dy);
-            assert!(squared < squared_distance(dx + 1, dy));
-            assert!(squared < squared_distance(dx, dy + 1));
-            assert_eq!(squared, squared_distance(-dx, dy));
-            assert_eq!(squared, squared_distance(dx, -dy));
+        for (turn, shape) in (0..=3).flat_map(|turn| Shape::ALL.map(|shape| (turn, shape))) {
+            let value = a.turned(turn).touching_value(b.turned(turn), shape);
+            assert_eq!(value, a.touching_value(b, shape));
         }
     }
 }

@@ -13,9 +13,9 @@
 //!
 //! A call that 01 can refuse answers `Result<_, Refusal>`; the error is the
 //! number of the first question of 01, 'Questions put in turn', whose answer is
-//! no. Where a comment says that 4 to 9 are asked, 02's questions 19 and 21 are asked, in
-//! this order, after 7, and 23 after 9; and where it says that 10 and 11 are, 02's question
-//! 20 between them.
+//! no. Where a comment says that 4 to 9 are asked, 02's questions 19, 21 and 24 are asked,
+//! in this order, after 7, and 23 after 9; and where it says that 10 and 11 are, 02's
+//! question 20 between them.
 //! Buffers are not written here: a call takes the lengths of the buffers it would
 //! borrow and answers the bytes it would write.
 
@@ -40,6 +40,7 @@ pub mod reel;
 pub mod report;
 pub mod rules;
 pub mod sample;
+pub mod shape;
 pub mod sheet;
 pub mod tree;
 pub mod turn;

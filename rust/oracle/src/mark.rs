@@ -4,6 +4,7 @@
 use crate::bytes::{field, put};
 use crate::fraction::Fraction;
 use crate::label::Label;
+use crate::shape::Shape;
 
 /// Bytes a mark takes in part 1.
 pub const MARK_BYTES: usize = 11;
@@ -155,14 +156,15 @@ pub fn write_marks(marks: &[Mark]) -> Vec<u8> {
     marks.iter().flat_map(Mark::write).collect()
 }
 
-/// The touching value of two marks, whose radii question 6 takes: that of their labels.
+/// The touching value of two marks, whose radii question 6 takes: that of their labels,
+/// which are of this shape.
 ///
 /// # Panics
 ///
 /// On marks that question 5 refuses.
 #[inline]
-pub fn touching_value(a: &Mark, b: &Mark) -> Fraction {
-    a.label().touching_value(b.label())
+pub fn touching_value(shape: Shape, a: &Mark, b: &Mark) -> Fraction {
+    a.label().touching_value(b.label(), shape)
 }
 
 #[cfg(test)]
@@ -235,17 +237,19 @@ mod tests {
 
     #[test]
     fn the_largest_touching_numbers_are_those_of_01() {
-        let far = touching_value(
-            &at(i16::MIN, i16::MIN, 16_383),
-            &at(i16::MAX, i16::MAX, 16_383),
-        );
-        assert_eq!(far, Fraction::new(8_589_672_450, 1_073_610_756));
+        let ends = [i16::MIN, i16::MAX].map(|end| at(end, end, 16_383));
+        let [disks, squares] = Shape::ALL.map(|shape| touching_value(shape, &ends[0], &ends[1]));
+        assert_eq!(disks, Fraction::new(8_589_672_450, 1_073_610_756));
+        assert_eq!(squares, Fraction::new(4_294_836_225, 1_073_610_756));
     }
 
     #[test]
     fn touching_is_unreduced_symmetric_and_by_used_radius() {
         let (a, b) = (at(10, -20, 0), at(-20, 20, 300));
-        assert_eq!(touching_value(&a, &b), Fraction::new(2_500, 250_000));
-        assert_eq!(touching_value(&b, &a), touching_value(&a, &b));
+        for (shape, numerator) in [(Shape::Disk, 2_500), (Shape::Square, 1_600)] {
+            let value = Fraction::new(numerator, 250_000);
+            assert_eq!(touching_value(shape, &a, &b), value);
+            assert_eq!(touching_value(shape, &b, &a), value);
+        }
     }
 }

@@ -1,6 +1,6 @@
 //! The process (01, 'Touching, rank, removal'), once as it is told and twice
-//! faster. Ranks are those of the reel's edition, and pair values stand in place of touching
-//! values (02, request 9).
+//! faster. Ranks are those of the reel's edition, and pair values, which go by the shape of the
+//! labels, stand in place of touching values (02, requests 6, 9 and 13).
 
 use std::cmp::Ordering;
 

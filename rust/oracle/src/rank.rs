@@ -3,6 +3,7 @@
 
 use crate::mark::Mark;
 use crate::reel::Reel;
+use crate::shape::Shape;
 
 /// An edition of the handbook. Without a part 4 the first one holds.
 #[derive(Clone, Copy, Debug, Default, PartialEq, Eq)]
@@ -38,12 +39,13 @@ impl Edition {
         }
     }
 
-    /// These marks, ranked by the edition, all of them there from the start.
+    /// These marks, ranked by the edition, all of them there from the start, as disks.
     pub fn reel(self, marks: &[Mark]) -> Reel<'_> {
         Reel {
             marks,
             edition: self,
             popups: None,
+            shape: Shape::Disk,
         }
     }
 }

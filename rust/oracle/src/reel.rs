@@ -1,5 +1,5 @@
-//! The reel: all that decides a schedule (01, 'Touching, rank, removal'; 02, requests 6 and
-//! 9).
+//! The reel: all that decides a schedule (01, 'Touching, rank, removal'; 02, requests 6, 9
+//! and 13).
 
 use std::cmp::Ordering;
 
@@ -7,14 +7,16 @@ use crate::fraction::Fraction;
 use crate::mark::{touching_value, Mark};
 use crate::popup::pair_value;
 use crate::rank::{Edition, RankKey};
+use crate::shape::Shape;
 
-/// Marks that questions 5 and 6 take, the edition that ranks them, and their popups, where
-/// there is a part 5.
+/// Marks that questions 5 and 6 take, the edition that ranks them, their popups, where there
+/// is a part 5, and the shape of their labels.
 #[derive(Clone, Copy, Debug)]
 pub struct Reel<'a> {
     pub marks: &'a [Mark],
     pub edition: Edition,
     pub popups: Option<&'a [u32]>,
+    pub shape: Shape,
 }
 
 impl<'a> Reel<'a> {
@@ -26,6 +28,11 @@ impl<'a> Reel<'a> {
         }
     }
 
+    /// The same marks with labels of this shape.
+    pub fn with_shape(self, shape: Shape) -> Self {
+        Self { shape, ..self }
+    }
+
     /// The popup of the mark of that number.
     pub fn popup(&self, number: usize) -> u32 {
         self.popups.map_or(0, |popups| popups[number])
@@ -33,7 +40,7 @@ impl<'a> Reel<'a> {
 
     /// The pair value of two marks by their numbers.
     pub fn pair_value(&self, a: usize, b: usize) -> Fraction {
-        let touching = touching_value(&self.marks[a], &self.marks[b]);
+        let touching = touching_value(self.shape, &self.marks[a], &self.marks[b]);
         pair_value(touching, self.popup(a).max(self.popup(b)))
     }
 
@@ -77,6 +84,27 @@ mod tests {
             assert_eq!(reel.pair_value(0, 1), late);
             assert_eq!(reel.pair_value(1, 0), late);
             assert_eq!(reel.pair_value(2, 3), reel.pair_value(3, 2));
+        }
+    }
+
+    #[test]
+    fn a_popup_is_held_against_the_touching_value_of_the_shape() {
+        // Disks touch at 160/64, and squares at 128/64.
+        let two = [Mark::plain(0, 0, 10, 9), Mark::plain(30, 40, 10, 5)];
+        let value = |shape, popup| {
+            let popups = [0, popup];
+            let reel = Edition::First.reel(&two).with_shape(shape);
+            reel.with_popups(&popups).pair_value(0, 1)
+        };
+        for popup in [0, 1, 128, 129, 160, 161, 65_536] {
+            let late = Fraction::new(u64::from(popup) * u64::from(popup), 4_096);
+            let [disks, squares] = Shape::ALL.map(|shape| value(shape, popup));
+            let early = |last, numerator| match popup {
+                popup if popup <= last => Fraction::new(numerator, 400),
+                _ => late,
+            };
+            assert_eq!(disks, early(160, 2_500));
+            assert_eq!(squares, early(128, 1_600));
         }
     }
 

@@ -17,7 +17,7 @@ pub enum Breach {
 }
 
 /// Whether a list of removal values keeps both rules for these marks, by the ranks of
-/// their edition and by their popups, and where it does not.
+/// their edition, by their popups and by their shape, and where it does not.
 pub fn keep_both(reel: Reel, list: &[Removal]) -> Result<(), Breach> {
     if list.len() != reel.marks.len() || !list.iter().all(names_a_value) {
         return Err(Breach::NoList);

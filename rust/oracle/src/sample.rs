@@ -1,7 +1,7 @@
 //! What tests and benchmarks are made of: marks and popups made up from a seed, the same
 //! ones on every machine, all of which 01 and 02 take; the marks of some of 01's examples,
-//! and those with ties in the tree; worked examples of popups and of schedules that are
-//! judged; sheets that are refused; the schedules that question 8 takes; and what a test
+//! and those with ties in the tree; worked examples of popups, of shapes and of schedules that
+//! are judged; sheets that are refused; the schedules that question 8 takes; and what a test
 //! tries whole.
 
 use crate::count::part_6;
@@ -12,7 +12,9 @@ use crate::process::schedule_by_process;
 use crate::rank::Edition;
 use crate::record::{write_records, Record};
 use crate::reel::Reel;
+use crate::shape::Shape;
 use crate::sheet::{join, join_parts};
+use crate::view::Edges;
 use crate::zoom::{removal_zoom_in_64ths, zoom_squared};
 use crate::Refusal;
 
@@ -199,6 +201,192 @@ pub const POPUP_EXAMPLES: [PopupExample; 11] = [
     },
 ];
 
+/// Marks and their popups, where they have some, the records that they are scheduled with as
+/// disks and as squares, and what all places show of them at some zooms, each in 64ths with the
+/// only byte of its map as disks and as squares.
+#[derive(Clone, Copy, Debug)]
+pub struct ShapeExample {
+    pub marks: &'static [Mark],
+    pub popups: Option<&'static [u32]>,
+    pub records: [&'static [Record]; 2],
+    pub shown: &'static [(u32, [u8; 2])],
+}
+
+/// Two marks that lie 50 apart as disks, and 40 as squares: these touch at 64 times zoom 160
+/// and 128.
+pub const THREE_FOUR_FIVE: [Mark; 2] = [Mark::plain(0, 0, 10, 9), Mark::plain(30, 40, 10, 5)];
+
+/// Marks of which 1 touches 2 at 4225/400, along x, and 0 at 7200/400 as a disk and at
+/// 3600/400 as a square.
+pub const DIAGONAL: [Mark; 3] = [
+    Mark::plain(0, 0, 10, 9),
+    Mark::plain(60, 60, 10, 5),
+    Mark::plain(125, 60, 10, 1),
+];
+
+/// Marks of which 0, the lowest-ranked, is 40 from both others as a square.
+pub const TIED_AS_SQUARES: [Mark; 3] = [
+    Mark::plain(0, 0, 10, 0),
+    Mark::plain(40, 10, 10, 5),
+    Mark::plain(-40, 40, 10, 7),
+];
+
+/// Worked examples of shapes.
+pub const SHAPE_EXAMPLES: [ShapeExample; 8] = [
+    // Along an axis both shapes are the same.
+    ShapeExample {
+        marks: &[P1[0], P1[1], P1[2]],
+        popups: None,
+        records: [&[
+            Record::NEVER,
+            Record::new(0, 10_000, 400),
+            Record::new(0, 40_000, 400),
+        ]; 2],
+        shown: &[(319, [0x07; 2]), (320, [0x05; 2]), (640, [0x01; 2])],
+    },
+    ShapeExample {
+        marks: &THREE_FOUR_FIVE,
+        popups: None,
+        records: [
+            &[Record::NEVER, Record::new(0, 2_500, 400)],
+            &[Record::NEVER, Record::new(0, 1_600, 400)],
+        ],
+        shown: &[
+            (127, [0x03, 0x03]),
+            (128, [0x03, 0x01]),
+            (159, [0x03, 0x01]),
+            (160, [0x01, 0x01]),
+        ],
+    },
+    // As disks 2 goes first, by 1, and as squares 1, which then does not remove 2.
+    ShapeExample {
+        marks: &DIAGONAL,
+        popups: None,
+        records: [
+            &[
+                Record::NEVER,
+                Record::new(0, 7_200, 400),
+                Record::new(1, 4_225, 400),
+            ],
+            &[
+                Record::NEVER,
+                Record::new(0, 3_600, 400),
+                Record::new(0, 15_625, 400),
+            ],
+        ],
+        shown: &[
+            (191, [0x07, 0x07]),
+            (192, [0x07, 0x05]),
+            (207, [0x07, 0x05]),
+            (208, [0x03, 0x05]),
+            (271, [0x03, 0x05]),
+            (272, [0x01, 0x05]),
+            (399, [0x01, 0x05]),
+            (400, [0x01, 0x01]),
+        ],
+    },
+    // As squares 0 has one value with both others, and goes by the highest-ranked.
+    ShapeExample {
+        marks: &TIED_AS_SQUARES,
+        popups: None,
+        records: [
+            &[
+                Record::new(1, 1_700, 400),
+                Record::new(2, 7_300, 400),
+                Record::NEVER,
+            ],
+            &[
+                Record::new(2, 1_600, 400),
+                Record::new(2, 6_400, 400),
+                Record::NEVER,
+            ],
+        ],
+        shown: &[
+            (127, [0x07, 0x07]),
+            (128, [0x07, 0x06]),
+            (131, [0x07, 0x06]),
+            (132, [0x06, 0x06]),
+            (255, [0x06, 0x06]),
+            (256, [0x06, 0x04]),
+        ],
+    },
+    // A popup where the squares touch is kept by neither.
+    ShapeExample {
+        marks: &THREE_FOUR_FIVE,
+        popups: Some(&[0, 128]),
+        records: [
+            &[Record::NEVER, Record::new(0, 2_500, 400)],
+            &[Record::NEVER, Record::new(0, 1_600, 400)],
+        ],
+        shown: &[
+            (127, [0x01, 0x01]),
+            (128, [0x03, 0x01]),
+            (160, [0x01, 0x01]),
+        ],
+    },
+    // One after that, up to where the disks touch, is kept by the squares.
+    ShapeExample {
+        marks: &THREE_FOUR_FIVE,
+        popups: Some(&[150, 0]),
+        records: [
+            &[Record::NEVER, Record::new(0, 2_500, 400)],
+            &[Record::NEVER, Record::new(0, 22_500, 4_096)],
+        ],
+        shown: &[
+            (1, [0x02, 0x02]),
+            (149, [0x02, 0x02]),
+            (150, [0x03, 0x01]),
+            (160, [0x01, 0x01]),
+        ],
+    },
+    // Two at one place, and two as far apart as there are places.
+    ShapeExample {
+        marks: &P5,
+        popups: None,
+        records: [&[Record::NEVER, Record::new(0, 0, 4)]; 2],
+        shown: &[(1, [0x01; 2])],
+    },
+    ShapeExample {
+        marks: &P6,
+        popups: None,
+        records: [
+            &[Record::NEVER, Record::new(0, 8_589_672_450, 4)],
+            &[Record::NEVER, Record::new(0, 4_294_836_225, 4)],
+        ],
+        shown: &[(65_536, [0x03; 2])],
+    },
+];
+
+/// Rectangles, each with 64 times a zoom, and whether the label of radius 10 at (0, 0) reaches
+/// it as a disk and as a square. At 320 both reach 50 along x and along y.
+pub const REACH_EXAMPLES: [(Edges, u32, [bool; 2]); 14] = [
+    (beyond(50, 0), 320, [true, true]),
+    (beyond(51, 0), 320, [false, false]),
+    (beyond(0, 50), 320, [true, true]),
+    (beyond(0, 51), 320, [false, false]),
+    // 30, 40 and 50 are the sides of a right triangle.
+    (beyond(30, 40), 320, [true, true]),
+    (beyond(30, 40), 319, [false, true]),
+    (beyond(31, 40), 320, [false, true]),
+    (beyond(30, 41), 320, [false, true]),
+    (beyond(30, 40), 256, [false, true]),
+    (beyond(30, 40), 255, [false, false]),
+    // The corner of the square is the last place that it reaches.
+    (beyond(50, 50), 320, [false, true]),
+    (beyond(51, 50), 320, [false, false]),
+    (beyond(50, 51), 320, [false, false]),
+    (beyond(50, 50), 319, [false, false]),
+];
+
+/// The rectangle of all places from there on.
+const fn beyond(x0: i32, y0: i32) -> Edges {
+    Edges {
+        x0,
+        y0,
+        ..Edges::WHOLE
+    }
+}
+
 /// Marks with what else decides their schedule, records of them that question 8 takes, and
 /// whether the judge accepts these (02, request 10).
 #[derive(Clone, Copy, Debug)]
@@ -206,17 +394,19 @@ pub struct JudgedExample {
     pub edition: Edition,
     pub marks: &'static [Mark],
     pub popups: Option<&'static [u32]>,
+    pub shape: Shape,
     pub records: &'static [Record],
     pub accepted: bool,
 }
 
 impl JudgedExample {
-    /// Records of the first edition without popups that are accepted.
+    /// Records of the first edition without popups, of disks, that are accepted.
     const fn ours(marks: &'static [Mark], records: &'static [Record]) -> Self {
         Self {
             edition: Edition::First,
             marks,
             popups: None,
+            shape: Shape::Disk,
             records,
             accepted: true,
         }
@@ -246,12 +436,21 @@ impl JudgedExample {
         }
     }
 
+    /// The same of squares.
+    const fn of_squares(self) -> Self {
+        Self {
+            shape: Shape::Square,
+            ..self
+        }
+    }
+
     /// What decides the schedule of the marks.
     pub fn reel(&self) -> Reel<'static> {
         Reel {
             marks: self.marks,
             edition: self.edition,
             popups: self.popups,
+            shape: self.shape,
         }
     }
 }
@@ -318,7 +517,7 @@ const FAR_APART: [Mark; 3] = [
 const ONE_NEARER: [Mark; 3] = [FAR_APART[0], Mark::plain(-100, 0, 10, 5), FAR_APART[2]];
 
 /// Worked examples of schedules that are judged.
-pub const JUDGED_EXAMPLES: [JudgedExample; 26] = [
+pub const JUDGED_EXAMPLES: [JudgedExample; 33] = [
     // No marks, and one.
     JudgedExample::ours(&[], &[]),
     JudgedExample::ours(&[P1[0]], &[Record::NEVER]),
@@ -451,30 +650,76 @@ pub const JUDGED_EXAMPLES: [JudgedExample; 26] = [
         ],
     )
     .with_popups(&[0, 480, 0]),
+    // As squares 1 goes before it touches 2, and as disks after.
+    JudgedExample::ours(&DIAGONAL, SHAPE_EXAMPLES[2].records[0]),
+    JudgedExample::ours(&DIAGONAL, SHAPE_EXAMPLES[2].records[1]).of_squares(),
+    JudgedExample::foreign(
+        &DIAGONAL,
+        &[Record::NEVER, Record::NEVER, Record::new(1, 4_225, 400)],
+    )
+    .of_squares(),
+    // As squares 0 ties with both others, and names the highest-ranked.
+    JudgedExample::ours(&TIED_AS_SQUARES, SHAPE_EXAMPLES[3].records[1]).of_squares(),
+    JudgedExample::foreign(
+        &TIED_AS_SQUARES,
+        &[
+            Record::new(1, 1_600, 400),
+            Record::new(2, 6_400, 400),
+            Record::NEVER,
+        ],
+    )
+    .of_squares(),
+    // A popup is held against the touching value of the squares.
+    JudgedExample::ours(&THREE_FOUR_FIVE, SHAPE_EXAMPLES[5].records[1])
+        .with_popups(&[150, 0])
+        .of_squares(),
+    JudgedExample::foreign(&THREE_FOUR_FIVE, &[Record::NEVER; 2])
+        .with_popups(&[150, 0])
+        .of_squares(),
 ];
 
-/// The lists of codes that question 2 takes (01, and 02, requests 6, 9 and 12).
-pub const CODES_TAKEN: [&[u16]; 20] = [
+/// The lists of codes that question 2 takes (01, and 02, requests 6, 9, 12 and 13).
+pub const CODES_TAKEN: [&[u16]; 40] = [
     &[1],
     &[1, 2],
     &[1, 4],
     &[1, 5],
+    &[1, 7],
     &[1, 2, 3],
     &[1, 2, 4],
     &[1, 2, 5],
     &[1, 2, 6],
+    &[1, 2, 7],
     &[1, 4, 5],
+    &[1, 4, 7],
+    &[1, 5, 7],
     &[1, 2, 3, 4],
     &[1, 2, 3, 5],
     &[1, 2, 3, 6],
+    &[1, 2, 3, 7],
     &[1, 2, 4, 5],
     &[1, 2, 4, 6],
+    &[1, 2, 4, 7],
     &[1, 2, 5, 6],
+    &[1, 2, 5, 7],
+    &[1, 2, 6, 7],
+    &[1, 4, 5, 7],
     &[1, 2, 3, 4, 5],
     &[1, 2, 3, 4, 6],
+    &[1, 2, 3, 4, 7],
     &[1, 2, 3, 5, 6],
+    &[1, 2, 3, 5, 7],
+    &[1, 2, 3, 6, 7],
     &[1, 2, 4, 5, 6],
+    &[1, 2, 4, 5, 7],
+    &[1, 2, 4, 6, 7],
+    &[1, 2, 5, 6, 7],
     &[1, 2, 3, 4, 5, 6],
+    &[1, 2, 3, 4, 5, 7],
+    &[1, 2, 3, 4, 6, 7],
+    &[1, 2, 3, 5, 6, 7],
+    &[1, 2, 4, 5, 6, 7],
+    &[1, 2, 3, 4, 5, 6, 7],
 ];
 
 /// A small generator of numbers (shifts and exclusive ors of one 64-bit word).
@@ -521,7 +766,7 @@ impl Generator {
 
 /// How the marks of a sample lie.
 #[derive(Clone, Copy, Debug, PartialEq, Eq)]
-pub enum Shape {
+pub enum Layout {
     /// Anywhere, with all kinds and priorities.
     Uniform,
     /// Around a few places.
@@ -542,8 +787,8 @@ pub enum Shape {
     Extreme,
 }
 
-impl Shape {
-    /// Every shape.
+impl Layout {
+    /// Every layout.
     pub const ALL: [Self; 9] = [
         Self::Uniform,
         Self::Clustered,
@@ -557,11 +802,11 @@ impl Shape {
     ];
 }
 
-/// The n marks of a shape and a seed.
-pub fn marks(shape: Shape, n: usize, seed: u64) -> Vec<Mark> {
+/// The n marks of a layout and a seed.
+pub fn marks(layout: Layout, n: usize, seed: u64) -> Vec<Mark> {
     let mut generator = Generator::new(seed);
     let sites = sites(&mut generator, n);
-    let marks = (0..n).map(|_| mark(&mut generator, shape, &sites, n));
+    let marks = (0..n).map(|_| mark(&mut generator, layout, &sites, n));
     marks.collect()
 }
 
@@ -623,10 +868,12 @@ fn any_popup(generator: &mut Generator) -> u32 {
     generator.below(LARGEST_POPUP + 1) >> generator.below(17)
 }
 
-/// A popup about the zoom at which a mark touches one of some others; of a few that are
-/// tried, one elsewhere, which it touches at a whole 64th, if there is such a one.
+/// A popup about the zoom at which a mark touches one of some others as a disk; of a few that
+/// are tried, one elsewhere, which it touches at a whole 64th, if there is such a one: along an
+/// axis it touches that as a square, too.
 fn popup_about(generator: &mut Generator, mark: &Mark, others: &[Mark]) -> u32 {
-    let tried = [(); 8].map(|()| touching_value(mark, &generator.choose(others)));
+    let touching = |other| touching_value(Shape::Disk, mark, &other);
+    let tried = [(); 8].map(|()| touching(generator.choose(others)));
     let nearest = |value| removal_zoom_in_64ths(value) as u32;
     let exact = |value: &Fraction| value.compare(zoom_squared(nearest(*value))).is_eq();
     let mut elsewhere = tried.into_iter().filter(|value| value.numerator > 0);
@@ -660,7 +907,7 @@ pub fn raw_sheet(entries: &[(u16, u32, u32)], body: &[u8]) -> Vec<u8> {
     sheet
 }
 
-/// Sheets that questions 1 to 10, 19, 21 and 23 refuse, each with the number of the first
+/// Sheets that questions 1 to 10, 19, 21, 24 and 23 refuse, each with the number of the first
 /// that does. The next one in turn would refuse it, too; but a sheet that 9 is asked of has
 /// the parts that 10 asks for, so that 8 and 23 stand with and without part 3.
 pub fn refused_sheets() -> Vec<(Refusal, Vec<u8>)> {
@@ -681,6 +928,7 @@ pub fn refused_sheets() -> Vec<(Refusal, Vec<u8>)> {
         (1, raw_sheet(&[(9, 0, 0); 8], &[])),
         (2, raw_sheet(&[(2, 0, 5)], &[])),
         (2, raw_sheet(&[(1, 22, 5), (6, 0, 5)], &[])),
+        (2, raw_sheet(&[(1, 22, 5), (8, 0, 5)], &[])),
         (3, raw_sheet(&[(1, 12, 12)], &[0; 13])),
         (4, join(&[&longer])),
         (5, join(&[&both])),
@@ -688,6 +936,7 @@ pub fn refused_sheets() -> Vec<(Refusal, Vec<u8>)> {
         (7, join(&[&part_1, &no_records, &[], &[3]])),
         (7, join_parts(&[(1, &part_1), (2, &[]), (4, &[])])),
         (7, join_parts(&[(1, &part_1), (2, &[]), (5, &[])])),
+        (7, join_parts(&[(1, &part_1), (2, &[]), (7, &[])])),
         (19, join(&[&part_1, &no_records, &no_tree, &[0]])),
         (19, join(&[&part_1, &no_records, &no_tree, &[0], &beyond])),
         (
@@ -696,6 +945,7 @@ pub fn refused_sheets() -> Vec<(Refusal, Vec<u8>)> {
         ),
         (19, join_parts(&[(1, &part_1), (4, &[])])),
         (19, join_parts(&[(1, &part_1), (4, &[3]), (5, &[])])),
+        (19, join_parts(&[(1, &part_1), (4, &[3]), (7, &[3])])),
         (21, join(&[&part_1, &no_records, &no_tree, &[2], &beyond])),
         (
             21,
@@ -704,9 +954,22 @@ pub fn refused_sheets() -> Vec<(Refusal, Vec<u8>)> {
         (21, join_parts(&[(1, &part_1), (5, &beyond)])),
         (21, join_parts(&[(1, &part_1), (4, &[1]), (5, &[])])),
         (21, join_parts(&[(1, &[]), (5, &part_5)])),
+        (21, join_parts(&[(1, &part_1), (5, &beyond), (7, &[0])])),
+        (
+            24,
+            join(&[&part_1, &no_records, &no_tree, &[2], &part_5, &other, &[0]]),
+        ),
+        (
+            24,
+            join_parts(&[(1, &part_1), (2, &no_records), (7, &[2, 2])]),
+        ),
+        (24, join_parts(&[(1, &part_1), (7, &[3])])),
+        (24, join_parts(&[(1, &part_1), (4, &[1]), (7, &[])])),
+        (24, join_parts(&[(1, &[]), (5, &[]), (7, &[255])])),
         (8, join(&[&part_1, &no_records, &no_tree, &[2], &part_5])),
         (8, join(&[&part_1, &no_records, &no_tree, &[2]])),
         (8, join_parts(&[(1, &part_1), (2, &no_records), (6, &[])])),
+        (8, join_parts(&[(1, &part_1), (2, &no_records), (7, &[2])])),
         (8, join(&[&part_1, &no_records, &no_tree])),
         (8, join(&[&part_1, &no_records])),
         (9, join(&[&part_1, &part_2, &no_tree])),
@@ -731,9 +994,11 @@ pub fn refused_sheets() -> Vec<(Refusal, Vec<u8>)> {
         (10, join_parts(&[(1, &part_1), (2, &part_2), (4, &[1])])),
         (10, join_parts(&[(1, &part_1), (2, &part_2), (5, &part_5)])),
         (10, join_parts(&[(1, &part_1), (2, &part_2), (6, &part_6)])),
+        (10, join_parts(&[(1, &part_1), (2, &part_2), (7, &[2])])),
         (10, join(&[&part_1])),
         (10, join_parts(&[(1, &part_1), (4, &[2])])),
         (10, join_parts(&[(1, &part_1), (5, &part_5)])),
+        (10, join_parts(&[(1, &part_1), (7, &[2])])),
         (10, join(&[&[], &[]])),
         (10, join_parts(&[(1, &[]), (5, &[])])),
         (10, join(&[&[]])),
@@ -793,24 +1058,24 @@ fn sites(generator: &mut Generator, n: usize) -> Vec<(i16, i16)> {
         .collect()
 }
 
-/// One mark of a shape.
-fn mark(generator: &mut Generator, shape: Shape, sites: &[(i16, i16)], n: usize) -> Mark {
-    let (x, y) = place(generator, shape, sites, n);
+/// One mark of a layout.
+fn mark(generator: &mut Generator, layout: Layout, sites: &[(i16, i16)], n: usize) -> Mark {
+    let (x, y) = place(generator, layout, sites, n);
     let small = 1 + generator.below(200) as u16;
-    let (radius, priority) = match shape {
-        Shape::Grid => (generator.choose(&[10, 10, 20]), generator.below(3) as u16),
-        Shape::HugeRadius => (LARGEST_RADIUS + 1 - small, generator.below(65_536) as u16),
-        Shape::FewHuge => {
+    let (radius, priority) = match layout {
+        Layout::Grid => (generator.choose(&[10, 10, 20]), generator.below(3) as u16),
+        Layout::HugeRadius => (LARGEST_RADIUS + 1 - small, generator.below(65_536) as u16),
+        Layout::FewHuge => {
             let huge = generator.below(100) == 0;
             let radius = if huge { LARGEST_RADIUS } else { small };
             (radius, generator.below(65_536) as u16)
         }
-        Shape::Extreme => (
+        Layout::Extreme => (
             generator.choose(&[0, 1, LARGEST_RADIUS]),
             generator.choose(&[0, 65_535]),
         ),
-        Shape::OnePlace | Shape::Line => (small, generator.below(4) as u16),
-        Shape::Uniform | Shape::Clustered | Shape::Reel => (
+        Layout::OnePlace | Layout::Line => (small, generator.below(4) as u16),
+        Layout::Uniform | Layout::Clustered | Layout::Reel => (
             generator.choose(&[0, small, small]),
             generator.below(65_536) as u16,
         ),
@@ -825,29 +1090,29 @@ fn mark(generator: &mut Generator, shape: Shape, sites: &[(i16, i16)], n: usize)
     }
 }
 
-/// The place of one mark of a shape.
-fn place(generator: &mut Generator, shape: Shape, sites: &[(i16, i16)], n: usize) -> (i16, i16) {
+/// The place of one mark of a layout.
+fn place(generator: &mut Generator, layout: Layout, sites: &[(i16, i16)], n: usize) -> (i16, i16) {
     let side = 1 + n.isqrt() as u32;
     let (site_x, site_y) = sites[0];
-    match shape {
-        Shape::Uniform | Shape::HugeRadius | Shape::FewHuge => {
+    match layout {
+        Layout::Uniform | Layout::HugeRadius | Layout::FewHuge => {
             (anywhere(generator), anywhere(generator))
         }
-        Shape::Clustered => {
+        Layout::Clustered => {
             let (x, y) = generator.choose(sites);
             (
                 x + generator.between(-500, 500),
                 y + generator.between(-500, 500),
             )
         }
-        Shape::Reel => (anywhere(generator), generator.between(-3_000, 2_999)),
-        Shape::Line => (anywhere(generator), site_y),
-        Shape::OnePlace => (site_x, site_y),
-        Shape::Grid => (
+        Layout::Reel => (anywhere(generator), generator.between(-3_000, 2_999)),
+        Layout::Line => (anywhere(generator), site_y),
+        Layout::OnePlace => (site_x, site_y),
+        Layout::Grid => (
             50 * generator.below(side) as i16,
             50 * generator.below(side) as i16,
         ),
-        Shape::Extreme => {
+        Layout::Extreme => {
             let ends = [i16::MIN, i16::MIN + 1, 0, i16::MAX - 1, i16::MAX];
             (generator.choose(&ends), generator.choose(&ends))
         }
@@ -866,9 +1131,9 @@ mod tests {
 
     #[test]
     fn every_sample_has_n_marks_that_are_taken() {
-        for shape in Shape::ALL {
+        for layout in Layout::ALL {
             for n in [0, 1, 100, 4_096] {
-                let marks = marks(shape, n, 1);
+                let marks = marks(layout, n, 1);
                 assert_eq!(marks.len(), n);
                 assert_eq!(check(&join(&[&write_marks(&marks)])), 0);
             }
@@ -879,7 +1144,7 @@ mod tests {
     fn every_sample_has_a_popup_for_each_mark_that_is_taken() {
         for how in Popups::ALL {
             for n in [0, 1, 100, 4_096] {
-                let marks = marks(Shape::Grid, n, 1);
+                let marks = marks(Layout::Grid, n, 1);
                 let part_5 = write_popups(&popups(how, &marks, 2));
                 assert_eq!(part_5.len(), 4 * n);
                 let sheet = join_parts(&[(1, &write_marks(&marks)), (5, &part_5)]);
@@ -890,11 +1155,11 @@ mod tests {
 
     #[test]
     fn seeds_give_different_samples() {
-        for shape in Shape::ALL {
-            assert_ne!(marks(shape, 50, 0), marks(shape, 50, 1));
-            assert_ne!(marks(shape, 50, 0), marks(shape, 50, u64::MAX));
+        for layout in Layout::ALL {
+            assert_ne!(marks(layout, 50, 0), marks(layout, 50, 1));
+            assert_ne!(marks(layout, 50, 0), marks(layout, 50, u64::MAX));
         }
-        let sample = marks(Shape::Line, 50, 0);
+        let sample = marks(Layout::Line, 50, 0);
         for how in Popups::ALL {
             let differ = popups(how, &sample, 0) != popups(how, &sample, 1);
             assert_eq!(differ, how != Popups::Zero);
@@ -903,7 +1168,7 @@ mod tests {
 
     #[test]
     fn the_samples_pop_up_as_they_say() {
-        let sample = marks(Shape::Grid, 999, 5);
+        let sample = marks(Layout::Grid, 999, 5);
         let drawn = |how| popups(how, &sample, 5);
         assert_eq!(drawn(Popups::Zero), [0; 999]);
         assert!(drawn(Popups::Early).iter().all(|&k| k < 64));
@@ -920,10 +1185,10 @@ mod tests {
 
     #[test]
     fn many_popup_values_equal_a_touching_value() {
-        let sample = marks(Shape::Grid, 50, 6);
+        let sample = marks(Layout::Grid, 50, 6);
         let equals = |mark: &Mark, k: u32| {
             let value = zoom_squared(k);
-            let touching = |other| touching_value(mark, other);
+            let touching = |other| touching_value(Shape::Disk, mark, other);
             k > 0 && sample.iter().any(|it| touching(it).compare(value).is_eq())
         };
         let drawn = popups(Popups::Touching, &sample, 6);
@@ -932,19 +1197,19 @@ mod tests {
     }
 
     #[test]
-    fn the_samples_lie_as_their_shape_says() {
-        let (line, point) = (marks(Shape::Line, 99, 5), marks(Shape::OnePlace, 99, 5));
+    fn the_samples_lie_as_their_layout_says() {
+        let (line, point) = (marks(Layout::Line, 99, 5), marks(Layout::OnePlace, 99, 5));
         assert!(line.iter().all(|mark| mark.y == line[0].y));
         assert!(line.iter().any(|mark| mark.x != line[0].x));
         assert!(point
             .iter()
             .all(|mark| (mark.x, mark.y) == (point[0].x, point[0].y)));
-        let reel = marks(Shape::Reel, 99, 5);
+        let reel = marks(Layout::Reel, 99, 5);
         assert!(reel.iter().all(|mark| (-3_000..3_000).contains(&mark.y)));
         assert!(reel.iter().any(|mark| mark.x.abs() > 30_000));
-        let huge = marks(Shape::HugeRadius, 99, 5);
+        let huge = marks(Layout::HugeRadius, 99, 5);
         assert!(huge.iter().all(|mark| mark.radius >= 16_000));
-        let extreme = marks(Shape::Extreme, 99, 5);
+        let extreme = marks(Layout::Extreme, 99, 5);
         assert!(extreme
             .iter()
             .any(|mark| mark.x == i16::MIN && mark.y == i16::MAX));

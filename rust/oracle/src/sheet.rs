@@ -1,6 +1,6 @@
-//! The whole sheet: questions 4 to 9, 19, 21 and 23, and three of the five jobs, checking,
+//! The whole sheet: questions 4 to 9, 19, 21, 24 and 23, and three of the five jobs, checking,
 //! scheduling and putting together (01, 'The sheet: contents, then bodies' and
-//! 'Questions put in turn'; 02, requests 6, 9 and 12).
+//! 'Questions put in turn'; 02, requests 6, 9, 12 and 13).
 
 pub use crate::contents::{join, join_parts, split};
 
@@ -13,6 +13,7 @@ use crate::process::schedule_by_sorted_pairs;
 use crate::rank::{Edition, RankKey};
 use crate::record::{read_records, write_records, Record, RECORD_BYTES};
 use crate::reel::Reel;
+use crate::shape::Shape;
 use crate::tree::{self, read_tree, write_tree, INDEX_BYTES};
 use crate::{ask, Refusal};
 
@@ -37,9 +38,10 @@ pub const fn part_lengths(n: usize) -> [usize; 3] {
     [MARK_BYTES * n, RECORD_BYTES * n, INDEX_BYTES * n]
 }
 
-/// The parts of a sheet that questions 1 to 7, 19 and 21 take, row by row as they stand in
-/// the caller's bytes: as many records, numbers of the index and popups as marks, where
-/// they are there; the edition, where part 4 names one; and part 6 as it is.
+/// The parts of a sheet that questions 1 to 7, 19, 21 and 24 take, row by row as they stand
+/// in the caller's bytes: as many records, numbers of the index and popups as marks, where
+/// they are there; the edition, where part 4 names one, and the shape, where part 7 does; and
+/// part 6 as it is.
 #[derive(Clone, Copy, Debug)]
 pub struct Rows<'a> {
     pub marks: &'a [[u8; MARK_BYTES]],
@@ -48,16 +50,18 @@ pub struct Rows<'a> {
     pub named: Option<Edition>,
     pub popups: Option<&'a [[u8; POPUP_BYTES]]>,
     pub counts: Option<&'a [u8]>,
+    pub shaped: Option<Shape>,
 }
 
 impl<'a> Rows<'a> {
-    /// The rows of a sheet's bodies. Asks 4 to 7, 19, and 21.
+    /// The rows of a sheet's bodies. Asks 4 to 7, 19, 21, and 24.
     #[inline]
     pub fn of(bodies: &Bodies<'a>) -> Result<Self, Refusal> {
         let marks = mark_rows(bodies.part_1())?;
         ask(7, lengths_fit(bodies, marks.len()))?;
         let named = named_edition(bodies)?;
         let popups = popup_rows(bodies, marks.len())?;
+        let shaped = named_shape(bodies)?;
         Ok(Self {
             marks,
             records: bodies.get(2).map(|body| body.as_chunks().0),
@@ -65,6 +69,7 @@ impl<'a> Rows<'a> {
             named,
             popups,
             counts: bodies.get(6),
+            shaped,
         })
     }
 
@@ -72,6 +77,12 @@ impl<'a> Rows<'a> {
     #[inline]
     pub fn edition(&self) -> Edition {
         self.named.unwrap_or_default()
+    }
+
+    /// The shape that the labels have.
+    #[inline]
+    pub fn shape(&self) -> Shape {
+        self.shaped.unwrap_or_default()
     }
 
     /// The popup of mark number m.
@@ -136,6 +147,13 @@ fn popup_rows<'a>(
     bodies.get(5).map(popups).transpose()
 }
 
+/// The shape that part 7 names, if it is there. Asks 24: it is one byte of 1 or 2.
+#[inline]
+fn named_shape(bodies: &Bodies) -> Result<Option<Shape>, Refusal> {
+    let shape = |part_7| Shape::read(part_7).ok_or(24);
+    bodies.get(7).map(shape).transpose()
+}
+
 /// An accepted sheet, opened: its bodies as they stand in the caller's bytes, and
 /// what they mean. A part that is there may still be empty.
 #[derive(Clone, Debug, PartialEq, Eq)]
@@ -146,6 +164,7 @@ pub struct Opened<'a> {
     pub tree: Option<Vec<u16>>,
     pub edition: Edition,
     pub popups: Option<Vec<u32>>,
+    pub shape: Shape,
 }
 
 impl Opened<'_> {
@@ -155,6 +174,7 @@ impl Opened<'_> {
             marks: &self.marks,
             edition: self.edition,
             popups: self.popups.as_deref(),
+            shape: self.shape,
         }
     }
 
@@ -182,6 +202,7 @@ fn open_bodies(bodies: Bodies<'_>) -> Result<Opened<'_>, Refusal> {
         tree: bodies.get(3).map(read_tree),
         edition: rows.edition(),
         popups: bodies.get(5).map(read_popups),
+        shape: rows.shape(),
     };
     if let Some(records) = &opened.records {
         ask(8, records_fit(opened.reel(), records))?;
@@ -313,9 +334,10 @@ mod tests {
     }
 
     #[test]
-    fn part_4_adds_11_bytes_part_5_10_and_4_a_mark_and_part_6_180() {
+    fn parts_4_and_7_add_11_bytes_each_part_5_10_and_4_a_mark_and_part_6_180() {
         assert_eq!(added_bytes(&[]), 0);
         assert_eq!(added_bytes(&[(4, &[2])]), 11);
+        assert_eq!(added_bytes(&[(7, &[2])]), 11);
         assert_eq!(added_bytes(&[(5, &[])]), 10);
         assert_eq!(added_bytes(&[(5, &[0; 8])]), 10 + 4 * 2);
         assert_eq!(added_bytes(&[(4, &[1]), (5, &[0; 8])]), 29);

@@ -1,11 +1,13 @@
-//! The view and who is shown in it (01, 'The view and its map'; 02, requests 1, 8 and 9).
+//! The view and who is shown in it (01, 'The view and its map'; 02, requests 1, 8, 9 and
+//! 13).
 
 use crate::fraction::Removal;
-use crate::label::{squared_distance, Label};
+use crate::label::Label;
 use crate::map::{map_bytes, set_bit};
 use crate::mark::Mark;
 use crate::record::removals;
 use crate::reel::Reel;
+use crate::shape::Shape;
 use crate::sheet::open;
 use crate::turn::MOST_TURNS;
 use crate::zoom::{lives, zoom_in_64ths, Zoom};
@@ -55,16 +57,17 @@ impl Window {
     pub const WHOLE: Self = Edges::WHOLE.unturned();
 }
 
-/// Whether a mark's disk at zoom k/64 reaches the rectangle, once its place is turned.
+/// Whether a mark's label at zoom k/64, of this shape, reaches the rectangle, once its place
+/// is turned.
 ///
 /// # Panics
 ///
 /// On marks that question 5 refuses, and edges that question 11 refuses.
-pub fn reaches(mark: &Mark, window: Window, k: u32) -> bool {
-    disk_reaches(mark.label().turned(window.turn), window.edges, k)
+pub fn reaches(shape: Shape, mark: &Mark, window: Window, k: u32) -> bool {
+    label_reaches(shape, mark.label().turned(window.turn), window.edges, k)
 }
 
-/// Whether a label's disk at zoom k/64 reaches the rectangle, touching included: the
+/// Whether a label of a shape at zoom k/64 reaches the rectangle, touching included: the
 /// squared distance from the label's place to the rectangle, times 4096, is at most k²
 /// times the squared radius. The nearest place of the rectangle is the place itself
 /// where it lies inside.
@@ -73,11 +76,11 @@ pub fn reaches(mark: &Mark, window: Window, k: u32) -> bool {
 ///
 /// On edges that question 11 refuses.
 #[inline]
-pub fn disk_reaches(label: Label, edges: Edges, k: u32) -> bool {
+pub fn label_reaches(shape: Shape, label: Label, edges: Edges, k: u32) -> bool {
     let dx = label.x - label.x.clamp(edges.x0, edges.x1);
     let dy = label.y - label.y.clamp(edges.y0, edges.y1);
     let (k, radius) = (u64::from(k), u64::from(label.radius));
-    4_096 * squared_distance(dx, dy) <= k * k * (radius * radius)
+    4_096 * shape.squared_distance(dx, dy) <= k * k * (radius * radius)
 }
 
 /// Answers a view by looking at every mark: the bytes written to the map, and the
@@ -90,13 +93,13 @@ pub fn view(
 ) -> Result<(Vec<u8>, u32), Refusal> {
     let opened = open(sheet)?;
     let records = opened.indexed_records()?;
-    let k = ask_view(window, zoom)?;
+    let k = ask_view(opened.shape, window, zoom)?;
     ask(13, map_length >= map_bytes(opened.marks.len()))?;
     Ok(map_and_count(opened.reel(), &removals(records), window, k))
 }
 
 /// The map of the shown marks of a reel, and their count. A mark is shown if it lives,
-/// by the removal value that a list names for it, and its disk reaches the rectangle.
+/// by the removal value that a list names for it, and its label reaches the rectangle.
 ///
 /// # Panics
 ///
@@ -105,21 +108,26 @@ pub fn map_and_count(reel: Reel, list: &[Removal], window: Window, k: u32) -> (V
     let mut map = vec![0; map_bytes(list.len())];
     let mut count = 0;
     for (m, &removal) in list.iter().enumerate() {
-        let shown = lives(reel.popup(m), removal, k) && reaches(&reel.marks[m], window, k);
+        let shown =
+            lives(reel.popup(m), removal, k) && reaches(reel.shape, &reel.marks[m], window, k);
         set_bit(&mut map, m, shown);
         count += u32::from(shown);
     }
     (map, count)
 }
 
-/// The zoom of a view in 64ths. Asks 20 of the turn and the edges, 11 of the edges, and
-/// 12.
-pub fn ask_view(window: Window, zoom: Zoom) -> Result<u32, Refusal> {
+/// The zoom of a view in 64ths, of labels of this shape. Asks 20 of the turn, which is none
+/// but 0 for squares, and of the edges; 11 of the edges; and 12.
+pub fn ask_view(shape: Shape, window: Window, zoom: Zoom) -> Result<u32, Refusal> {
     let Edges { x0, x1, y0, y1 } = window.edges;
     let within = |edge| (-FARTHEST_EDGE..=FARTHEST_EDGE).contains(&edge);
+    let turns = match shape {
+        Shape::Disk => MOST_TURNS,
+        Shape::Square => 0,
+    };
     ask(
         20,
-        window.turn <= MOST_TURNS && [x0, x1, y0, y1].into_iter().all(within),
+        window.turn <= turns && [x0, x1, y0, y1].into_iter().all(within),
     )?;
     ask(11, x0 <= x1 && y0 <= y1)?;
     zoom_in_64ths(zoom)
@@ -127,6 +135,7 @@ pub fn ask_view(window: Window, zoom: Zoom) -> Result<u32, Refusal> {
 
 #[cfg(test)]
 mod tests {
+    use super::Shape::{Disk, Square};
     use super::*;
 
     /// These edges, without a turn.
@@ -140,11 +149,12 @@ mod tests {
         Edges { x0, x1, y0, y1 }
     }
 
-    /// At zoom 5, k = 320, its disk has radius 50.
+    /// At zoom 5, k = 320, its disk has radius 50, and its square reaches as far along x and
+    /// along y.
     const TEN_WIDE: Mark = Mark::plain(0, 0, 10, 0);
 
     #[test]
-    fn a_disk_that_touches_the_rectangle_reaches_it() {
+    fn a_label_that_touches_the_rectangle_reaches_it() {
         let beside = |d: i32| {
             [
                 window(d, 200, -9, 9),
@@ -153,34 +163,50 @@ mod tests {
                 window(-9, 9, -200, -d),
             ]
         };
-        assert!(beside(50).iter().all(|&e| reaches(&TEN_WIDE, e, 320)));
-        assert!(beside(51).iter().all(|&e| !reaches(&TEN_WIDE, e, 320)));
-        assert!(beside(50).iter().all(|&e| !reaches(&TEN_WIDE, e, 319)));
+        for shape in Shape::ALL {
+            let each = |d, k| beside(d).map(|edges| reaches(shape, &TEN_WIDE, edges, k));
+            assert_eq!(each(50, 320), [true; 4]);
+            assert_eq!(each(51, 320), [false; 4]);
+            assert_eq!(each(50, 319), [false; 4]);
+        }
     }
 
     #[test]
-    fn towards_a_corner_both_axes_count() {
+    fn towards_a_corner_both_axes_count_for_disks_and_the_farther_one_for_squares() {
+        let shapes = |x0, y0, k| {
+            Shape::ALL.map(|shape| reaches(shape, &TEN_WIDE, window(x0, 99, y0, 99), k))
+        };
         // 30, 40 and 50 are the sides of a right triangle.
-        let corner = window(30, 99, 40, 99);
-        assert!(reaches(&TEN_WIDE, corner, 320));
-        assert!(!reaches(&TEN_WIDE, corner, 319));
-        assert!(!reaches(&TEN_WIDE, window(31, 99, 40, 99), 320));
-        assert!(!reaches(&TEN_WIDE, window(30, 99, 41, 99), 320));
+        assert_eq!(shapes(30, 40, 320), [true, true]);
+        assert_eq!(shapes(30, 40, 319), [false, true]);
+        assert_eq!(shapes(31, 40, 320), [false, true]);
+        assert_eq!(shapes(30, 41, 320), [false, true]);
+        // 64 times zoom 4 is 256, where the square reaches 40 along both.
+        assert_eq!(shapes(30, 40, 256), [false, true]);
+        assert_eq!(shapes(30, 40, 255), [false, false]);
+        // The corner of the square itself, and one unit further on either axis.
+        assert_eq!(shapes(50, 50, 320), [false, true]);
+        assert_eq!(shapes(50, 50, 319), [false, false]);
+        assert_eq!(shapes(51, 50, 320), [false, false]);
+        assert_eq!(shapes(50, 51, 320), [false, false]);
     }
 
     #[test]
-    fn a_disk_reaches_the_rectangles_that_have_a_place_in_it() {
+    fn a_label_reaches_the_rectangles_that_have_a_place_in_it() {
         let mark = Mark::plain(0, 0, 3, 0);
         let side = |low: i32| (low..=6).map(move |high| (low, high));
         for k in [1, 40, 64, 100] {
-            let in_disk = |x: i32, y: i32| {
-                let squared = i64::from(x).pow(2) + i64::from(y).pow(2);
-                4_096 * squared <= i64::from(k).pow(2) * 9
+            let in_label = |shape, x: i32, y: i32| match shape {
+                Disk => 4_096 * (x * x + y * y) <= k * k * 9,
+                Square => [x, y].iter().all(|place| 64 * place.abs() <= k * 3),
             };
             for (x0, x1) in (-6..=6).flat_map(side) {
                 for (y0, y1) in (-6..=6).flat_map(side) {
-                    let any = (x0..=x1).any(|x| (y0..=y1).any(|y| in_disk(x, y)));
-                    assert_eq!(reaches(&mark, window(x0, x1, y0, y1), k), any);
+                    for shape in Shape::ALL {
+                        let any = (x0..=x1).any(|x| (y0..=y1).any(|y| in_label(shape, x, y)));
+                        let rectangle = window(x0, x1, y0, y1);
+                        assert_eq!(reaches(shape, &mark, rectangle, k as u32), any);
+                    }
                 }
             }
         }
@@ -193,20 +219,25 @@ mod tests {
             kind: 10,
             ..TEN_WIDE
         };
-        assert!(reaches(&patch, window(60, 99, 0, 0), 64));
-        assert!(!reaches(&patch, window(61, 99, 0, 0), 64));
+        for shape in Shape::ALL {
+            assert!(reaches(shape, &patch, window(60, 99, 0, 0), 64));
+            assert!(!reaches(shape, &patch, window(61, 99, 0, 0), 64));
+        }
     }
 
     #[test]
-    fn the_widest_disks_are_compared_without_wrapping() {
+    fn the_widest_labels_are_compared_without_wrapping() {
         let low = i16::MIN;
         let widest = Mark::plain(low, low, 16_383, 0);
         for high in [32_767, 32_768] {
             let far = window(high, high, high, high);
-            assert!(!reaches(&widest, far, 362));
-            assert!(reaches(&widest, far, 363));
-            assert!(reaches(&widest, far, 65_536));
-            assert!(!reaches(&Mark::plain(low, low, 1, 0), far, 65_536));
+            for (shape, first) in [(Disk, 363), (Square, 257)] {
+                assert!(!reaches(shape, &widest, far, first - 1));
+                assert!(reaches(shape, &widest, far, first));
+                assert!(reaches(shape, &widest, far, 65_536));
+                let narrowest = Mark::plain(low, low, 1, 0);
+                assert!(!reaches(shape, &narrowest, far, 65_536));
+            }
         }
     }
 
@@ -214,7 +245,7 @@ mod tests {
     fn a_disk_reaches_a_rectangle_of_turned_places() {
         // At zoom 5 its disk has radius 50, about (70, -20).
         let mark = Mark::plain(70, -20, 10, 0);
-        let at = |turn, x, y| reaches(&mark, about(x, y).of_turned(turn), 320);
+        let at = |turn, x, y| reaches(Disk, &mark, about(x, y).of_turned(turn), 320);
         for (turn, x, y) in [(0, 70, -20), (1, 20, 70), (2, -70, 20), (3, -20, -70)] {
             for (dx, dy) in [(50, 0), (-50, 0), (0, 50), (30, -40), (-40, -30)] {
                 assert!(at(turn, x + dx, y + dy));
@@ -237,19 +268,21 @@ mod tests {
             (2, 32_768, 32_768, 91),
             (3, -32_768, 32_768, 64),
         ] {
-            assert!(reaches(&mark, about(x, y).of_turned(turn), 1));
-            assert!(reaches(&mark, Edges::WHOLE.of_turned(turn), 1));
-            assert!(!reaches(&mark, unturned.of_turned(turn), near - 1));
-            assert!(reaches(&mark, unturned.of_turned(turn), near));
+            assert!(reaches(Disk, &mark, about(x, y).of_turned(turn), 1));
+            assert!(reaches(Disk, &mark, Edges::WHOLE.of_turned(turn), 1));
+            assert!(!reaches(Disk, &mark, unturned.of_turned(turn), near - 1));
+            assert!(reaches(Disk, &mark, unturned.of_turned(turn), near));
         }
     }
 
     #[test]
-    fn question_20_takes_three_turns_and_edges_up_to_the_farthest() {
+    fn question_20_takes_three_turns_of_disks_none_of_squares_and_edges_up_to_the_farthest() {
         let zoom = Zoom::Stop(0);
-        for turn in 0..=255 {
-            let expected = if turn <= 3 { Ok(1) } else { Err(20) };
-            assert_eq!(ask_view(Edges::WHOLE.of_turned(turn), zoom), expected);
+        for (shape, turn) in (0..=255).flat_map(|turn| Shape::ALL.map(|shape| (shape, turn))) {
+            let most = if shape == Disk { 3 } else { 0 };
+            let expected = if turn <= most { Ok(1) } else { Err(20) };
+            let window = Edges::WHOLE.of_turned(turn);
+            assert_eq!(ask_view(shape, window, zoom), expected);
         }
         let beyond = [32_769, -32_769, i32::MAX, i32::MIN, 65_536, -65_536];
         for (turn, edge) in (0..=3).flat_map(|turn| beyond.map(|edge| (turn, edge))) {
@@ -260,8 +293,20 @@ mod tests {
                 Edges { y0: edge, ..whole },
                 Edges { y1: edge, ..whole },
             ] {
-                assert_eq!(ask_view(edges.of_turned(turn), zoom), Err(20));
+                for shape in Shape::ALL {
+                    assert_eq!(ask_view(shape, edges.of_turned(turn), zoom), Err(20));
+                }
             }
+        }
+        // It is asked before 11 and 12.
+        let crossed = Edges {
+            x0: 1,
+            x1: 0,
+            ..Edges::WHOLE
+        };
+        for (turn, [disk, square]) in [(0, [11, 11]), (1, [11, 20]), (3, [11, 20])] {
+            let asked = |shape| ask_view(shape, crossed.of_turned(turn), Zoom::Stop(17));
+            assert_eq!(Shape::ALL.map(asked), [Err(disk), Err(square)]);
         }
     }
 }

@@ -1,12 +1,13 @@
-//! Marks that come and go (02, request 5), with their popups (request 9) and their counts
-//! (request 12): examples, and each question answered with no in its turn.
+//! Marks that come and go (02, request 5), with their popups (request 9), their counts
+//! (request 12) and their shape (request 13): examples, and each question answered with no in
+//! its turn.
 
 mod common;
 
 use common::{
-    each_popping_up, five_parts, one_part, popup_bytes, scheduled, scheduled_by,
-    scheduled_popping_up, three_parts, with_counts, with_edition, with_part, with_part_4,
-    with_popups, COUNTS, EDITION, LONGEST, OUT, WORK,
+    each_popping_up, five_parts, one_part, popup_bytes, schedule_large, scheduled, scheduled_as,
+    scheduled_by, scheduled_popping_up, three_parts, with_counts, with_edition, with_part,
+    with_part_4, with_part_7, with_popups, with_shape, COUNTS, EDITION, LONGEST, OUT, SHAPE, WORK,
 };
 use oracle::change::{add, take_out};
 use oracle::mark::{read_marks, write_marks, Mark};
@@ -14,7 +15,8 @@ use oracle::popup::read_popups;
 use oracle::process::schedule_in_rank_order;
 use oracle::rank::Edition;
 use oracle::record::{read_records, write_records, Record};
-use oracle::sample::{marks, refused_sheets, Generator, Shape, P1};
+use oracle::sample::{marks, refused_sheets, Generator, Layout, P1};
+use oracle::shape::Shape;
 use oracle::sheet::{join, scheduled_bytes, split, work_bytes};
 
 /// A mark with something in every field.
@@ -126,8 +128,8 @@ fn a_mark_alone_comes_and_goes() {
 
 #[test]
 fn each_mark_taken_out_leaves_the_others_in_order() {
-    for shape in Shape::ALL {
-        let sample = marks(shape, 9, 2);
+    for layout in Layout::ALL {
+        let sample = marks(layout, 9, 2);
         let sheet = scheduled(&sample);
         for m in 0..sample.len() {
             let mut others = sample.clone();
@@ -154,10 +156,10 @@ fn a_schedule_that_is_not_ours_is_taken_and_the_result_is_fresh() {
 #[test]
 fn a_scheduled_sheet_comes_back_byte_for_byte() {
     let mut generator = Generator::new(1);
-    for shape in Shape::ALL {
+    for layout in Layout::ALL {
         for n in [0, 1, 2, 7, 20] {
-            let sheet = scheduled(&marks(shape, n, 3));
-            let new = generator.choose(&marks(shape, 5, 4));
+            let sheet = scheduled(&marks(layout, n, 3));
+            let new = generator.choose(&marks(layout, 5, 4));
             let longer = add_large(&sheet, new).unwrap();
             assert_eq!(take_out_large(&longer, n as u32), Ok(sheet));
         }
@@ -168,12 +170,12 @@ fn a_scheduled_sheet_comes_back_byte_for_byte() {
 fn marks_come_and_go_by_the_sheets_own_edition() {
     let mut generator = Generator::new(2);
     for edition in Edition::ALL {
-        for shape in Shape::ALL {
+        for layout in Layout::ALL {
             for n in [0, 1, 2, 7, 20] {
-                let mut sample = marks(shape, n, 3);
+                let mut sample = marks(layout, n, 3);
                 sample.iter_mut().for_each(|mark| mark.priority &= 1);
                 let sheet = scheduled_by(edition, &sample);
-                let new = generator.choose(&marks(shape, 5, 4));
+                let new = generator.choose(&marks(layout, 5, 4));
                 let longer = add_large(&sheet, new).unwrap();
                 sample.push(new);
                 assert_eq!(longer, scheduled_by(edition, &sample));
@@ -305,6 +307,45 @@ fn a_change_renews_the_counts_that_are_there() {
     });
 }
 
+#[test]
+fn a_sheet_keeps_its_shape_and_goes_by_it() {
+    let mut generator = Generator::new(5);
+    let mut differing = 0;
+    each_popping_up(&[1, 2, 7, 20], |marks, popups| {
+        let m = generator.below(marks.len() as u32) as usize;
+        let (last, others) = marks.split_last().unwrap();
+        let (popup, earlier) = popups.split_last().unwrap();
+        let [disks, squares] = Shape::ALL.map(|shape| {
+            let of = |marks: &[Mark], popups: &[u32]| {
+                let sheet = with_shape(&with_popups(&one_part(marks), popups), shape);
+                with_counts(&schedule_large(&sheet).unwrap())
+            };
+            let (fewer, all) = (of(others, earlier), of(marks, popups));
+            assert_eq!(add_popping_up(&fewer, *last, *popup).as_ref(), Ok(&all));
+            assert_eq!(take_out_large(&all, others.len() as u32), Ok(fewer));
+            let (mut left, mut popups) = (marks.to_vec(), popups.to_vec());
+            left.remove(m);
+            popups.remove(m);
+            assert_eq!(take_out_large(&all, m as u32), Ok(of(&left, &popups)));
+            assert_eq!(split(&all).unwrap().get(7), Some(&shape.write()[..]));
+            all
+        });
+        differing += usize::from(records(&disks) != records(&squares));
+    });
+    assert!(differing > 100, "only {differing} schedules differ");
+}
+
+#[test]
+fn the_shape_of_no_marks_is_kept() {
+    for shape in Shape::ALL {
+        let empty = scheduled_as(shape, &[]);
+        assert_eq!(empty.len(), 43);
+        let one = add_large(&empty, NEW).unwrap();
+        assert_eq!(one, scheduled_as(shape, &[NEW]));
+        assert_eq!(take_out_large(&one, 0), Ok(empty));
+    }
+}
+
 // ---- refusals
 
 #[test]
@@ -324,14 +365,14 @@ fn questions_1_to_10_come_first() {
 
 #[test]
 fn question_10_before_17_and_18() {
-    let full = marks(Shape::Grid, 4_096, 1);
+    let full = marks(Layout::Grid, 4_096, 1);
     assert_eq!(add_large(&one_part(&full), NEW), Err(10));
     assert_eq!(take_out_large(&one_part(&full), 4_096), Err(10));
 }
 
 #[test]
 fn question_19_before_10_17_and_18() {
-    let full = marks(Shape::Grid, 4_096, 1);
+    let full = marks(Layout::Grid, 4_096, 1);
     let unnamed = with_part_4(&one_part(&full), &[0]);
     assert_eq!(add_large(&unnamed, NEW), Err(19));
     assert_eq!(take_out_large(&unnamed, 4_096), Err(19));
@@ -342,7 +383,7 @@ fn question_19_before_10_17_and_18() {
 
 #[test]
 fn question_21_of_the_sheet_before_10_17_and_18() {
-    let full = marks(Shape::Grid, 4_096, 1);
+    let full = marks(Layout::Grid, 4_096, 1);
     let damaged = with_part(&one_part(&full), 5, &[0; 4]);
     assert_eq!(add_large(&damaged, NEW), Err(21));
     assert_eq!(take_out_large(&damaged, 4_096), Err(21));
@@ -352,8 +393,21 @@ fn question_21_of_the_sheet_before_10_17_and_18() {
 }
 
 #[test]
+fn question_24_before_10_17_and_18() {
+    let full = marks(Layout::Grid, 4_096, 1);
+    for part_7 in [&[][..], &[0], &[3], &[1, 1]] {
+        let damaged = with_part_7(&one_part(&full), part_7);
+        assert_eq!(add_popping_up(&damaged, NEW, 65_537), Err(24));
+        assert_eq!(take_out_large(&damaged, 4_096), Err(24));
+    }
+    let unscheduled = with_shape(&one_part(&full), Shape::Square);
+    assert_eq!(add_large(&unscheduled, NEW), Err(10));
+    assert_eq!(take_out_large(&unscheduled, 4_096), Err(10));
+}
+
+#[test]
 fn question_23_before_10_17_and_18() {
-    let full = marks(Shape::OnePlace, 4_096, 1);
+    let full = marks(Layout::OnePlace, 4_096, 1);
     let parts = [write_marks(&full), write_records(&[Record::NEVER; 4_096])];
     let unindexed = join(&[&parts[0], &parts[1]]);
     let damaged = with_part(&unindexed, 6, &[0; 170]);
@@ -389,7 +443,7 @@ fn question_17_before_13() {
 
 #[test]
 fn questions_18_5_6_21_and_13_in_this_order() {
-    let full = marks(Shape::OnePlace, 4_096, 1);
+    let full = marks(Layout::OnePlace, 4_096, 1);
     let never = [Record::NEVER; 4_096];
     let most = three_parts(&full, &never);
     let fewer = three_parts(&full[1..], &never[1..]);
@@ -427,7 +481,7 @@ fn questions_18_5_6_21_and_13_in_this_order() {
 
 #[test]
 fn the_last_mark_that_is_held_comes_and_goes() {
-    let most = marks(Shape::OnePlace, 4_096, 2);
+    let most = marks(Layout::OnePlace, 4_096, 2);
     let (&last, fewer) = most.split_last().unwrap();
     let [most, fewer] =
         [&most, fewer].map(|it| three_parts(it, &schedule_in_rank_order(Edition::First.reel(it))));
@@ -437,7 +491,7 @@ fn the_last_mark_that_is_held_comes_and_goes() {
 }
 
 #[test]
-fn question_13_goes_by_the_new_number_of_marks_and_by_parts_4_5_and_6() {
+fn question_13_goes_by_the_new_number_of_marks_and_by_the_parts_beyond_3() {
     for n in 0..=4 {
         let sheet = scheduled(&P1[..n]);
         let popping_up = with_popups(&sheet, &[0; 4][..n]);
@@ -448,8 +502,13 @@ fn question_13_goes_by_the_new_number_of_marks_and_by_parts_4_5_and_6() {
             question_13(&with_edition(&sheet, edition), n, |_| EDITION);
             let both = with_edition(&popping_up, edition);
             question_13(&both, n, |n| EDITION + popup_bytes(n));
-            let all = with_counts(&both);
-            question_13(&all, n, |n| EDITION + popup_bytes(n) + COUNTS);
+            let counted = with_counts(&both);
+            question_13(&counted, n, |n| EDITION + popup_bytes(n) + COUNTS);
+            for shape in Shape::ALL {
+                question_13(&with_shape(&sheet, shape), n, |_| SHAPE);
+                let all = with_shape(&counted, shape);
+                question_13(&all, n, |n| EDITION + popup_bytes(n) + COUNTS + SHAPE);
+            }
         }
     }
 }

@@ -3,8 +3,9 @@
 mod common;
 
 use common::{
-    each_popping_up, one_part, schedule_large, scheduled, scheduled_by, scheduled_popping_up,
-    three_parts, with_counts, with_edition, with_part, with_popups,
+    each_popping_up, one_part, schedule_large, scheduled, scheduled_as, scheduled_by,
+    scheduled_popping_up, three_parts, with_counts, with_edition, with_part, with_popups,
+    with_shape,
 };
 use oracle::count::{count, read_counts};
 use oracle::map::is_set;
@@ -12,7 +13,8 @@ use oracle::mark::{Group, Mark};
 use oracle::rank::Edition;
 use oracle::record::Record;
 use oracle::report::print;
-use oracle::sample::{marks, Generator, Shape, P1, POPUP_EXAMPLES};
+use oracle::sample::{marks, Generator, Layout, P1, POPUP_EXAMPLES};
+use oracle::shape::Shape;
 use oracle::sheet::{check, join_parts, open, split};
 use oracle::view::{view, Window};
 use oracle::zoom::Zoom;
@@ -28,14 +30,15 @@ fn counts(sheet: &[u8]) -> Vec<[u16; 5]> {
     counts.as_chunks().0.to_vec()
 }
 
-/// Calls `visit` with sheets of every shape: scheduled by both editions and with popups of
-/// every kind, and with the schedule in which nobody goes.
+/// Calls `visit` with sheets of every layout: scheduled by both editions, of both shapes and
+/// with popups of every kind, and with the schedule in which nobody goes.
 fn each_sheet(mut visit: impl FnMut(&[u8])) {
-    for shape in Shape::ALL {
+    for layout in Layout::ALL {
         for n in [0, 1, 2, 9, 40] {
-            let sample = marks(shape, n, n as u64);
+            let sample = marks(layout, n, n as u64);
             visit(&scheduled(&sample));
             visit(&scheduled_by(Edition::Second, &sample));
+            visit(&scheduled_as(Shape::Square, &sample));
             visit(&three_parts(&sample, &vec![Record::NEVER; n]));
         }
     }
@@ -43,7 +46,7 @@ fn each_sheet(mut visit: impl FnMut(&[u8])) {
         visit(&scheduled_popping_up(marks, popups));
         let never = three_parts(marks, &vec![Record::NEVER; marks.len()]);
         let named = with_edition(&never, Edition::First);
-        visit(&with_popups(&named, popups));
+        visit(&with_shape(&with_popups(&named, popups), Shape::Square));
     });
 }
 
@@ -93,7 +96,7 @@ fn counting_again_gives_the_same_bytes() {
         assert_eq!(check(&once), 0);
         // All other parts are as they were.
         let mut parts = split(&once).unwrap().present();
-        assert_eq!(parts.pop().map(|(code, _)| code), Some(6));
+        parts.retain(|&(code, _)| code != 6);
         assert_eq!(join_parts(&parts), sheet);
         assert_eq!(once, with_counts(sheet));
     });

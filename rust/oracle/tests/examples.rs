@@ -8,13 +8,14 @@ use common::{
 };
 use oracle::fraction::Fraction;
 use oracle::map::is_set;
-use oracle::mark::{touching_value, Mark};
+use oracle::mark::Mark;
 use oracle::process::schedule_by_process;
 use oracle::rank::Edition::{self, First, Second};
 use oracle::record::{read_records, removals, Record};
 use oracle::report::print;
 use oracle::rules::{keep_both, Breach};
 use oracle::sample::{P1, P5, P6, TIED_IN_TREE, TIED_RECORDS};
+use oracle::shape::Shape;
 use oracle::sheet::{check, open, split};
 use oracle::tree;
 use oracle::view::{reaches, view, Edges, Window};
@@ -177,7 +178,7 @@ fn schedule_by_quotient(marks: &[Mark], quotient: impl Fn(Fraction) -> f64) -> V
         let pairs = numbers().flat_map(|high| numbers().map(move |low| (high, low)));
         let living = pairs
             .filter(|&(high, low)| reel.outranks(high, low) && lives(high) && lives(low))
-            .map(|(high, low)| (touching_value(&marks[high], &marks[low]), high, low));
+            .map(|(high, low)| (reel.pair_value(high, low), high, low));
         let first = living.min_by(|a, b| {
             let by_value = quotient(a.0).total_cmp(&quotient(b.0));
             by_value.then(reel.rank_order(a.1, b.1))
@@ -236,7 +237,7 @@ fn schedule_with_ghosts(marks: &[Mark]) -> Vec<Record> {
     let numbers = 0..marks.len();
     let ghost = |mark: usize| {
         let higher = (0..marks.len()).filter(|&other| reel.outranks(other, mark));
-        let met = higher.map(|other| (other, touching_value(&marks[other], &marks[mark])));
+        let met = higher.map(|other| (other, reel.pair_value(other, mark)));
         let first = met.min_by(|a, b| a.1.compare(b.1).then(reel.rank_order(a.0, b.0)));
         first.map_or(Record::NEVER, |(other, value)| {
             Record::removed(other, value)
@@ -268,7 +269,7 @@ fn search(marks: &[Mark], tree: &[u16], window: Window, k: u32, cut: bool) -> Ve
         return Vec::new();
     };
     let root = usize::from(root);
-    let reached = reaches(&marks[root], window, k);
+    let reached = reaches(Shape::Disk, &marks[root], window, k);
     if cut && !reached {
         return Vec::new();
     }
@@ -306,7 +307,7 @@ fn search_halves(
     if mark(left[0]).label().x <= edges.x1 + by {
         numbers.extend(right);
     }
-    let reached = |&number: &usize| reaches(&marks[number], edges.unturned(), 64);
+    let reached = |&number: &usize| reaches(Shape::Disk, &marks[number], edges.unturned(), 64);
     numbers
         .into_iter()
         .map(usize::from)

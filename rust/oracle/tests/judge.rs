@@ -5,7 +5,8 @@ mod common;
 
 use common::{
     each_popping_up, five_parts, one_part, schedule_large, scheduled, scheduled_popping_up,
-    three_parts, with_edition, with_part, with_part_4, with_popups, with_tree,
+    three_parts, with_edition, with_part, with_part_4, with_part_7, with_popups, with_shape,
+    with_tree,
 };
 use oracle::fraction::Removal;
 use oracle::judge::{accepts, judge};
@@ -16,15 +17,17 @@ use oracle::record::{removals, write_records, Record};
 use oracle::reel::Reel;
 use oracle::rules::{keep_both, Breach};
 use oracle::sample::{
-    each_list, each_schedule, marks, popups, refused_sheets, small_choice, JudgedExample, Popups,
-    Shape, JUDGED_EXAMPLES, P1, TOGETHER,
+    each_list, each_schedule, marks, popups, refused_sheets, small_choice, JudgedExample, Layout,
+    Popups, JUDGED_EXAMPLES, P1, TOGETHER,
 };
+use oracle::shape::Shape;
 use oracle::sheet::{check, join, join_parts};
 
-/// The sheet of a reel's marks and these records, with part 4, and with part 5 where the reel
-/// has popups.
+/// The sheet of a reel's marks and these records, with parts 4 and 7, and with part 5 where
+/// the reel has popups.
 fn sheet_of(reel: Reel, records: &[Record]) -> Vec<u8> {
-    let sheet = with_edition(&three_parts(reel.marks, records), reel.edition);
+    let named = with_edition(&three_parts(reel.marks, records), reel.edition);
+    let sheet = with_shape(&named, reel.shape);
     match reel.popups {
         Some(popups) => with_popups(&sheet, popups),
         None => sheet,
@@ -53,9 +56,15 @@ fn worked_examples() {
 }
 
 #[test]
-fn without_part_4_a_schedule_is_judged_by_the_first_edition() {
+fn without_parts_4_and_7_a_schedule_is_judged_by_the_first_edition_and_as_disks() {
     for example in JUDGED_EXAMPLES {
-        if let (Edition::First, None) = (example.edition, example.popups) {
+        let JudgedExample {
+            edition,
+            popups,
+            shape,
+            ..
+        } = example;
+        if let (Edition::First, None, Shape::Disk) = (edition, popups, shape) {
             let sheet = three_parts(example.marks, example.records);
             assert_eq!(judge(&sheet).is_ok(), example.accepted);
         }
@@ -70,6 +79,8 @@ fn parts_2_and_3_of_no_marks_are_accepted() {
         vec![(4, edition)],
         vec![(5, empty)],
         vec![(4, edition), (5, empty)],
+        vec![(7, &[2])],
+        vec![(4, edition), (5, empty), (7, &[1])],
     ] {
         let of = |codes: &[u16]| {
             let parts = codes.iter().map(|&code| (code, empty));
@@ -82,12 +93,16 @@ fn parts_2_and_3_of_no_marks_are_accepted() {
 
 // ---- what holds of every schedule
 
-/// Calls `visit` with reels of these marks in both editions, without popups and with popups
-/// of some kinds.
+/// Calls `visit` with reels of these marks in both editions and of both shapes, without
+/// popups and with popups of some kinds.
 fn each_reel(marks: &[Mark], seed: u64, mut visit: impl FnMut(Reel)) {
     let ways = [Popups::Few, Popups::Any, Popups::Touching, Popups::Together];
     let drawn = ways.map(|how| popups(how, marks, seed));
-    for reel in Edition::ALL.map(|edition| edition.reel(marks)) {
+    for (edition, shape) in Edition::ALL
+        .into_iter()
+        .flat_map(|edition| Shape::ALL.map(|shape| (edition, shape)))
+    {
+        let reel = edition.reel(marks).with_shape(shape);
         visit(reel);
         drawn
             .iter()
@@ -113,9 +128,9 @@ fn accepts_ours_alone(reel: Reel) -> usize {
 #[test]
 fn of_all_schedules_that_question_8_takes_ours_alone_is_accepted() {
     let mut schedules = 0;
-    for shape in Shape::ALL {
+    for layout in Layout::ALL {
         for seed in 0..30 {
-            let mut sample = marks(shape, seed as usize % 6, seed);
+            let mut sample = marks(layout, seed as usize % 6, seed);
             if seed % 2 == 0 {
                 sample.iter_mut().for_each(|mark| mark.priority &= 1);
             }
@@ -138,8 +153,8 @@ fn ours_alone_is_accepted_of_every_three_marks_from_a_small_choice() {
 
 #[test]
 fn every_schedule_of_some_samples_passes_question_8() {
-    for shape in Shape::ALL {
-        let sample = marks(shape, 4, 1);
+    for layout in Layout::ALL {
+        let sample = marks(layout, 4, 1);
         each_reel(&sample, 1, |reel| {
             each_schedule(reel, &mut |records| {
                 let sheet = sheet_of(reel, records);
@@ -152,9 +167,9 @@ fn every_schedule_of_some_samples_passes_question_8() {
 
 #[test]
 fn every_scheduled_sheet_is_accepted() {
-    for shape in Shape::ALL {
+    for layout in Layout::ALL {
         for n in [0, 1, 2, 3, 9, 40, 120] {
-            assert_eq!(judge(&scheduled(&marks(shape, n, 3))), Ok(()));
+            assert_eq!(judge(&scheduled(&marks(layout, n, 3))), Ok(()));
         }
     }
     each_popping_up(&[0, 1, 2, 5, 9, 24], |marks, popups| {
@@ -207,7 +222,7 @@ fn false_that_a_schedule_which_keeps_both_rules_is_ours() {
         assert!(kept || !example.accepted);
         named_otherwise += usize::from(kept && !example.accepted);
     }
-    assert_eq!(named_otherwise, 5);
+    assert_eq!(named_otherwise, 6);
 }
 
 #[test]
@@ -247,6 +262,7 @@ fn question_10_asks_for_both_parts() {
             sheet.clone(),
             with_edition(&sheet, Edition::First),
             with_popups(&sheet, &[0; 4]),
+            with_shape(&sheet, Shape::Square),
         ] {
             assert_eq!(judge(&named), Err(10));
         }
@@ -261,6 +277,7 @@ fn question_22_is_asked_last() {
     assert_eq!(judge(&with_tree(&P1, &never, &[1, 0, 3, 2])), Err(9));
     assert_eq!(judge(&with_part_4(&sheet, &[3])), Err(19));
     assert_eq!(judge(&with_part(&sheet, 5, &[0; 15])), Err(21));
+    assert_eq!(judge(&with_part_7(&sheet, &[3])), Err(24));
     let mut unknown = P1;
     unknown[3].kind = 200;
     assert_eq!(judge(&three_parts(&unknown, &never)), Err(5));

@@ -1,5 +1,5 @@
 //! The three ways to schedule agree, on sheets full of ties and at the ends of
-//! every range, in both editions, with popups and without.
+//! every range, in both editions, with popups and without, of disks and of squares.
 
 use oracle::fraction::Fraction;
 use oracle::mark::Mark;
@@ -7,7 +7,8 @@ use oracle::process::{schedule_by_process, schedule_by_sorted_pairs, schedule_in
 use oracle::rank::Edition::{self, First, Second};
 use oracle::record::Record;
 use oracle::reel::Reel;
-use oracle::sample::{each_list, marks, popups, small_choice, Popups, Shape};
+use oracle::sample::{each_list, marks, popups, small_choice, Layout, Popups};
+use oracle::shape::Shape;
 
 /// The schedule of the process, once the two others are seen to give it too.
 fn schedule_reel(reel: Reel) -> Vec<Record> {
@@ -17,9 +18,11 @@ fn schedule_reel(reel: Reel) -> Vec<Record> {
     records
 }
 
-/// The schedule in the first edition, once all ways are seen to agree in the second, too.
+/// The schedule of disks in the first edition, once all ways are seen to agree in the second,
+/// and of squares, too.
 fn schedule(marks: &[Mark]) -> Vec<Record> {
     schedule_reel(Second.reel(marks));
+    schedule_reel(First.reel(marks).with_shape(Shape::Square));
     schedule_reel(First.reel(marks))
 }
 
@@ -35,9 +38,9 @@ fn tied(records: &[Record]) -> bool {
 #[test]
 fn all_agree_on_small_samples() {
     let mut ties = 0;
-    for shape in Shape::ALL {
+    for layout in Layout::ALL {
         for seed in 0..700 {
-            let records = schedule(&marks(shape, seed as usize % 12, seed));
+            let records = schedule(&marks(layout, seed as usize % 12, seed));
             ties += usize::from(tied(&records));
         }
     }
@@ -47,18 +50,39 @@ fn all_agree_on_small_samples() {
 #[test]
 fn all_agree_on_small_samples_that_pop_up() {
     let (mut ties, mut differing) = (0, 0);
-    for (shape, how) in Shape::ALL
+    for (layout, how) in Layout::ALL
         .into_iter()
-        .flat_map(|shape| Popups::ALL.map(|how| (shape, how)))
+        .flat_map(|layout| Popups::ALL.map(|how| (layout, how)))
     {
         for seed in 0..80 {
-            let marks = marks(shape, seed as usize % 12, seed);
+            let marks = marks(layout, seed as usize % 12, seed);
             let popups = popups(how, &marks, seed);
             for edition in Edition::ALL {
                 let reel = edition.reel(&marks);
                 let records = schedule_reel(reel.with_popups(&popups));
                 ties += usize::from(tied(&records));
                 differing += usize::from(records != schedule_reel(reel));
+            }
+        }
+    }
+    assert!(ties > 1_000, "only {ties} samples have a tie");
+    assert!(differing > 3_000, "only {differing} schedules are others");
+}
+
+#[test]
+fn all_agree_on_small_samples_of_squares() {
+    let (mut ties, mut differing) = (0, 0);
+    for layout in Layout::ALL {
+        for seed in 0..300 {
+            let marks = marks(layout, seed as usize % 12, seed);
+            let how = Popups::ALL[seed as usize % Popups::ALL.len()];
+            let popups = popups(how, &marks, seed);
+            for reel in Edition::ALL.map(|edition| edition.reel(&marks)) {
+                for disks in [reel, reel.with_popups(&popups)] {
+                    let records = schedule_reel(disks.with_shape(Shape::Square));
+                    ties += usize::from(tied(&records));
+                    differing += usize::from(records != schedule_by_process(disks));
+                }
             }
         }
     }
@@ -87,8 +111,8 @@ fn all_agree_on_every_sheet_of_three_marks_from_a_small_choice() {
 
 #[test]
 fn all_agree_on_middling_samples() {
-    for shape in Shape::ALL {
-        let marks = marks(shape, 40, 77);
+    for layout in Layout::ALL {
+        let marks = marks(layout, 40, 77);
         schedule(&marks);
         for how in Popups::ALL {
             schedule_reel(First.reel(&marks).with_popups(&popups(how, &marks, 77)));
@@ -98,11 +122,12 @@ fn all_agree_on_middling_samples() {
 
 #[test]
 fn the_two_faster_ones_agree_on_larger_samples() {
-    for shape in Shape::ALL {
-        let marks = marks(shape, 250, 3);
+    for layout in Layout::ALL {
+        let marks = marks(layout, 250, 3);
         let popups = popups(Popups::Any, &marks, 3);
         for reel in Edition::ALL.map(|edition| edition.reel(&marks)) {
-            for reel in [reel, reel.with_popups(&popups)] {
+            let squares = reel.with_shape(Shape::Square);
+            for reel in [reel, reel.with_popups(&popups), squares] {
                 assert_eq!(schedule_by_sorted_pairs(reel), schedule_in_rank_order(reel));
             }
         }
@@ -111,11 +136,12 @@ fn the_two_faster_ones_agree_on_larger_samples() {
 
 #[test]
 fn exactly_the_highest_ranked_mark_is_never_removed() {
-    for shape in Shape::ALL {
-        let marks = marks(shape, 30, 11);
+    for layout in Layout::ALL {
+        let marks = marks(layout, 30, 11);
         let popups = popups(Popups::Late, &marks, 11);
         for reel in Edition::ALL.map(|edition| edition.reel(&marks)) {
-            for reel in [reel, reel.with_popups(&popups)] {
+            let squares = reel.with_shape(Shape::Square);
+            for reel in [reel, reel.with_popups(&popups), squares] {
                 let records = schedule_reel(reel);
                 let kept = (0..marks.len()).filter(|&mark| records[mark] == Record::NEVER);
                 assert!(kept.eq([reel.ranked()[0]]));

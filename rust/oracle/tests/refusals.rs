@@ -5,8 +5,10 @@ mod common;
 
 use common::{
     one_part, popup_bytes, schedule_large, three_parts, with_counts, with_edition, with_part,
-    with_part_4, with_popups, with_tree, COUNTS, EDITION, LONGEST, OUT, WORK,
+    with_part_4, with_part_7, with_popups, with_shape, with_tree, COUNTS, EDITION, LONGEST, OUT,
+    SHAPE, WORK,
 };
+use oracle::change::{add, take_out};
 use oracle::contents::Part;
 use oracle::count::{count, part_6};
 use oracle::judge::judge;
@@ -16,8 +18,9 @@ use oracle::popup::write_popups;
 use oracle::rank::Edition;
 use oracle::record::{write_records, Record};
 use oracle::report::print;
-use oracle::sample::{each_list, marks, raw_sheet, refused_sheets, Shape, CODES_TAKEN, P1};
-use oracle::sheet::{assemble, check, join, join_parts, schedule};
+use oracle::sample::{each_list, marks, raw_sheet, refused_sheets, Layout, CODES_TAKEN, P1};
+use oracle::shape::Shape;
+use oracle::sheet::{assemble, check, join, join_parts, schedule, split};
 use oracle::tree;
 use oracle::view::{view, Edges, Window};
 use oracle::zoom::Zoom;
@@ -66,10 +69,10 @@ fn question_1_two_bytes_and_a_number_of_parts() {
     assert_eq!(check(&[]), 1);
     assert_eq!(check(&[1]), 1);
     assert_eq!(check(&raw(&[], 0)), 1);
-    let seven = [1, 2, 3, 4, 5, 6, 7].map(|code| (code, 72, 0));
-    assert_eq!(check(&raw(&seven, 0)), 1);
-    assert_eq!(check(&raw(&[(9, 0, 0); 7], 0)), 1);
-    assert_eq!(check(&raw(&[(9, 0, 0); 6], 0)), 2);
+    let eight = [1, 2, 3, 4, 5, 6, 7, 8].map(|code| (code, 82, 0));
+    assert_eq!(check(&raw(&eight, 0)), 1);
+    assert_eq!(check(&raw(&[(9, 0, 0); 8], 0)), 1);
+    assert_eq!(check(&raw(&[(9, 0, 0); 7], 0)), 2);
     // 257 parts, by both bytes of the number, with all of its contents.
     assert_eq!(check(&raw(&[(1, 12, 0); 257], 0)), 1);
 }
@@ -86,6 +89,8 @@ fn question_1_the_whole_contents() {
         join(&[&[], &[], &[], &[2], &[]]),
         join_parts(&[(1, &[]), (2, &[]), (6, &[0; 170])]),
         join(&[&[], &[], &[], &[2], &[], &[0; 170]]),
+        join_parts(&[(1, &[]), (7, &[1])]),
+        join(&[&[], &[], &[], &[2], &[], &[0; 170], &[2]]),
     ];
     for sheet in sheets {
         assert_eq!(check(&sheet), 0);
@@ -97,20 +102,22 @@ fn question_1_the_whole_contents() {
             assert_eq!(check(&sheet[..length]), 3, "{length}");
         }
     }
-    assert_eq!(check(&raw(&[(7, 0, 0), (7, 0, 0)], 0)[..21]), 1);
+    assert_eq!(check(&raw(&[(8, 0, 0), (8, 0, 0)], 0)[..21]), 1);
 }
 
 /// The number that questions 1 and 2 refuse a list of codes by, or 0, as 02 words it:
 /// "questions 1 and 2 allow four parts with codes rising within 1 to 4 (one part and code
 /// more with each code added later), part 1 present and part 3 only with part 2"; and later
-/// "contents may hold code 5", and "code 6, only with part 2".
+/// "contents may hold code 5", "code 6, only with part 2", and "code 7".
 fn refusal_of_codes(codes: &[u16]) -> u32 {
     let rising = codes.windows(2).all(|pair| pair[0] < pair[1]);
-    let within = codes.iter().all(|code| [1, 2, 3, 4, 5, 6].contains(code));
+    let within = codes
+        .iter()
+        .all(|code| [1, 2, 3, 4, 5, 6, 7].contains(code));
     let with_second = |code| !codes.contains(&code) || codes.contains(&2);
     let there = codes.contains(&1) && with_second(3) && with_second(6);
     match codes.len() {
-        0 | 7.. => 1,
+        0 | 8.. => 1,
         _ if rising && within && there => 0,
         _ => 2,
     }
@@ -119,7 +126,7 @@ fn refusal_of_codes(codes: &[u16]) -> u32 {
 /// An empty reel's body of a part.
 fn empty_body(code: u16) -> &'static [u8] {
     match code {
-        4 => &[2],
+        4 | 7 => &[2],
         6 => &[0; 170],
         _ => &[],
     }
@@ -144,11 +151,17 @@ fn questions_1_and_2_of_every_list_of_codes() {
         }
     };
     for length in 0..=6 {
-        each_list(&[0, 1, 2, 3, 4, 5, 6, 7], length, &mut try_list);
+        each_list(&[0, 1, 2, 3, 4, 5, 6, 7, 8], length, &mut try_list);
     }
-    // One more than there are.
-    each_list(&[1, 2, 6], 7, &mut try_list);
-    try_list(&[1, 2, 3, 4, 5, 6, 7]);
+    // As many as there are, and one more.
+    for length in [7, 8] {
+        each_list(&[1, 2, 6, 7], length, &mut try_list);
+    }
+    for first in [0, 1, 2] {
+        let codes: Vec<u16> = (first..first + 8).collect();
+        try_list(&codes[..7]);
+        try_list(&codes);
+    }
     taken.sort_by_key(|codes| (codes.len(), codes.clone()));
     assert_eq!(taken, CODES_TAKEN);
 }
@@ -159,7 +172,7 @@ fn question_2_codes_have_two_bytes() {
         assert_eq!(check(&raw(&[(code, 12, 0)], 0)), 2, "{code}");
         assert_eq!(assemble(&[code], &[&[]], 99), Err(2));
     }
-    for code in [258, 260, 261, 262, 1_028, 65_535] {
+    for code in [258, 260, 261, 262, 263, 1_028, 1_799, 65_535] {
         assert_eq!(check(&raw(&[(1, 22, 0), (code, 22, 0)], 0)), 2, "{code}");
         assert_eq!(assemble(&[1, code], &[&[], &[1]], 99), Err(2));
     }
@@ -448,6 +461,135 @@ fn question_21_comes_before_8_and_9() {
             assert_eq!(check(&with_part(&sheet, 5, &part_5)), 21);
         }
     }
+}
+
+/// Bodies of part 7 that question 24 refuses.
+const NO_SHAPES: [&[u8]; 9] = [
+    &[],
+    &[0],
+    &[3],
+    &[255],
+    &[1, 0],
+    &[1, 1],
+    &[2, 2],
+    &[1, 2],
+    &[0; 14],
+];
+
+#[test]
+fn question_24_one_byte_of_1_or_2() {
+    for (sheet, n) in sheets_without_popups() {
+        let named = with_edition(&sheet, Edition::Second);
+        for sheet in [&sheet, &with_popups(&named, &vec![0; n])] {
+            for byte in 0..=255 {
+                let expected = if byte == 1 || byte == 2 { 0 } else { 24 };
+                assert_eq!(check(&with_part_7(sheet, &[byte])), expected, "{byte}");
+            }
+            for part_7 in NO_SHAPES {
+                assert_eq!(check(&with_part_7(sheet, part_7)), 24, "{part_7:?}");
+            }
+        }
+    }
+}
+
+#[test]
+fn every_job_asks_question_24() {
+    let counted = sheets_without_counts().into_iter();
+    let counted = counted.map(|sheet| with_counts(&sheet));
+    let sheets = sheets_without_popups().map(|(sheet, _)| sheet);
+    for sheet in sheets.into_iter().chain(counted) {
+        for part_7 in NO_SHAPES {
+            let damaged = with_part_7(&sheet, part_7);
+            for (work, out) in [(0, 0), (WORK, LONGEST)] {
+                assert_eq!(schedule(&damaged, work, out), Err(24));
+                assert_eq!(add(&damaged, UNKNOWN_KIND, 65_537, work, out), Err(24));
+                assert_eq!(take_out(&damaged, 4_096, work, out), Err(24));
+                assert_eq!(count(&damaged, out), Err(24));
+            }
+            assert_eq!(view_all(&damaged), Err(24));
+            assert_eq!(judge(&damaged), Err(24));
+            assert_eq!(print(&damaged), "refused 24\n");
+            let parts = split(&damaged).unwrap().present();
+            let (codes, bodies): (Vec<u16>, Vec<&[u8]>) = parts.into_iter().unzip();
+            for out in [0, LONGEST] {
+                assert_eq!(assemble(&codes, &bodies, out), Err(24));
+            }
+        }
+    }
+}
+
+#[test]
+fn question_24_comes_after_7_19_and_21() {
+    let part_1 = write_marks(&P1);
+    for part_7 in NO_SHAPES {
+        let number = |part_2: &[u8], part_3: &[u8], part_4: &[u8], part_5: &[u8]| {
+            check(&with_part_7(
+                &join(&[&part_1, part_2, part_3, part_4, part_5]),
+                part_7,
+            ))
+        };
+        assert_eq!(number(&[0; 55], &[0; 8], &[1], &[0; 16]), 7);
+        assert_eq!(number(&[0; 56], &[0; 7], &[0], &[0; 15]), 7);
+        for part_4 in NO_EDITIONS {
+            assert_eq!(number(&[0; 56], &[0; 8], part_4, &[0; 16]), 19);
+        }
+        for part_5 in no_popups() {
+            assert_eq!(number(&[0; 56], &[0; 8], &[2], &part_5), 21);
+            let parts = [(1, part_1.as_slice()), (5, &part_5), (7, part_7)];
+            assert_eq!(check(&join_parts(&parts)), 21);
+        }
+        assert_eq!(number(&[0; 56], &[0; 8], &[2], &[0; 16]), 24);
+        let parts = [(1, part_1.as_slice()), (4, &[0]), (7, part_7)];
+        assert_eq!(check(&join_parts(&parts)), 19);
+        assert_eq!(check(&with_part_7(&one_part(&[LARGE_RADIUS]), part_7)), 6);
+    }
+}
+
+#[test]
+fn question_24_comes_before_8_9_and_23() {
+    let (part_1, part_2) = (write_marks(&P1), write_records(&p1_records()));
+    let counts = part_6(Edition::First.reel(&P1), &p1_records());
+    let index = [0, 0, 1, 0, 3, 0, 2, 0];
+    for (records, tree, part_6, number) in [
+        (&[0; 56][..], &[0; 8][..], &[][..], 8),
+        (&part_2, &[0; 8], &[], 9),
+        (&part_2, &index, &[0; 170], 23),
+        (&part_2, &index, &counts, 0),
+    ] {
+        let sheet = join(&[&part_1, records, tree, &[2], &[0; 16], part_6]);
+        for part_7 in NO_SHAPES {
+            assert_eq!(check(&with_part_7(&sheet, part_7)), 24);
+        }
+        // The marks of P1 go along an axis each, as disks and as squares.
+        for shape in Shape::ALL {
+            assert_eq!(check(&with_shape(&sheet, shape)), number);
+        }
+    }
+}
+
+#[test]
+fn question_8_goes_by_the_shape() {
+    let marks = [Mark::plain(0, 0, 10, 9), Mark::plain(30, 40, 10, 5)];
+    let numbers = |record| {
+        let sheet = three_parts(&marks, &[Record::NEVER, record]);
+        let [disks, squares] = Shape::ALL.map(|shape| check(&with_shape(&sheet, shape)));
+        [check(&sheet), disks, squares]
+    };
+    assert_eq!(numbers(Record::new(0, 2_500, 400)), [0, 0, 8]);
+    assert_eq!(numbers(Record::new(0, 1_600, 400)), [8, 8, 0]);
+    // The smaller difference counts for neither, and the numbers stand unreduced.
+    assert_eq!(numbers(Record::new(0, 900, 400)), [8; 3]);
+    assert_eq!(numbers(Record::new(0, 4, 1)), [8; 3]);
+    assert_eq!(numbers(Record::NEVER), [0; 3]);
+    // A popup that exceeds the one and not the other.
+    let popping_up = |record| {
+        let sheet = three_parts(&marks, &[Record::NEVER, record]);
+        let sheet = with_popups(&sheet, &[0, 150]);
+        Shape::ALL.map(|shape| check(&with_shape(&sheet, shape)))
+    };
+    assert_eq!(popping_up(Record::new(0, 2_500, 400)), [0, 8]);
+    assert_eq!(popping_up(Record::new(0, 1_600, 400)), [8, 8]);
+    assert_eq!(popping_up(Record::new(0, 22_500, 4_096)), [8, 0]);
 }
 
 #[test]
@@ -828,6 +970,37 @@ fn question_20_a_turn_that_there_is_and_edges_within_the_range() {
 }
 
 #[test]
+fn question_20_squares_take_no_turn_but_0() {
+    let sheet = three_parts(&P1, &p1_records());
+    let [disks, squares] = Shape::ALL.map(|shape| with_shape(&sheet, shape));
+    for turn in 0..=255 {
+        let number = |sheet| {
+            let window = Edges::WHOLE.of_turned(turn);
+            view(sheet, window, Zoom::Stop(0), 1).map(|(_, count)| count)
+        };
+        let of_disks = if turn <= 3 { Ok(4) } else { Err(20) };
+        assert_eq!([number(&sheet), number(&disks)], [of_disks; 2]);
+        let expected = if turn == 0 { Ok(4) } else { Err(20) };
+        assert_eq!(number(&squares), expected);
+    }
+    // It comes after 10 and before 11.
+    let crossed = Edges {
+        x0: 1,
+        x1: 0,
+        ..Edges::WHOLE
+    };
+    let bare = with_shape(&one_part(&P1), Shape::Square);
+    for turn in [1, 2, 3] {
+        let number = |sheet| view(sheet, crossed.of_turned(turn), Zoom::Stop(17), 0);
+        assert_eq!(number(&bare), Err(10));
+        assert_eq!(number(&squares), Err(20));
+        assert_eq!(number(&disks), Err(11));
+    }
+    let upright = view(&squares, crossed.unturned(), Zoom::Stop(17), 0);
+    assert_eq!(upright, Err(11));
+}
+
+#[test]
 fn view_puts_9_23_10_20_and_11_to_13_in_order() {
     let sheet = three_parts(&P1, &p1_records());
     let wrong_tree = with_tree(&P1, &p1_records(), &[0, 1, 2, 3]);
@@ -879,7 +1052,7 @@ fn question_12_zooms() {
 #[test]
 fn question_13_of_a_map() {
     for n in [1, 8, 9, 16, 17] {
-        let marks = marks(Shape::Line, n, 1);
+        let marks = marks(Layout::Line, n, 1);
         let sheet = three_parts(&marks, &vec![Record::NEVER; n]);
         let bytes = n.div_ceil(8);
         let short = view(&sheet, Window::WHOLE, Zoom::Stop(16), bytes - 1);
@@ -905,6 +1078,9 @@ fn question_13_of_scheduling() {
         let more = popup_bytes(n);
         let counted = with_counts(&join(&[&write_marks(&P1[..n]), &never(n)]));
         let named_counted = with_edition(&counted, Edition::Second);
+        let [squares, counted_squares] =
+            [&sheet, &counted].map(|sheet| with_shape(sheet, Shape::Square));
+        let all = with_shape(&with_counts(&schedule_large(&both).unwrap()), Shape::Disk);
         for (sheet, out) in [
             (&sheet, out),
             (&named, out + EDITION),
@@ -912,6 +1088,9 @@ fn question_13_of_scheduling() {
             (&both, out + EDITION + more),
             (&counted, out + COUNTS),
             (&named_counted, out + EDITION + COUNTS),
+            (&squares, out + SHAPE),
+            (&counted_squares, out + COUNTS + SHAPE),
+            (&all, out + EDITION + more + COUNTS + SHAPE),
         ] {
             assert_eq!(schedule(sheet, work, out).unwrap().len(), out);
             assert_eq!(schedule(sheet, work - 1, out), Err(13));
@@ -936,12 +1115,12 @@ fn scheduling_does_not_heal_a_bad_part_2_or_3() {
 
 #[test]
 fn question_1_of_putting_together_is_of_codes_and_bodies() {
-    let codes: [u16; 8] = [1, 2, 3, 4, 5, 6, 7, 8];
-    let bodies: [&[u8]; 8] = [&[], &[], &[], &[1], &[], &[0; 170], &[], &[]];
-    for count in 0..=8 {
-        for given in 0..=8 {
+    let codes: [u16; 9] = [1, 2, 3, 4, 5, 6, 7, 8, 9];
+    let bodies: [&[u8]; 9] = [&[], &[], &[], &[1], &[], &[0; 170], &[2], &[], &[]];
+    for count in 0..=9 {
+        for given in 0..=9 {
             let assembled = assemble(&codes[..count], &bodies[..given], OUT);
-            let taken = (1..=6).contains(&count) && given >= count;
+            let taken = (1..=7).contains(&count) && given >= count;
             assert_eq!(assembled, taken.then(|| join(&bodies[..count])).ok_or(1));
         }
     }
@@ -949,8 +1128,8 @@ fn question_1_of_putting_together_is_of_codes_and_bodies() {
 
 #[test]
 fn question_1_of_putting_together_comes_before_2() {
-    for codes in [&[][..], &[0; 7], &[6, 5, 4, 3, 2, 1, 0]] {
-        assert_eq!(assemble(codes, &[&[0][..]; 7], 0), Err(1));
+    for codes in [&[][..], &[0; 8], &[7, 6, 5, 4, 3, 2, 1, 0]] {
+        assert_eq!(assemble(codes, &[&[0][..]; 8], 0), Err(1));
     }
     assert_eq!(assemble(&[2, 1], &[&[0]], 0), Err(1));
     assert_eq!(assemble(&[2, 1], &[&[0], &[0]], 0), Err(2));
@@ -968,7 +1147,7 @@ fn putting_together_asks_2_before_4_and_4_to_9_and_23_before_13() {
     let part_6 = part_6(Edition::First.reel(&P1), &p1_records());
     let mut other = part_6.clone();
     other[0] ^= 1;
-    let cases: [(u32, &[Part]); 18] = [
+    let cases: [(u32, &[Part]); 24] = [
         (2, &[(2, &part_1[1..])]),
         (2, &[(1, &part_1[1..]), (6, &part_6)]),
         (2, &[(1, &part_1), (4, &[1]), (6, &part_6)]),
@@ -989,6 +1168,12 @@ fn putting_together_asks_2_before_4_and_4_to_9_and_23_before_13() {
             21,
             &[(1, &part_1), (2, &no_records), (4, &[1]), (5, &[0; 15])],
         ),
+        (21, &[(1, &part_1), (5, &beyond), (7, &[0])]),
+        (24, &[(1, &part_1), (2, &no_records), (7, &[0])]),
+        (24, &[(1, &part_1), (7, &[])]),
+        (24, &[(1, &part_1), (2, &part_2), (6, &other), (7, &[3])]),
+        (24, &[(1, &part_1), (5, &[0; 16]), (7, &[1, 1])]),
+        (8, &[(1, &part_1), (2, &no_records), (7, &[2])]),
         (8, &[(1, &part_1), (2, &no_records), (4, &[1])]),
         (8, &[(1, &part_1), (2, &no_records), (3, &[0; 8])]),
         (9, &[(1, &part_1), (2, &part_2), (3, &[0; 8]), (4, &[2])]),
@@ -1003,10 +1188,10 @@ fn putting_together_asks_2_before_4_and_4_to_9_and_23_before_13() {
             assert_eq!(assemble(&codes, &bodies, out), Err(number), "{codes:?}");
         }
     }
-    let bodies: [&[u8]; 6] = [&part_1, &part_2, &part_3, &[2], &[0; 16], &part_6];
-    let lengths = [56, 122, 140, 151, 177, 357];
+    let bodies: [&[u8]; 7] = [&part_1, &part_2, &part_3, &[2], &[0; 16], &part_6, &[2]];
+    let lengths = [56, 122, 140, 151, 177, 357, 368];
     for (count, length) in (1..).zip(lengths) {
-        let codes = &[1, 2, 3, 4, 5, 6][..count];
+        let codes = &[1, 2, 3, 4, 5, 6, 7][..count];
         assert_eq!(assemble(codes, &bodies, length - 1), Err(13));
         assert_eq!(assemble(codes, &bodies, length), Ok(join(&bodies[..count])));
     }
@@ -1025,6 +1210,9 @@ fn putting_together_takes_bodies_in_the_order_of_the_codes() {
     assert_eq!(sheet, with_popups(&one_part(&P1), &[0, 1, 65_536, 9]));
     assert_eq!(assemble(&[1, 4], &[&part_1, &popups], 82), Err(19));
     assert_eq!(assemble(&[1, 5], &[&part_1, &[2]], 82), Err(21));
+    let sheet = assemble(&[1, 7], &[&part_1, &[2]], 67).unwrap();
+    assert_eq!(sheet, with_shape(&one_part(&P1), Shape::Square));
+    assert_eq!(assemble(&[1, 7], &[&part_1, &popups], 82), Err(24));
 }
 
 #[test]
@@ -1038,6 +1226,7 @@ fn putting_together_ignores_further_bodies() {
     assert_eq!(assemble(&[1, 2], &[&part_1, junk, junk], OUT), Err(7));
     assert_eq!(assemble(&[1, 4], &[&part_1, junk, junk], OUT), Err(19));
     assert_eq!(assemble(&[1, 5], &[&part_1, junk, junk], OUT), Err(21));
+    assert_eq!(assemble(&[1, 7], &[&part_1, junk, junk], OUT), Err(24));
 }
 
 #[test]
@@ -1057,7 +1246,7 @@ fn question_14_a_longer_input_gets_14_before_all_else() {
 #[test]
 fn question_14_whole_sheets_about_the_longest_input() {
     let sheet_of = |n: usize| {
-        let marks = marks(Shape::Uniform, n, 2);
+        let marks = marks(Layout::Uniform, n, 2);
         three_parts(&marks, &vec![Record::NEVER; n])
     };
     let (mut shorter, mut longer) = (sheet_of(2_426), sheet_of(2_427));
@@ -1074,13 +1263,13 @@ fn question_14_whole_sheets_about_the_longest_input() {
 
 #[test]
 fn question_14_at_most_2_000_marks() {
-    let mut many = marks(Shape::Grid, 2_001, 1);
+    let mut many = marks(Layout::Grid, 2_001, 1);
     let text = print(&one_part(&many[..2_000]));
     assert_eq!(text.lines().count(), 2_001);
     assert!(text.starts_with("marks 2000\n"));
     assert_eq!(print(&one_part(&many)), "refused 14\n");
     many[2_000].kind = 200;
     assert_eq!(print(&one_part(&many)), "refused 5\n");
-    let too_many = marks(Shape::Grid, 4_097, 1);
+    let too_many = marks(Layout::Grid, 4_097, 1);
     assert_eq!(print(&one_part(&too_many)), "refused 4\n");
 }

@@ -1,5 +1,5 @@
 //! Demand 3's two rules: the process keeps them, and no other list does, with popups and
-//! without.
+//! without, of disks and of squares.
 
 use oracle::fraction::{Fraction, Removal};
 use oracle::mark::{touching_value, Mark};
@@ -8,7 +8,8 @@ use oracle::rank::Edition::{self, First, Second};
 use oracle::record::removals;
 use oracle::reel::Reel;
 use oracle::rules::{keep_both, Breach};
-use oracle::sample::{each_list, marks, popups, Popups, Shape, P1};
+use oracle::sample::{each_list, marks, popups, Layout, Popups, P1};
+use oracle::shape::Shape;
 use oracle::zoom::zoom_squared;
 
 /// The removal values the process gives.
@@ -16,11 +17,15 @@ fn list_of(reel: Reel) -> Vec<Removal> {
     removals(&schedule_by_process(reel))
 }
 
-/// Calls `visit` with the marks in both editions, without popups and popping up in these
-/// ways.
+/// Calls `visit` with the marks in both editions and of both shapes, without popups and
+/// popping up in these ways.
 fn each_reel(marks: &[Mark], ways: &[Popups], seed: u64, mut visit: impl FnMut(Reel)) {
     let drawn: Vec<Vec<u32>> = ways.iter().map(|&it| popups(it, marks, seed)).collect();
-    for reel in Edition::ALL.map(|edition| edition.reel(marks)) {
+    for (edition, shape) in Edition::ALL
+        .into_iter()
+        .flat_map(|edition| Shape::ALL.map(|shape| (edition, shape)))
+    {
+        let reel = edition.reel(marks).with_shape(shape);
         visit(reel);
         drawn
             .iter()
@@ -38,7 +43,7 @@ fn candidates(reel: Reel) -> Vec<Removal> {
     let numbers = 0..reel.marks.len();
     let pairs = numbers.clone().flat_map(|b| (0..b).map(move |a| (a, b)));
     let of_pair = |(a, b): (usize, usize)| {
-        let touching = touching_value(&reel.marks[a], &reel.marks[b]);
+        let touching = touching_value(reel.shape, &reel.marks[a], &reel.marks[b]);
         [touching, reel.pair_value(a, b)]
     };
     let popups = numbers.map(|m| zoom_squared(reel.popup(m)));
@@ -54,9 +59,9 @@ fn candidates(reel: Reel) -> Vec<Removal> {
 
 #[test]
 fn the_process_keeps_both_rules() {
-    for shape in Shape::ALL {
+    for layout in Layout::ALL {
         for seed in 0..100 {
-            let marks = marks(shape, seed as usize % 15, seed);
+            let marks = marks(layout, seed as usize % 15, seed);
             each_reel(&marks, &Popups::ALL, seed, |reel| {
                 assert_eq!(keep_both(reel, &list_of(reel)), Ok(()), "{reel:?}");
             });
@@ -78,9 +83,9 @@ fn the_rules_are_about_values_and_not_about_how_they_are_written() {
 
 #[test]
 fn a_list_with_one_changed_value_breaks_a_rule() {
-    for shape in Shape::ALL {
+    for layout in Layout::ALL {
         for seed in 0..20 {
-            let marks = marks(shape, 2 + seed as usize % 5, seed);
+            let marks = marks(layout, 2 + seed as usize % 5, seed);
             each_reel(&marks, &Popups::ALL, seed, |reel| {
                 let ours = list_of(reel);
                 for (mark, other) in (0..marks.len())
@@ -99,7 +104,7 @@ fn a_list_with_one_changed_value_breaks_a_rule() {
 #[test]
 fn a_value_a_hair_earlier_or_later_breaks_a_rule() {
     for seed in 0..50 {
-        let marks = marks(Shape::Uniform, 6, seed);
+        let marks = marks(Layout::Uniform, 6, seed);
         each_reel(&marks, &Popups::ALL, seed, |reel| {
             let ours = list_of(reel);
             for mark in 0..marks.len() {
@@ -120,9 +125,14 @@ fn a_value_a_hair_earlier_or_later_breaks_a_rule() {
 #[test]
 fn only_lists_equal_to_ours_keep_both_rules() {
     let ways = [Popups::Few, Popups::Any, Popups::Touching, Popups::Together];
-    for shape in [Shape::Grid, Shape::Uniform, Shape::Extreme, Shape::OnePlace] {
+    for layout in [
+        Layout::Grid,
+        Layout::Uniform,
+        Layout::Extreme,
+        Layout::OnePlace,
+    ] {
         for seed in 0..3 {
-            let marks = marks(shape, 4, seed);
+            let marks = marks(layout, 4, seed);
             each_reel(&marks, &ways, seed, |reel| {
                 let ours = list_of(reel);
                 each_list(&candidates(reel), 4, &mut |list| {
@@ -217,6 +227,19 @@ fn a_list_is_held_to_the_popups() {
     for late in [[0, 128], [128, 0], [128, 128], [7, 128]] {
         assert_eq!(kept(Some(&late)), [Err(Breach::Second(1)), Ok(())]);
     }
+}
+
+#[test]
+fn a_list_is_held_to_the_shape() {
+    // As disks they touch at 25, and as squares at 16.
+    let two = [Mark::plain(0, 0, 1, 5), Mark::plain(6, 8, 1, 5)];
+    let lists = [25, 16].map(|value| [Removal::Never, at(value, 1)]);
+    let kept = |shape| {
+        let reel = First.reel(&two).with_shape(shape);
+        lists.each_ref().map(|list| keep_both(reel, list))
+    };
+    assert_eq!(kept(Shape::Disk), [Ok(()), Err(Breach::Second(1))]);
+    assert_eq!(kept(Shape::Square), [Err(Breach::First(0, 1)), Ok(())]);
 }
 
 #[test]

@@ -5,9 +5,9 @@ mod common;
 use std::collections::BTreeSet;
 
 use common::{
-    each_popping_up, one_part, popup_bytes, schedule_large, scheduled, scheduled_by,
-    scheduled_popping_up, three_parts, with_counts, with_edition, with_part, with_popups, COUNTS,
-    EDITION, LONGEST, OUT, WORK,
+    each_popping_up, one_part, popup_bytes, schedule_large, scheduled, scheduled_as, scheduled_by,
+    scheduled_popping_up, three_parts, with_counts, with_edition, with_part, with_popups,
+    with_shape, COUNTS, EDITION, LONGEST, OUT, SHAPE, WORK,
 };
 use oracle::map::{is_set, walk, NO_MARK};
 use oracle::mark::{write_marks, Mark};
@@ -17,7 +17,8 @@ use oracle::record::{removals, Record};
 use oracle::reel::Reel;
 use oracle::report::print;
 use oracle::rules::keep_both;
-use oracle::sample::{marks, popups, Generator, Popups, Shape, CODES_TAKEN, P6};
+use oracle::sample::{marks, popups, Generator, Layout, Popups, CODES_TAKEN, P6};
+use oracle::shape::Shape;
 use oracle::sheet::{assemble, check, join, join_parts, open, part_extent, schedule, split};
 use oracle::tree;
 use oracle::view::{reaches, view, Edges, Window};
@@ -26,11 +27,11 @@ use oracle::zoom::{lives, remains, zoom_in_64ths, Zoom};
 /// The numbers of marks that are tried: about whole bytes of a map, and more.
 const NUMBERS: [usize; 8] = [0, 1, 2, 7, 8, 9, 17, 33];
 
-/// Calls `visit` with a sample of every shape and number of marks.
+/// Calls `visit` with a sample of every layout and number of marks.
 fn each_sample(mut visit: impl FnMut(&[Mark])) {
-    for shape in Shape::ALL {
+    for layout in Layout::ALL {
         for n in NUMBERS {
-            visit(&marks(shape, n, n as u64));
+            visit(&marks(layout, n, n as u64));
         }
     }
 }
@@ -115,6 +116,7 @@ fn putting_the_bodies_of_a_sheet_together_gives_the_sheet() {
     each_sample(|marks| {
         let popups = vec![0; marks.len()];
         let sheet = with_counts(&with_popups(&scheduled_by(Edition::First, marks), &popups));
+        let sheet = with_shape(&sheet, Shape::Disk);
         let bodies = split(&sheet).unwrap();
         for codes in CODES_TAKEN {
             let parts = codes.iter().map(|&code| bodies.get(code.into()).unwrap());
@@ -139,7 +141,8 @@ fn search(reel: Reel, records: &[Record], tree: &[u16], window: Window, k: u32) 
     if !remains(removal, k) {
         return Vec::new();
     }
-    let shown = lives(reel.popup(root), removal, k) && reaches(&reel.marks[root], window, k);
+    let shown =
+        lives(reel.popup(root), removal, k) && reaches(reel.shape, &reel.marks[root], window, k);
     let mut found: Vec<usize> = shown.then_some(root).into_iter().collect();
     found.extend(search(reel, records, left, window, k));
     found.extend(search(reel, records, right, window, k));
@@ -184,9 +187,13 @@ fn compare_with_search(generator: &mut Generator, sheet: &[u8]) -> usize {
     let (records, tree) = (opened.records.as_deref(), opened.tree.as_deref());
     let mut partly = 0;
     for stop in 0..=if n == 0 { 0 } else { 16 } {
+        let turn = match reel.shape {
+            Shape::Disk => stop % 4,
+            Shape::Square => 0,
+        };
         let window = match n {
             0 => Window::WHOLE,
-            _ => rectangle(generator, reel.marks, stop % 4),
+            _ => rectangle(generator, reel.marks, turn),
         };
         let k = zoom_in_64ths(Zoom::Stop(stop)).unwrap();
         let (map, count) = view(sheet, window, Zoom::Stop(stop), n.div_ceil(8)).unwrap();
@@ -202,19 +209,23 @@ fn compare_with_search(generator: &mut Generator, sheet: &[u8]) -> usize {
 #[test]
 fn a_view_shows_what_a_search_down_the_tree_finds() {
     let mut generator = Generator::new(9);
-    let (mut partly, mut popping_up) = (0, 0);
-    each_sample(|marks| partly += compare_with_search(&mut generator, &scheduled(marks)));
+    let (mut partly, mut squares, mut popping_up) = (0, 0, 0);
+    each_sample(|marks| {
+        partly += compare_with_search(&mut generator, &scheduled(marks));
+        squares += compare_with_search(&mut generator, &scheduled_as(Shape::Square, marks));
+    });
     each_popping_up(&NUMBERS, |marks, popups| {
         let sheet = scheduled_popping_up(marks, popups);
         popping_up += compare_with_search(&mut generator, &sheet);
     });
     assert!(partly > 100, "only {partly} views show some of the marks");
+    assert!(squares > 100, "only {squares} of squares do");
     assert!(popping_up > 1_000, "only {popping_up} with popups do");
 }
 
 #[test]
 fn a_view_uses_the_schedule_as_the_sheet_has_it() {
-    let marks = marks(Shape::OnePlace, 10, 4);
+    let marks = marks(Layout::OnePlace, 10, 4);
     let count = |sheet: &[u8]| view(sheet, Window::WHOLE, Zoom::Stop(16), 2).unwrap();
     let (_, ours) = count(&scheduled(&marks));
     assert_eq!(ours, 1);
@@ -225,52 +236,57 @@ fn a_view_uses_the_schedule_as_the_sheet_has_it() {
 
 #[test]
 fn parts_are_found_in_accepted_sheets_only() {
-    let mut sheet = scheduled(&marks(Shape::Grid, 4, 1));
-    // Of codes 1 to 6, once there is seen to be none about these.
-    let extents = |sheet: &[u8]| {
-        for code in [0, 7, 65_537, 65_540, 65_542] {
-            assert_eq!(part_extent(sheet, code), (0, 0));
-        }
-        [1, 2, 3, 4, 5, 6].map(|code| part_extent(sheet, code))
+    let mut sheet = scheduled(&marks(Layout::Grid, 4, 1));
+    // Of the parts that are there, once all others are seen to be nowhere.
+    let extents = |sheet: &[u8]| -> Vec<(u32, (u32, u32))> {
+        let codes = (0..9).chain([65_537, 65_540, 65_542, 65_543]);
+        let extents = codes.map(|code| (code, part_extent(sheet, code)));
+        extents.filter(|&(_, extent)| extent != (0, 0)).collect()
     };
-    let all = [(32, 44), (76, 56), (132, 8), (0, 0), (0, 0), (0, 0)];
+    let all = [(1, (32, 44)), (2, (76, 56)), (3, (132, 8))];
     assert_eq!(extents(&sheet), all);
+    let [marks, schedule, index] = [(1, (42, 44)), (2, (86, 56)), (3, (142, 8))];
     let named = with_edition(&sheet, Edition::Second);
-    let all = [(42, 44), (86, 56), (142, 8), (150, 1), (0, 0), (0, 0)];
-    assert_eq!(extents(&named), all);
-    let all = [(52, 44), (96, 56), (152, 8), (160, 1), (161, 16), (0, 0)];
-    assert_eq!(extents(&with_popups(&named, &[0; 4])), all);
-    let unnamed = [(42, 44), (86, 56), (142, 8), (0, 0), (150, 16), (0, 0)];
+    assert_eq!(extents(&named), [marks, schedule, index, (4, (150, 1))]);
     let popping_up = with_popups(&sheet, &[0; 4]);
+    let unnamed = [marks, schedule, index, (5, (150, 16))];
     assert_eq!(extents(&popping_up), unnamed);
-    let counted = [(52, 44), (96, 56), (152, 8), (0, 0), (160, 16), (176, 170)];
+    let shaped = with_shape(&sheet, Shape::Disk);
+    assert_eq!(extents(&shaped), [marks, schedule, index, (7, (150, 1))]);
+    let [marks, schedule, index] = [(1, (52, 44)), (2, (96, 56)), (3, (152, 8))];
+    let all = [marks, schedule, index, (4, (160, 1)), (5, (161, 16))];
+    assert_eq!(extents(&with_popups(&named, &[0; 4])), all);
+    let counted = [marks, schedule, index, (5, (160, 16)), (6, (176, 170))];
     assert_eq!(extents(&with_counts(&popping_up)), counted);
-    let empty = [(22, 0), (22, 0), (0, 0), (0, 0), (0, 0), (0, 0)];
-    assert_eq!(extents(&join(&[&[], &[]])), empty);
-    let zeros = [(32, 0), (32, 0), (0, 0), (0, 0), (0, 0), (32, 170)];
-    assert_eq!(extents(&with_counts(&join(&[&[], &[]]))), zeros);
-    let damaged = with_part(&join(&[&[], &[]]), 6, &[0; 169]);
-    assert_eq!(extents(&damaged), [(0, 0); 6]);
-    let no_schedule = [(22, 0), (0, 0), (0, 0), (22, 1), (0, 0), (0, 0)];
-    assert_eq!(extents(&join_parts(&[(1, &[]), (4, &[1])])), no_schedule);
-    let popups_alone = [(22, 0), (0, 0), (0, 0), (0, 0), (22, 0), (0, 0)];
-    assert_eq!(extents(&join_parts(&[(1, &[]), (5, &[])])), popups_alone);
+    let both = [marks, schedule, index, (6, (160, 170)), (7, (330, 1))];
+    assert_eq!(extents(&with_counts(&shaped)), both);
+    let empty = join(&[&[], &[]]);
+    assert_eq!(extents(&empty), [(1, (22, 0)), (2, (22, 0))]);
+    let zeros = [(1, (32, 0)), (2, (32, 0)), (6, (32, 170))];
+    assert_eq!(extents(&with_counts(&empty)), zeros);
+    assert_eq!(extents(&with_part(&empty, 6, &[0; 169])), []);
+    assert_eq!(extents(&with_part(&empty, 7, &[0])), []);
+    for (code, body) in [(4, &[1][..]), (5, &[]), (7, &[2])] {
+        let expected = [(1, (22, 0)), (code.into(), (22, body.len() as u32))];
+        assert_eq!(extents(&join_parts(&[(1, &[]), (code, body)])), expected);
+    }
     sheet.push(0);
-    assert_eq!(extents(&sheet), [(0, 0); 6]);
+    assert_eq!(extents(&sheet), []);
 }
 
-/// A sheet of up to six parts with a byte too many in a body, some bytes
+/// A sheet of up to seven parts with a byte too many in a body, some bytes
 /// changed, some missing at the end, or as it should be.
 fn changed_sheet(generator: &mut Generator) -> Vec<u8> {
-    let shape = generator.choose(&Shape::ALL);
+    let layout = generator.choose(&Layout::ALL);
     let n = generator.below(6) as usize;
-    let sample = marks(shape, n, generator.draw());
+    let sample = marks(layout, n, generator.draw());
     let named = with_edition(&one_part(&sample), generator.choose(&Edition::ALL));
     let popups = popups(generator.choose(&Popups::ALL), &sample, generator.draw());
-    let whole = schedule_large(&with_popups(&named, &popups)).unwrap();
+    let shaped = with_shape(&named, generator.choose(&Shape::ALL));
+    let whole = schedule_large(&with_popups(&shaped, &popups)).unwrap();
     let whole = with_counts(&whole);
     let mut parts = split(&whole).unwrap().present();
-    for code in [6, 5, 4, 3, 2] {
+    for code in [7, 6, 5, 4, 3, 2] {
         if generator.below(3) == 0 {
             let needs_it = |other| code == 2 && [3, 6].contains(&other);
             parts.retain(|&(other, _)| other != code && !needs_it(other));
@@ -320,12 +336,13 @@ fn all_jobs_refuse_a_changed_sheet_by_the_number_that_checking_gives() {
             assert_eq!(assemble_again(&sheet), Err(number));
         }
     }
-    assert_eq!(numbers, BTreeSet::from_iter((0..=9).chain([19, 21, 23])));
+    let reached = (0..=9).chain([19, 21, 23, 24]);
+    assert_eq!(numbers, BTreeSet::from_iter(reached));
 }
 
 #[test]
 fn the_largest_sheet_is_scheduled() {
-    let marks = marks(Shape::OnePlace, 4_096, 1);
+    let marks = marks(Layout::OnePlace, 4_096, 1);
     let sheet = scheduled(&marks);
     assert_eq!(sheet.len(), 110_624);
     let (_, count) = view(&sheet, Window::WHOLE, Zoom::Stop(0), 512).unwrap();
@@ -335,14 +352,14 @@ fn the_largest_sheet_is_scheduled() {
     assert_eq!(schedule(&named, WORK, OUT + EDITION - 1), Err(13));
     assert_eq!(popup_bytes(4_096), 16_394);
     let popping_up = with_popups(&named, &[0; 4_096]);
-    let length = LONGEST - COUNTS;
+    let length = LONGEST - COUNTS - SHAPE;
     assert_eq!(popping_up.len(), length);
     assert_eq!(schedule(&popping_up, WORK, length), Ok(popping_up.clone()));
     assert_eq!(schedule(&popping_up, WORK, length - 1), Err(13));
-    let counted = with_counts(&popping_up);
-    assert_eq!(counted.len(), LONGEST);
-    assert_eq!(schedule(&counted, WORK, LONGEST), Ok(counted.clone()));
-    assert_eq!(schedule(&counted, WORK, LONGEST - 1), Err(13));
+    let shaped = with_shape(&with_counts(&popping_up), Shape::Square);
+    assert_eq!(shaped.len(), LONGEST);
+    assert_eq!(schedule(&shaped, WORK, LONGEST), Ok(shaped.clone()));
+    assert_eq!(schedule(&shaped, WORK, LONGEST - 1), Err(13));
 }
 
 #[test]

@@ -1,15 +1,18 @@
 //! The guarantee on turned marks (02, request 8): "For a sheet scheduled here, scheduling
 //! the turned marks, where they fit 01's range, with the sheet's parts beyond 3 carried
-//! along, and viewing without a turn gives the same map." Part 6 is not (request 12).
+//! along, and viewing without a turn gives the same map." Part 6 is not (request 12), and
+//! squares take no turn, "so the guarantee on turned marks is for disks" (request 13).
 
 mod common;
 
 use common::{
-    one_part, schedule_large, scheduled, scheduled_by, with_counts, with_edition, with_popups,
+    one_part, schedule_large, scheduled, scheduled_as, scheduled_by, with_counts, with_edition,
+    with_popups, with_shape,
 };
 use oracle::mark::{write_marks, Mark};
 use oracle::rank::Edition;
-use oracle::sample::{marks, popups, Generator, Popups, Shape, P1};
+use oracle::sample::{marks, popups, Generator, Layout, Popups, P1};
+use oracle::shape::Shape;
 use oracle::sheet::{assemble, open};
 use oracle::turn::{turned_marks, MOST_TURNS};
 use oracle::view::{view, Edges};
@@ -45,13 +48,14 @@ fn some_edges(generator: &mut Generator, marks: &[Mark], turn: u8) -> Edges {
     ])
 }
 
-/// A sample of every shape and of some numbers of marks, scheduled by either edition, or
-/// without one named, with popups of every kind, and with counts.
+/// A sample of every layout and of some numbers of marks, scheduled by either edition, or
+/// without one named, with popups of every kind, with counts, and with disks named.
 fn each_sheet(mut visit: impl FnMut(&[u8], &[Mark])) {
-    for shape in Shape::ALL {
+    for layout in Layout::ALL {
         for n in [0, 1, 2, 9, 40] {
-            let mut sample = marks(shape, n, n as u64);
+            let mut sample = marks(layout, n, n as u64);
             visit(&scheduled(&sample), &sample);
+            visit(&scheduled_as(Shape::Disk, &sample), &sample);
             sample.iter_mut().for_each(|mark| mark.priority &= 1);
             for edition in Edition::ALL {
                 visit(&scheduled_by(edition, &sample), &sample);
@@ -64,7 +68,9 @@ fn each_sheet(mut visit: impl FnMut(&[u8], &[Mark])) {
                 let named = with_edition(&sheet, edition);
                 let scheduled = schedule_large(&named).unwrap();
                 visit(&scheduled, &sample);
-                visit(&with_counts(&scheduled), &sample);
+                let counted = with_counts(&scheduled);
+                visit(&counted, &sample);
+                visit(&with_shape(&counted, Shape::Disk), &sample);
             }
         }
     }

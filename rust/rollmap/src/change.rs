@@ -5,7 +5,7 @@ use crate::{ffi, mark_count, Mark, Refusal, Work};
 
 /// Adds a mark at the end of a sheet's marks, where its number is the old number of
 /// marks, and schedules the new marks afresh into `out`: the sheet written is the one
-/// that [`schedule`](crate::schedule) writes for them, with the sheet's parts 4 and 5, if
+/// that [`schedule`](crate::schedule) writes for them, with the sheet's parts 4, 5 and 7, if
 /// it has them, and a part 6 with the new counts, if it has one. Where it has a part 5,
 /// `popup` comes to its end; where it has none, `popup` is [`NO_POPUP`](crate::NO_POPUP),
 /// and none is written. Answers the number of bytes written, which goes by the new number of
@@ -41,7 +41,7 @@ pub fn add_to_vec(sheet: &[u8], mark: Mark, popup: u32) -> Result<Vec<u8>, Refus
 
 /// Takes mark `m` out of a sheet's marks, so that each higher number becomes one less, and
 /// schedules the others afresh into `out`: the sheet written is the one that
-/// [`schedule`](crate::schedule) writes for them, with the sheet's parts 4 and 5, if it has
+/// [`schedule`](crate::schedule) writes for them, with the sheet's parts 4, 5 and 7, if it has
 /// them, and a part 6 with the new counts, if it has one; the popup of mark `m` goes with it.
 /// Answers the number of bytes written, which goes by the new number of marks as it does
 /// there; bytes past these stay as they are. `work` is as long as scheduling that many marks

@@ -116,12 +116,13 @@ pub fn counts(sheet: &[u8]) -> Option<Counts> {
     part_6.first_chunk().copied().map(Counts::from_bytes)
 }
 
-/// Counts the marks of a sheet: writes the same sheet with part 6 to `out`, by the schedule
-/// that it has, whoever made it. A mark is counted at a stop where it lives: 2 to the power
-/// of the stop is at least its [popup](crate::popups()), and the squared zoom there is below
-/// its removal value, or it has none. Answers the number of bytes written, as many as the
-/// sheet has, and [`COUNTED_BYTES`] more where it has no part 6; where it has one, its own
-/// bytes are written. Bytes past these stay as they are.
+/// Counts the marks of a sheet: writes the same sheet with part 6, in front of part 7 where
+/// that is there, to `out`, by the schedule that it has, whoever made it. A mark is counted at
+/// a stop where it lives: 2 to the power of the stop is at least its
+/// [popup](crate::popups()), and the squared zoom there is below its removal value, or it has
+/// none. Answers the number of bytes written, as many as the sheet has, and [`COUNTED_BYTES`]
+/// more where it has no part 6; where it has one, its own bytes are written. Bytes past these
+/// stay as they are.
 ///
 /// Without part 5 no count grows from one stop to the next.
 ///

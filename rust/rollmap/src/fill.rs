@@ -36,7 +36,7 @@ pub fn fill_to_vec(marks: &[u8]) -> Result<Vec<u8>, Refusal> {
 /// 120, and now meets [`Refusal::Schedule`]: cuts its part 1 out by the contents,
 /// fills it, and puts it together afresh. The sheet that it answers has one part
 /// and is accepted; scheduling it gives the old removal values. Such a sheet is older
-/// than the second edition, than popups and than counts, and has none of parts 4 to 6.
+/// than the second edition, than popups, counts and shapes, and has none of parts 4 to 7.
 ///
 /// # Errors
 ///

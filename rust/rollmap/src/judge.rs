@@ -4,9 +4,9 @@ use crate::{ffi, Refusal};
 
 /// Judges the schedule of a sheet, whoever made it, without working it out again. Accepted is
 /// the schedule that [`schedule`](crate::schedule) writes for the sheet, by its own
-/// [`Edition`](crate::Edition) and its own [`popups`](crate::popups()), and no other: an
-/// accepted sheet is, byte for byte, what scheduling it gives, and what holds of a scheduled
-/// sheet holds of it.
+/// [`Edition`](crate::Edition), its own [`popups`](crate::popups()) and its own
+/// [`Shape`](crate::Shape), and no other: an accepted sheet is, byte for byte, what scheduling
+/// it gives, and what holds of a scheduled sheet holds of it.
 ///
 /// [`check`](crate::check) accepts other schedules, too, in which marks stay or go later, or
 /// name another mark. Scheduling replaces these.

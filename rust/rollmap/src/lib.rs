@@ -3,14 +3,15 @@
 //! These are safe bindings to the proved library, the static library `rollmap`.
 //! A sheet is a run of bytes that has the marks in part 1 and, once it is scheduled,
 //! the schedule in part 2 and the index in part 3; part 4 may name the [`Edition`] that
-//! ranks the marks, part 5 the [`popups`] from which they are there, and part 6 the
-//! [`Counts`] of those that live at each stop. Nothing is copied or kept: a call borrows its
-//! buffers and answers.
+//! ranks the marks, part 5 the [`popups`] from which they are there, part 6 the [`Counts`] of
+//! those that live at each stop, and part 7 the [`Shape`] of their labels. Nothing is copied or
+//! kept: a call borrows its buffers and answers.
 //!
 //! A call asks the questions that its comment names, in turn; the first no is its
 //! [`Refusal`], and then no buffer is written. Where these are 4 to 9, questions
-//! [19](Refusal::Edition) and [21](Refusal::Popups) are asked, in this order, after 7, and
-//! [23](Refusal::Counts) after 9; a view asks [20](Refusal::Window) after 10.
+//! [19](Refusal::Edition), [21](Refusal::Popups) and [24](Refusal::Shape) are asked, in this
+//! order, after 7, and [23](Refusal::Counts) after 9; a view asks [20](Refusal::Window) after
+//! 10.
 //!
 //! ```
 //! use rollmap::{assemble_to_vec, count_to_vec, counts, judge, marks_to_vec, popups_to_vec};
@@ -73,6 +74,7 @@ mod part;
 mod popup;
 mod record;
 mod refusal;
+mod shape;
 mod sheet;
 mod turn;
 mod view;
@@ -92,6 +94,7 @@ pub use part::{part, Code};
 pub use popup::{popups, popups_bytes, popups_to_vec, LARGEST_POPUP, NO_POPUP, POPUP_BYTES};
 pub use record::{records, Record, RECORD_BYTES};
 pub use refusal::Refusal;
+pub use shape::{shape, Shape, SHAPE_BYTES};
 pub use sheet::{
     assemble, assemble_to_vec, check, contents_bytes, mark_count, schedule, schedule_to_vec,
     scheduled_bytes, work_bytes, Work, MOST_MARKS,

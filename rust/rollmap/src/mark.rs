@@ -12,7 +12,8 @@ pub struct Mark {
     pub x: i16,
     /// The place down, in map units.
     pub y: i16,
-    /// Screen pixels, at most 16,383; 0 means the house radius of the kind.
+    /// Screen pixels, at most 16,383; 0 means the house radius of the kind. A square reaches as
+    /// far along x and along y.
     pub radius: u16,
     /// Higher is more important. Between equal ones the [`Edition`](crate::Edition) of the
     /// sheet decides.

@@ -19,6 +19,8 @@ pub enum Code {
     Popups = 5,
     /// Part 6: the [`Counts`](crate::Counts) of living marks, which come only with a schedule.
     Counts = 6,
+    /// Part 7: the [`Shape`](crate::Shape) of the labels.
+    Shape = 7,
 }
 
 impl Code {
@@ -30,6 +32,7 @@ impl Code {
         Self::Edition,
         Self::Popups,
         Self::Counts,
+        Self::Shape,
     ];
 
     /// The code as the contents have it.
@@ -56,7 +59,7 @@ mod tests {
     #[test]
     fn codes_rise_from_1() {
         let codes = Code::ALL.iter().map(|code| code.number());
-        assert!(codes.eq(1..=6));
+        assert!(codes.eq(1..=7));
         assert!(Code::ALL.is_sorted());
     }
 }

@@ -50,7 +50,8 @@ pub enum Refusal {
     Full = 18,
     /// 19: the edition in part 4.
     Edition = 19,
-    /// 20: the turn of a view, or how far out its edges lie.
+    /// 20: the turn of a view, also where the labels are squares, or how far out its edges
+    /// lie.
     Window = 20,
     /// 21: the popups in part 5, or that of a mark to be added.
     Popups = 21,
@@ -58,6 +59,8 @@ pub enum Refusal {
     Judgement = 22,
     /// 23: the counts in part 6.
     Counts = 23,
+    /// 24: the shape in part 7.
+    Shape = 24,
 }
 
 impl Refusal {
@@ -86,6 +89,7 @@ impl Refusal {
         Self::Popups,
         Self::Judgement,
         Self::Counts,
+        Self::Shape,
     ];
 
     /// The question's number.
@@ -102,9 +106,9 @@ impl Refusal {
     /// The question in words.
     pub const fn question(self) -> &'static str {
         match self {
-            Self::Contents => "are there 2 bytes, 1 to 6 parts, and the whole contents?",
+            Self::Contents => "are there 2 bytes, 1 to 7 parts, and the whole contents?",
             Self::Codes => {
-                "do the codes rise within 1 to 6, is part 1 there, and are parts 3 and 6 only with \
+                "do the codes rise within 1 to 7, is part 1 there, and are parts 3 and 6 only with \
                  part 2?"
             }
             Self::Bodies => {
@@ -144,7 +148,8 @@ impl Refusal {
             Self::Full => "are fewer than 4,096 marks held already?",
             Self::Edition => "is part 4, if present, one byte of 1 or 2?",
             Self::Window => {
-                "is the turn 0 to 3 quarter turns, and each edge from -32,768 to 32,768?"
+                "is the turn 0 to 3 quarter turns, 0 alone where the labels are squares, and \
+                 each edge from -32,768 to 32,768?"
             }
             Self::Popups => {
                 "is part 5, if present, 4n bytes, with no popup above 65,536; and is the popup \
@@ -159,6 +164,7 @@ impl Refusal {
                 "is part 6, if present, 170 bytes, with the number of living marks of each kind \
                  group at each stop?"
             }
+            Self::Shape => "is part 7, if present, one byte of 1 or 2?",
         }
     }
 }
@@ -193,14 +199,14 @@ mod tests {
     use super::*;
 
     #[test]
-    fn numbers_are_1_to_23_in_order() {
+    fn numbers_are_1_to_24_in_order() {
         let numbers = Refusal::ALL.iter().map(|refusal| refusal.number());
-        assert!(numbers.eq(1..=23));
+        assert!(numbers.eq(1..=24));
         for &refusal in Refusal::ALL {
             assert_eq!(Refusal::from_number(refusal.number()), Some(refusal));
         }
         assert_eq!(Refusal::from_number(0), None);
-        assert_eq!(Refusal::from_number(24), None);
+        assert_eq!(Refusal::from_number(25), None);
     }
 
     #[test]

@@ -1,6 +1,8 @@
 //! Checking, scheduling and putting together a sheet, and reading its parts.
 
-use crate::{ffi, part, popups_bytes, Code, Refusal, COUNTED_BYTES, EDITION_BYTES, MARK_BYTES};
+use crate::{
+    ffi, part, popups_bytes, Code, Refusal, COUNTED_BYTES, EDITION_BYTES, MARK_BYTES, SHAPE_BYTES,
+};
 
 /// The most marks a sheet has.
 pub const MOST_MARKS: usize = 4_096;
@@ -17,7 +19,7 @@ pub const fn work_bytes(n: usize) -> usize {
 
 /// Bytes of the sheet that scheduling n marks writes, where it has no part beyond 3;
 /// [`EDITION_BYTES`] more where part 4 is there, [`popups_bytes`] of the marks where part 5
-/// is, and [`COUNTED_BYTES`] where part 6 is.
+/// is, [`COUNTED_BYTES`] where part 6 is, and [`SHAPE_BYTES`] where part 7 is.
 pub const fn scheduled_bytes(n: usize) -> usize {
     32 + 27 * n
 }
@@ -39,12 +41,13 @@ pub fn check(sheet: &[u8]) -> Result<(), Refusal> {
     Ok(())
 }
 
-/// Schedules a sheet afresh into `out`, by its own [`Edition`](crate::Edition) and its own
-/// [`popups`](crate::popups()), with its index, whatever schedule it has. Parts 4 and 5 are
-/// kept, where it has them, and part 6 is renewed: its [`Counts`](crate::Counts) are then
-/// those of the new schedule. Answers the number of bytes written: [`scheduled_bytes`] of its
-/// marks, [`EDITION_BYTES`] with part 4, [`popups_bytes`] of its marks with part 5, and
-/// [`COUNTED_BYTES`] with part 6. Bytes past these stay as they are.
+/// Schedules a sheet afresh into `out`, by its own [`Edition`](crate::Edition), its own
+/// [`popups`](crate::popups()) and its own [`Shape`](crate::Shape), with its index, whatever
+/// schedule it has. Parts 4, 5 and 7 are kept, where it has them, and part 6 is renewed: its
+/// [`Counts`](crate::Counts) are then those of the new schedule. Answers the number of bytes
+/// written: [`scheduled_bytes`] of its marks, [`EDITION_BYTES`] with part 4, [`popups_bytes`]
+/// of its marks with part 5, [`COUNTED_BYTES`] with part 6, and [`SHAPE_BYTES`] with part 7.
+/// Bytes past these stay as they are.
 ///
 /// # Errors
 ///
@@ -72,7 +75,7 @@ pub(crate) fn scheduled_to_vec(
     call: impl FnOnce(Work<'_>, &mut [u8]) -> Result<usize, Refusal>,
 ) -> Result<Vec<u8>, Refusal> {
     let mut work = vec![0; work_bytes(n)];
-    let beyond = EDITION_BYTES + popups_bytes(n) + COUNTED_BYTES;
+    let beyond = EDITION_BYTES + popups_bytes(n) + COUNTED_BYTES + SHAPE_BYTES;
     let mut out = vec![0; scheduled_bytes(n) + beyond];
     let written = call(Work(&mut work), &mut out)?;
     out.truncate(written);

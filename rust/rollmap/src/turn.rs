@@ -1,7 +1,8 @@
 //! Turns, for screens on which the reel lies otherwise than in its places.
 
 /// A turn of the places of a view. Where x is drawn to the right and y downwards, it is
-/// clockwise, and counterclockwise where y is drawn upwards.
+/// clockwise, and counterclockwise where y is drawn upwards. A view of
+/// [squares](crate::Shape::Square) takes no turn but [`None`](Self::None).
 ///
 /// Which one a screen takes on which the web runs from left to right depends on where the
 /// places run along the web: [`None`](Self::None) where x grows, [`Quarter`](Self::Quarter)

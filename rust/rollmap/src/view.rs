@@ -18,7 +18,8 @@ pub struct View {
     pub y0: i32,
     /// The greatest y inside.
     pub y1: i32,
-    /// How the places are turned that the edges refer to.
+    /// How the places are turned that the edges refer to. Where the labels are squares, they
+    /// are not.
     pub turn: Turn,
     /// Map units per pixel.
     pub zoom: Zoom,
@@ -55,13 +56,14 @@ pub const fn map_bytes(n: usize) -> usize {
 
 /// Answers a view: writes which marks are shown to `map`, mark m as bit m mod 8 of
 /// byte m / 8, and answers their count. A mark is shown if it lives at the zoom and its
-/// disk there, about its turned place, reaches the rectangle, touching included. It lives
-/// from its [popup](crate::popups()) on until it is removed. Unused bits of the last byte
-/// become 0, and bytes past the first [`map_bytes`] of the marks stay as they are.
+/// label there, a disk about its turned place or a square about its place, by the sheet's own
+/// [`Shape`](crate::Shape), reaches the rectangle, touching included. It lives from its
+/// [popup](crate::popups()) on until it is removed. Unused bits of the last byte become 0, and
+/// bytes past the first [`map_bytes`] of the marks stay as they are.
 ///
-/// Of a sheet that scheduling wrote, a view with a turn gives what a view without one
+/// Of a sheet of disks that scheduling wrote, a view with a turn gives what a view without one
 /// gives of the sheet that is scheduled from the marks at their [turned](Turn::turned)
-/// places, where these fit 16 bits, and the parts beyond 3 but part 6.
+/// places, where these fit 16 bits, and the parts beyond 3 but part 6. Squares take no turn.
 ///
 /// # Errors
 ///

@@ -11,7 +11,8 @@ use oracle::count::part_6;
 use oracle::mark::write_marks;
 use oracle::popup::write_popups;
 use oracle::rank::Edition::{First, Second};
-use oracle::sample::{each_list, marks, popups, Generator, Popups, Shape, CODES_TAKEN, P1};
+use oracle::sample::{each_list, marks, popups, Generator, Layout, Popups, CODES_TAKEN, P1};
+use oracle::shape::Shape;
 use oracle::sheet::{join, join_parts, part_extent, split};
 use rollmap::Code;
 
@@ -34,17 +35,33 @@ fn assemble(parts: &[Part], out_length: usize, seed: u64) -> u32 {
 /// Popups of P1 that change neither its schedule nor its counts: all are there at stop 0.
 const P1_POPUPS: [u32; 4] = [1, 1, 0, 1];
 
-/// The bodies of P1, scheduled, by code, with an edition and popups with which they are the
-/// same.
-fn p1_bodies() -> [Vec<u8>; 6] {
+/// The bodies of P1, scheduled, by code, with an edition, popups and a shape with which they
+/// are the same: all its marks go along an axis.
+fn p1_bodies() -> [Vec<u8>; 7] {
     let [part_1, part_2, part_3] = bodies_of(&P1, &our_records(&P1));
     let (part_4, part_5) = (Second.write().to_vec(), write_popups(&P1_POPUPS));
     let part_6 = part_6(First.reel(&P1), &our_records(&P1));
-    [part_1, part_2, part_3, part_4, part_5, part_6]
+    let part_7 = Shape::Square.write().to_vec();
+    [part_1, part_2, part_3, part_4, part_5, part_6, part_7]
+}
+
+/// The bodies of no marks, with an edition and a shape of this number.
+fn empty_bodies(named: u8) -> [Vec<u8>; 7] {
+    let [none, named] = [vec![], vec![named]];
+    let [part_1, part_2, part_3, part_5] = [(); 4].map(|()| none.clone());
+    [
+        part_1,
+        part_2,
+        part_3,
+        named.clone(),
+        part_5,
+        vec![0; 170],
+        named,
+    ]
 }
 
 /// The parts of these codes.
-fn parts_of<'a>(codes: &[u16], bodies: &'a [Vec<u8>; 6]) -> Vec<Part<'a>> {
+fn parts_of<'a>(codes: &[u16], bodies: &'a [Vec<u8>; 7]) -> Vec<Part<'a>> {
     let body = |code: u16| bodies[usize::from(code) - 1].as_slice();
     codes.iter().map(|&code| (code, body(code))).collect()
 }
@@ -52,11 +69,11 @@ fn parts_of<'a>(codes: &[u16], bodies: &'a [Vec<u8>; 6]) -> Vec<Part<'a>> {
 #[test]
 fn every_list_of_codes() {
     let whole = p1_bodies();
-    let empty = [vec![], vec![], vec![], vec![1], vec![], vec![0; 170]];
-    let faulty = [(); 6].map(|()| vec![0]);
+    let empty = empty_bodies(1);
+    let faulty = [(); 7].map(|()| vec![0]);
     let mut try_list = |codes: &[u16]| {
         let expected = match codes.len() {
-            0 | 7.. => 1,
+            0 | 8.. => 1,
             _ if CODES_TAKEN.contains(&codes) => 0,
             _ => 2,
         };
@@ -69,19 +86,22 @@ fn every_list_of_codes() {
         let number = assemble(&parts_of(codes, &faulty), 0, 2);
         assert_eq!(number, expected, "{codes:?}");
     };
-    for length in 0..=6 {
-        each_list(&[1, 2, 3, 4, 5, 6], length, &mut try_list);
+    for length in 0..=5 {
+        each_list(&[1, 2, 3, 4, 5, 6, 7], length, &mut try_list);
     }
-    // One more than there are, and two more.
-    for length in [7, 8] {
-        each_list(&[1, 2, 6], length, &mut try_list);
+    // As many as there are, one more, and two more.
+    for length in [6, 7] {
+        each_list(&[1, 2, 6, 7], length, &mut try_list);
     }
+    for length in [8, 9] {
+        each_list(&[1, 2, 7], length, &mut try_list);
+    }
+    CODES_TAKEN.iter().for_each(|codes| try_list(codes));
 }
 
 #[test]
 fn every_length_of_the_written_buffer() {
-    let empty = [vec![], vec![], vec![], vec![2], vec![], vec![0; 170]];
-    for bodies in [&p1_bodies(), &empty] {
+    for bodies in [&p1_bodies(), &empty_bodies(2)] {
         for codes in CODES_TAKEN {
             let parts = parts_of(codes, bodies);
             let needed = join_parts(&parts).len();
@@ -96,7 +116,7 @@ fn every_length_of_the_written_buffer() {
 #[test]
 fn a_part_goes_by_its_code_and_not_by_its_place() {
     let bodies = p1_bodies();
-    let [part_1, part_2, _, part_4, part_5, part_6] = bodies.each_ref().map(Vec::as_slice);
+    let [part_1, part_2, _, part_4, part_5, part_6, part_7] = bodies.each_ref().map(Vec::as_slice);
     assert_eq!(assemble(&[(1, part_1), (4, part_4)], 67, 1), 0);
     assert_eq!(assemble(&[(1, part_1), (2, part_4)], 67, 2), 7);
     assert_eq!(assemble(&[(1, part_1), (4, part_2)], 200, 3), 19);
@@ -114,6 +134,10 @@ fn a_part_goes_by_its_code_and_not_by_its_place() {
     assert_eq!(assemble(&third(3, part_6), 302, 11), 7);
     assert_eq!(assemble(&third(6, part_5), 302, 12), 23);
     assert_eq!(assemble(&[(1, part_1), (6, part_6)], 302, 13), 2);
+    assert_eq!(assemble(&[(1, part_1), (7, part_7)], 67, 14), 0);
+    assert_eq!(assemble(&[(1, part_1), (7, part_5)], 82, 15), 24);
+    assert_eq!(assemble(&[(1, part_1), (5, part_7)], 82, 16), 21);
+    assert_eq!(assemble(&third(6, part_7), 302, 17), 23);
 }
 
 #[test]
@@ -160,6 +184,29 @@ fn damaged_popups() {
 }
 
 #[test]
+fn damaged_shapes() {
+    let mut bodies = p1_bodies();
+    let beyond = write_popups(&[0, 0, 0, 65_537]);
+    for part_7 in [&[][..], &[0], &[3], &[255], &[1, 1], &[2, 0], &[1, 2]] {
+        bodies[6] = part_7.to_vec();
+        for codes in CODES_TAKEN {
+            for part_5 in [write_popups(&P1_POPUPS), beyond.clone()] {
+                let no_21 = part_5 == beyond;
+                bodies[4] = part_5;
+                let refused = match codes {
+                    _ if codes.contains(&5) && no_21 => Some(21),
+                    _ if codes.contains(&7) => Some(24),
+                    _ => None,
+                };
+                let parts = parts_of(codes, &bodies);
+                assert_eq!(assemble(&parts, 400, 1), refused.unwrap_or(0));
+                assert_eq!(assemble(&parts, 0, 1), refused.unwrap_or(13));
+            }
+        }
+    }
+}
+
+#[test]
 fn damaged_counts() {
     let mut bodies = p1_bodies();
     let own = bodies[5].clone();
@@ -185,13 +232,13 @@ fn damaged_counts() {
 #[test]
 fn every_byte_of_the_bodies_with_some_values() {
     let mut bodies = p1_bodies();
-    for body in 0..6 {
+    for body in 0..7 {
         for at in 0..bodies[body].len() {
             let own = bodies[body][at];
             for value in [0, 1, 2, 3, 10, 64, 199, 200, 255, own ^ 1, own ^ 128] {
                 bodies[body][at] = value;
                 for codes in CODES_TAKEN {
-                    assemble(&parts_of(codes, &bodies), 357, u64::from(value));
+                    assemble(&parts_of(codes, &bodies), 368, u64::from(value));
                 }
             }
             bodies[body][at] = own;
@@ -208,28 +255,29 @@ fn many_bodies_with_a_few_faults() {
         let mut parts = drawn.parts();
         if generator.below(20) == 0 {
             let at = generator.below(parts.len() as u32) as usize;
-            parts[at].0 = generator.choose(&[1, 2, 3, 4, 5, 6]);
+            parts[at].0 = generator.choose(&[1, 2, 3, 4, 5, 6, 7]);
         }
         if generator.below(40) == 0 {
-            parts.resize(generator.choose(&[0, 7, 8]), (4, &[1]));
+            parts.resize(generator.choose(&[0, 8, 9]), (4, &[1]));
         }
         let needed = join_parts(&parts).len();
         let length = some_room(&mut generator, needed);
         numbers.add(assemble(&parts, length, seed));
     }
-    numbers.assert_reached([0, 1, 2, 4, 5, 6, 7, 8, 9, 13, 19, 21, 23], 100);
+    numbers.assert_reached([0, 1, 2, 4, 5, 6, 7, 8, 9, 13, 19, 21, 23, 24], 100);
 }
 
 #[test]
 fn the_longest_bodies() {
     let mut generator = Generator::new(7);
-    let sample = marks(Shape::Clustered, 4_096, 2);
+    let sample = marks(Layout::Clustered, 4_096, 2);
     let records = common::foreign_records(&mut generator, First.reel(&sample));
     let [part_1, part_2, part_3] = bodies_of(&sample, &records);
     let (part_4, part_5) = (First.write().to_vec(), write_popups(&[0; 4_096]));
     let part_6 = part_6(First.reel(&sample), &records);
-    let bodies = [part_1, part_2, part_3, part_4, part_5, part_6];
-    let lengths = [45_056, 57_344, 8_192, 1, 16_384, 170];
+    let part_7 = Shape::Disk.write().to_vec();
+    let bodies = [part_1, part_2, part_3, part_4, part_5, part_6, part_7];
+    let lengths = [45_056, 57_344, 8_192, 1, 16_384, 170, 1];
     assert_eq!(bodies.each_ref().map(Vec::len), lengths);
     for codes in CODES_TAKEN {
         let body = |&code: &u16| 10 + lengths[usize::from(code) - 1];
@@ -256,7 +304,7 @@ fn the_buffer_of_its_own_is_long_enough() {
         assert_eq!(assembled.map_err(|refusal| refusal.number()), expected);
         numbers.add(number);
     }
-    numbers.assert_reached([0, 4, 5, 6, 7, 8, 9, 19, 21, 23], 10);
+    numbers.assert_reached([0, 4, 5, 6, 7, 8, 9, 19, 21, 23, 24], 10);
 }
 
 // ---- reading parts
@@ -282,9 +330,9 @@ fn parts(sheet: &[u8]) -> Vec<Option<&[u8]>> {
 
 #[test]
 fn parts_of_accepted_sheets() {
-    for shape in Shape::ALL {
+    for layout in Layout::ALL {
         for n in [0, 1, 2, 9, 40] {
-            let sample = marks(shape, n, n as u64);
+            let sample = marks(layout, n, n as u64);
             for codes in CODES_TAKEN {
                 let sheet = scheduled_of(codes, &sample, &popups(Popups::Any, &sample, 1));
                 let own = split(&sheet).unwrap().present();
@@ -310,9 +358,9 @@ fn parts_of_every_sheet_with_a_byte_changed() {
             parts(&sheet[..at]);
         }
         sheet.push(0);
-        assert_eq!(parts(&sheet), [None; 6]);
+        assert_eq!(parts(&sheet), [None; 7]);
     }
-    assert_eq!(parts(&[]), [None; 6]);
+    assert_eq!(parts(&[]), [None; 7]);
 }
 
 #[test]
@@ -329,8 +377,8 @@ fn parts_of_many_sheets_with_a_few_faults() {
 
 #[test]
 fn putting_the_parts_of_a_sheet_together_gives_the_sheet() {
-    for shape in Shape::ALL {
-        let sample = marks(shape, 33, 9);
+    for layout in Layout::ALL {
+        let sample = marks(layout, 33, 9);
         for codes in CODES_TAKEN {
             let sheet = scheduled_of(codes, &sample, &popups(Popups::Few, &sample, 9));
             let own = Code::ALL

@@ -8,13 +8,13 @@ use std::io::Write;
 use std::path::{Path, PathBuf};
 use std::process::{Command, Stdio};
 
-use common::{one_part, scheduled, scheduled_of, some_room, some_sheet, SomeBodies};
+use common::{one_part, scheduled, scheduled_of, some_room, some_sheet, with_part_7, SomeBodies};
 use oracle::map::map_bytes;
-use oracle::sample::{each_list, marks, refused_sheets, Generator, Shape, CODES_TAKEN, P1};
+use oracle::sample::{each_list, marks, refused_sheets, Generator, Layout, CODES_TAKEN, P1};
 use oracle::view::{view, Edges, Window};
 use oracle::zoom::Zoom;
 
-use rollmap::{Code, Edition, Refusal, Turn, FARTHEST_EDGE, LARGEST_POPUP, NO_POPUP};
+use rollmap::{Code, Edition, Refusal, Shape, Turn, FARTHEST_EDGE, LARGEST_POPUP, NO_POPUP};
 
 /// The archive that this crate was built with.
 const ARCHIVE: &str = env!("ROLLMAP_ARCHIVE");
@@ -96,6 +96,19 @@ count without an index: 0 302, its part 3 at 0, 0 bytes
 count marks alone: 10 0
 another count: check 23 0, count 23 0
 part 6 without part 2: 2 0
+shape 1: 0 45, in a short buffer 13 0, scheduled 0 97, then ee, part 7 at 96: 1
+1: 0 2500 400
+wheel 5, the corner: 0, count 0, map 00 ee, marks
+wheel 1, turn 1: 0, count 2, map 03 ee, marks 0 1
+add: 0 124, then ee, part 7 at 123: 1, take it out: 0 97, the same 1
+count: 0 277, then ee, part 6 at 106, part 7 at 276: 1
+shape 2: 0 45, in a short buffer 13 0, scheduled 0 97, then ee, part 7 at 96: 2
+1: 0 1600 400
+wheel 5, the corner: 0, count 1, map 01 ee, marks 0
+wheel 1, turn 1: 20, count 0, map 01 ee, marks 0
+add: 0 124, then ee, part 7 at 123: 2, take it out: 0 97, the same 1
+count: 0 277, then ee, part 6 at 106, part 7 at 276: 2
+shape 3: 24 0
 ";
 
 const HEADER: &str = include_str!("../../../include/rollmap.h");
@@ -168,7 +181,7 @@ fn the_header_names_every_refusal_of_a_call() {
 }
 
 #[test]
-fn the_header_names_every_code_and_every_edition() {
+fn the_header_names_every_code_every_edition_and_every_shape() {
     let codes = Code::ALL.iter();
     let own = codes.map(|code| (format!("{code:?}").to_uppercase(), code.number().into()));
     let named = defined("#define ROLLMAP_CODE_").into_iter();
@@ -178,6 +191,10 @@ fn the_header_names_every_code_and_every_edition() {
     for (name, edition) in [("FIRST", Edition::First), ("SECOND", Edition::Second)] {
         let [number] = edition.to_bytes();
         assert!(defined("#define ROLLMAP_EDITION_").contains(&(name, number.into())));
+    }
+    for (name, shape) in [("DISK", Shape::Disk), ("SQUARE", Shape::Square)] {
+        let [number] = shape.to_bytes();
+        assert!(defined("#define ROLLMAP_SHAPE_").contains(&(name, number.into())));
     }
 }
 
@@ -210,6 +227,7 @@ fn the_header_has_the_sizes_and_the_version_of_this_crate() {
         ("GROUPS", rollmap::GROUPS),
         ("COUNTS_BYTES", rollmap::COUNTS_BYTES),
         ("COUNTED_BYTES", rollmap::COUNTED_BYTES),
+        ("SHAPE_BYTES", rollmap::SHAPE_BYTES),
     ];
     for (name, size) in sizes {
         assert!(
@@ -237,15 +255,20 @@ fn most_stack(call: &str) -> usize {
 fn every_call_takes_less_stack_than_the_header_says() {
     let words = ["-std=c99", "-pthread"];
     let program = compile("stack.c", "stack", "cc", &words);
-    let printed = run(&mut Command::new(program), &[]);
-    let calls = printed.lines().map(|line| {
-        let (name, bytes) = line.split_once(": ").expect("a name and a number");
-        (name, bytes.parse::<usize>().expect("a number"))
-    });
-    let calls: Vec<(&str, usize)> = calls.collect();
-    assert_eq!(calls.len(), 18);
-    for (name, bytes) in calls {
-        assert!(bytes < most_stack(name), "{name} takes {bytes}");
+    for shape in [Shape::Disk, Shape::Square] {
+        let printed = run(&mut Command::new(&program), &shape.to_bytes());
+        let calls = printed.lines().map(|line| {
+            let (name, bytes) = line.split_once(": ").expect("a name and a number");
+            (name, bytes.parse::<usize>().expect("a number"))
+        });
+        let calls: Vec<(&str, usize)> = calls.collect();
+        assert_eq!(calls.len(), 18);
+        for (name, bytes) in calls {
+            assert!(
+                bytes < most_stack(name),
+                "{name} takes {bytes} of {shape:?}"
+            );
+        }
     }
 }
 
@@ -290,9 +313,9 @@ const fn edges(x0: i32, x1: i32, y0: i32, y1: i32) -> Edges {
 #[test]
 fn every_stop_is_its_wheel_value_through_c() {
     let mut cases = Vec::new();
-    for shape in Shape::ALL {
+    for layout in Layout::ALL {
         for n in [0, 1, 9, 40] {
-            let sample = marks(shape, n, 11);
+            let sample = marks(layout, n, 11);
             let (sheet, needed) = (scheduled(&sample), map_bytes(n));
             let near = edges(-900, 900, 0, 0);
             for turn in 0..=3 {
@@ -318,8 +341,16 @@ fn every_turn_through_c() {
     let (sheet, bare) = (scheduled(&P1), one_part(&P1));
     let (whole, crossed) = (Edges::WHOLE, edges(1, 0, 0, 0));
     let far = edges(-32_769, 0, 0, 0);
+    let squares = with_part_7(&sheet, &[2]);
+    let bare_squares = with_part_7(&bare, &[2]);
     let mut cases = Vec::new();
     for turn in 0..=255 {
+        // Of squares every turn but 0 gets 20.
+        cases.push(stops_case(&squares, whole.of_turned(turn), 1));
+        cases.push(stops_case(&squares, crossed.of_turned(turn), 0));
+        cases.push(stops_case(&bare_squares, crossed.of_turned(turn), 0));
+        let disks = with_part_7(&sheet, &[1]);
+        cases.push(stops_case(&disks, whole.of_turned(turn), 1));
         cases.push(stops_case(&sheet, whole.of_turned(turn), 1));
         cases.push(stops_case(&sheet, edges(-3, 0, 0, 100).of_turned(turn), 1));
         // 20 is asked before 11 and 13, and after 10.
@@ -397,25 +428,28 @@ fn part_case(sheet: &[u8], code: u32) -> (Vec<u8>, String) {
 
 #[test]
 fn every_list_of_codes_through_c() {
-    let bodies: [&[u8]; 7] = [&[], &[], &[], &[2], &[], &[0; 170], &[0xff; 5]];
+    let bodies: [&[u8]; 8] = [&[], &[], &[], &[2], &[], &[0; 170], &[1], &[0xff; 5]];
     let body = |&code: &u16| bodies[usize::from(code).saturating_sub(1)];
     let mut cases = Vec::new();
     let mut try_list = |codes: &[u16]| {
         let own: Vec<&[u8]> = codes.iter().map(body).collect();
-        cases.push(assemble_case(codes, &own, 240));
+        cases.push(assemble_case(codes, &own, 250));
     };
     for length in 0..=4 {
-        each_list(&[0, 1, 2, 3, 4, 5, 6, 7], length, &mut try_list);
+        each_list(&[0, 1, 2, 3, 4, 5, 6, 7, 8], length, &mut try_list);
     }
     for length in [5, 6] {
-        each_list(&[1, 2, 3, 6], length, &mut try_list);
+        each_list(&[1, 2, 3, 7], length, &mut try_list);
     }
     CODES_TAKEN.iter().for_each(|codes| try_list(codes));
-    // One more than there are.
-    each_list(&[1, 2, 6], 7, &mut try_list);
-    try_list(&[1, 2, 3, 4, 5, 6, 7]);
+    // As many as there are, and one more.
+    for length in [7, 8] {
+        each_list(&[1, 2, 7], length, &mut try_list);
+    }
+    try_list(&[1, 2, 3, 4, 5, 6, 8]);
+    try_list(&[1, 2, 3, 4, 5, 6, 7, 8]);
     // Both bytes of a code count.
-    for code in [256, 257, 258, 260, 261, 262, 1_028, 65_281, 65_535] {
+    for code in [256, 257, 258, 260, 261, 262, 263, 1_028, 65_281, 65_535] {
         cases.push(assemble_case(&[code], &[&[]], 50));
         cases.push(assemble_case(&[1, code], &[&[], &[1]], 50));
     }
@@ -430,7 +464,7 @@ fn other_numbers_of_bodies_than_of_codes_through_c() {
         let drawn = SomeBodies::draw(&mut generator);
         let mut codes = drawn.codes.to_vec();
         if generator.below(20) == 0 {
-            codes.resize(generator.choose(&[0, 7, 16]), 4);
+            codes.resize(generator.choose(&[0, 8, 16]), 4);
         }
         let own: Vec<&[u8]> = drawn.parts().into_iter().map(|(_, body)| body).collect();
         // Further bodies are junk, and some lack.
@@ -457,7 +491,8 @@ fn every_code_of_a_part_through_c() {
     sheets.extend((0..300).map(|_| some_sheet(&mut generator)));
     let mut cases = Vec::new();
     for sheet in sheets {
-        for code in (0..10).chain([256, 257, 258, 262, 65_536, 65_537, 65_542, u32::MAX]) {
+        let wide = [256, 257, 258, 263, 65_536, 65_537, 65_543, u32::MAX];
+        for code in (0..10).chain(wide) {
             cases.push(part_case(&sheet, code));
         }
     }

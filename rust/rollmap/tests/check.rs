@@ -5,7 +5,7 @@ mod common;
 use common::jobs::check;
 use common::{
     bodies_of, joined, one_part, our_records, scheduled, scheduled_having, scheduled_of,
-    scheduled_with, some_sheet, three_parts, with_part_4, Beyond, Tally,
+    scheduled_with, some_sheet, three_parts, with_part_4, with_part_7, Beyond, Tally,
 };
 use oracle::fraction::Fraction;
 use oracle::mark::{touching_value, write_marks, Mark};
@@ -14,19 +14,20 @@ use oracle::rank::Edition::{First, Second};
 use oracle::record::{write_records, Record};
 use oracle::reel::Reel;
 use oracle::sample::{
-    each_list, marks, popups, raw_sheet, Generator, Popups, Shape, CODES_TAKEN, P1,
+    each_list, marks, popups, raw_sheet, Generator, Layout, Popups, CODES_TAKEN, P1,
 };
+use oracle::shape::Shape;
 use oracle::sheet::{join, join_parts};
 use oracle::tree::write_tree;
 
-/// Accepted sheets of one to six parts: P1, no marks, and a few samples.
+/// Accepted sheets of one to seven parts: P1, no marks, and a few samples.
 fn small_sheets() -> Vec<Vec<u8>> {
     let samples = [
         P1.to_vec(),
         Vec::new(),
-        marks(Shape::Extreme, 3, 5),
-        marks(Shape::Grid, 6, 8),
-        marks(Shape::OnePlace, 2, 1),
+        marks(Layout::Extreme, 3, 5),
+        marks(Layout::Grid, 6, 8),
+        marks(Layout::OnePlace, 2, 1),
     ];
     let mut sheets = Vec::new();
     for sample in samples {
@@ -96,15 +97,15 @@ fn with_field(sheet: &[u8], (at, width): (usize, usize), choice: u32) -> Vec<u8>
     wide[..width].copy_from_slice(&sheet[at..at + width]);
     let own = u32::from_le_bytes(wide);
     let value = match choice {
-        0..=7 => choice,
-        8 => own.wrapping_add(1),
-        9 => own.wrapping_sub(1),
-        10 => own.wrapping_add(11),
-        11 => own.wrapping_sub(14),
-        12 => own.wrapping_neg(),
-        13 => own ^ 0x8000_8000,
-        14 => own ^ 0x0100_0100,
-        15 => sheet.len() as u32,
+        0..=8 => choice,
+        9 => own.wrapping_add(1),
+        10 => own.wrapping_sub(1),
+        11 => own.wrapping_add(11),
+        12 => own.wrapping_sub(14),
+        13 => own.wrapping_neg(),
+        14 => own ^ 0x8000_8000,
+        15 => own ^ 0x0100_0100,
+        16 => sheet.len() as u32,
         _ => u32::MAX,
     };
     let mut changed = sheet.to_vec();
@@ -113,18 +114,20 @@ fn with_field(sheet: &[u8], (at, width): (usize, usize), choice: u32) -> Vec<u8>
 }
 
 /// How many changes of a field are tried.
-const CHOICES: u32 = 17;
+const CHOICES: u32 = 18;
 
 #[test]
 fn every_field_of_the_contents_and_every_two() {
     let mut numbers = Tally::default();
-    let codes: [&[u16]; 6] = [
+    let codes: [&[u16]; 8] = [
         &[1, 2, 3],
         &[1, 2, 3, 4],
         &[1, 2, 3, 5],
         &[1, 2, 6],
         &[1, 2, 3, 4, 5],
         &[1, 2, 3, 4, 5, 6],
+        &[1, 2, 3, 7],
+        &[1, 2, 3, 4, 5, 6, 7],
     ];
     for sheet in codes.into_iter().flat_map(|codes| {
         let marks: [&[Mark]; 2] = [&P1, &[]];
@@ -143,7 +146,7 @@ fn every_field_of_the_contents_and_every_two() {
             }
         }
     }
-    numbers.assert_reached([0, 1, 2, 3, 7, 19, 21, 23], 1);
+    numbers.assert_reached([0, 1, 2, 3, 7, 19, 21, 23, 24], 1);
 }
 
 #[test]
@@ -192,39 +195,45 @@ fn every_length_of_a_body() {
 #[test]
 fn every_list_of_codes() {
     let mut numbers = Tally::default();
-    let bodies: [[&[u8]; 3]; 5] = [
-        [&[1], &[], &[0; 170]],
-        [&[2], &[0; 4], &[0; 170]],
-        [&[0], &[], &[]],
-        [&[], &[0], &[]],
-        [&[2], &[], &[0; 169]],
+    let bodies: [[&[u8]; 4]; 6] = [
+        [&[1], &[], &[0; 170], &[2]],
+        [&[2], &[0; 4], &[0; 170], &[1]],
+        [&[0], &[], &[], &[2]],
+        [&[], &[0], &[], &[0]],
+        [&[2], &[], &[0; 169], &[1]],
+        [&[1], &[], &[0; 170], &[]],
     ];
     let mut try_list = |codes: &[u16]| {
-        for [part_4, part_5, part_6] in bodies {
+        for [part_4, part_5, part_6, part_7] in bodies {
             let body = |code| match code {
                 4 => part_4,
                 5 => part_5,
                 6 => part_6,
+                7 => part_7,
                 _ => &[],
             };
             let parts: Vec<_> = codes.iter().map(|&code| (code, body(code))).collect();
             let number = check(&join_parts(&parts));
             let taken = CODES_TAKEN.contains(&codes);
-            assert_eq!(taken, [0, 19, 21, 23].contains(&number), "{codes:?}");
+            assert_eq!(taken, [0, 19, 21, 23, 24].contains(&number), "{codes:?}");
             numbers.add(number);
         }
     };
-    for length in 0..=6 {
-        each_list(&[0, 1, 2, 3, 4, 5, 6, 7], length, &mut try_list);
+    for length in 0..=5 {
+        each_list(&[0, 1, 2, 3, 4, 5, 6, 7, 8], length, &mut try_list);
     }
-    // One more than there are.
-    each_list(&[1, 2, 6], 7, &mut try_list);
-    try_list(&[1, 2, 3, 4, 5, 6, 7]);
-    numbers.assert_reached([0, 1, 2, 19, 21, 23], 5);
+    // As many as there are, and one more.
+    for length in [6, 7, 8] {
+        each_list(&[1, 2, 6, 7], length, &mut try_list);
+    }
+    CODES_TAKEN.iter().for_each(|codes| try_list(codes));
+    try_list(&[1, 2, 3, 4, 5, 6, 8]);
+    try_list(&[1, 2, 3, 4, 5, 6, 7, 8]);
+    numbers.assert_reached([0, 1, 2, 19, 21, 23, 24], 5);
 }
 
 #[test]
-fn every_byte_and_some_lengths_of_part_4() {
+fn every_byte_and_some_lengths_of_parts_4_and_7() {
     let (part_1, part_2) = (write_marks(&P1), write_records(&our_records(&P1)));
     let sheets = [
         one_part(&P1),
@@ -234,13 +243,17 @@ fn every_byte_and_some_lengths_of_part_4() {
     ];
     for sheet in sheets {
         for byte in 0..=255 {
-            let expected = if byte == 1 || byte == 2 { 0 } else { 19 };
-            assert_eq!(check(&with_part_4(&sheet, &[byte])), expected);
+            let named = byte == 1 || byte == 2;
+            let [edition, shape] = [19, 24].map(|refused| if named { 0 } else { refused });
+            assert_eq!(check(&with_part_4(&sheet, &[byte])), edition);
+            assert_eq!(check(&with_part_7(&sheet, &[byte])), shape);
             for length in [2, 3, 10, 11, 14] {
                 assert_eq!(check(&with_part_4(&sheet, &vec![byte; length])), 19);
+                assert_eq!(check(&with_part_7(&sheet, &vec![byte; length])), 24);
             }
         }
         assert_eq!(check(&with_part_4(&sheet, &[])), 19);
+        assert_eq!(check(&with_part_7(&sheet, &[])), 24);
     }
 }
 
@@ -283,17 +296,19 @@ fn every_kind_with_radii_at_both_sides_of_the_limit() {
     }
 }
 
-/// Records near the one of `mark` that goes for `other`: exact, by the touching value alone,
-/// reduced, scaled, off by one, and with numbers of any size.
+/// Records near the one of `mark` that goes for `other`: exact, by the touching value alone, of
+/// this shape and of the other, reduced, scaled, off by one, and with numbers of any size.
 fn records_near(reel: Reel, mark: usize, other: usize) -> Vec<Record> {
     let Fraction {
         numerator,
         denominator,
     } = reel.pair_value(other, mark);
-    let touching = touching_value(&reel.marks[other], &reel.marks[mark]);
+    let [disks, squares] =
+        Shape::ALL.map(|shape| touching_value(shape, &reel.marks[other], &reel.marks[mark]));
     let mut near = vec![
         (numerator, denominator),
-        (touching.numerator, touching.denominator),
+        (disks.numerator, disks.denominator),
+        (squares.numerator, squares.denominator),
         (2 * numerator, 2 * denominator),
         (numerator / 2, denominator / 2),
         (numerator + 1, denominator),
@@ -319,12 +334,15 @@ fn records_near(reel: Reel, mark: usize, other: usize) -> Vec<Record> {
 
 #[test]
 fn records_for_every_mark_that_nearly_fit() {
-    let mut numbers = [Tally::default(), Tally::default()];
-    for (seed, shape) in (0..12).flat_map(|seed| Shape::ALL.map(|shape| (seed, shape))) {
-        let sample = marks(shape, 5, seed);
+    let mut numbers = [(); 4].map(|()| Tally::default());
+    for (seed, layout) in (0..12).flat_map(|seed| Layout::ALL.map(|layout| (seed, layout))) {
+        let sample = marks(layout, 5, seed);
         let how = Popups::ALL[seed as usize % Popups::ALL.len()];
         let popping_up = Beyond::popping_up(popups(how, &sample, seed));
-        for (beyond, numbers) in [Beyond::default(), popping_up].iter().zip(&mut numbers) {
+        let disks = [Beyond::default(), popping_up];
+        let squares = disks.clone();
+        let squares = squares.map(|beyond| beyond.with_shape(Some(Shape::Square)));
+        for (beyond, numbers) in disks.iter().chain(&squares).zip(&mut numbers) {
             let reel = beyond.reel(&sample);
             let ours = schedule_in_rank_order(reel);
             for mark in 0..sample.len() {
@@ -362,7 +380,7 @@ fn a_record_for_a_mark_that_goes_at_the_same_value_or_before() {
         (201, 10),
     ] {
         let sample = [P1[0], P1[1], Mark::plain(x, 0, radius, 1)];
-        let value = |a: usize, b: usize| touching_value(&sample[a], &sample[b]);
+        let value = |a: usize, b: usize| First.reel(&sample).pair_value(a, b);
         let records = [
             Record::NEVER,
             Record::removed(0, value(0, 1)),
@@ -379,11 +397,11 @@ fn every_tree_of_a_few_marks() {
     let mut generator = Generator::new(4);
     let mut accepted = 0;
     let mut lists = 0;
-    for (shape, n) in Shape::ALL
+    for (layout, n) in Layout::ALL
         .into_iter()
-        .flat_map(|shape| (1..=5).map(move |n| (shape, n)))
+        .flat_map(|layout| (1..=5).map(move |n| (layout, n)))
     {
-        let sample = marks(shape, n, n as u64);
+        let sample = marks(layout, n, n as u64);
         let ours = our_records(&sample);
         for records in [
             ours,
@@ -407,8 +425,8 @@ fn every_tree_of_a_few_marks() {
 
 #[test]
 fn trees_with_two_numbers_exchanged() {
-    for shape in Shape::ALL {
-        let sample = marks(shape, 24, 3);
+    for layout in Layout::ALL {
+        let sample = marks(layout, 24, 3);
         let mut sheet = scheduled(&sample);
         let start = sheet.len() - 48;
         for a in 0..24 {
@@ -430,14 +448,14 @@ fn many_sheets_with_a_few_faults() {
         let sheet = some_sheet(&mut generator);
         numbers.add(check(&sheet));
     }
-    numbers.assert_reached((0..=9).chain([19, 21, 23]), 500);
+    numbers.assert_reached((0..=9).chain([19, 21, 23, 24]), 500);
 }
 
 #[test]
 fn the_largest_sheets_and_some_faults_in_them() {
     let mut generator = Generator::new(3);
-    for shape in Shape::ALL {
-        let sample = marks(shape, 4_096, 1);
+    for layout in Layout::ALL {
+        let sample = marks(layout, 4_096, 1);
         let records = common::foreign_records(&mut generator, First.reel(&sample));
         let mut sheet = three_parts(&sample, &records);
         assert_eq!(check(&sheet), 0);

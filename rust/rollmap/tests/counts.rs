@@ -11,8 +11,8 @@ use common::views::OUTSIDE;
 use common::{
     add, bound, foreign_records, longest, named_parts, number, one_part, rivals, schedule_in,
     scheduled, scheduled_having, scheduled_of, some_marks, some_records, some_room, some_sheet,
-    take_out, three_parts, tied_marks, with_part, with_popups, write_in, Beyond, Lent, Tally,
-    NAMED,
+    take_out, three_parts, tied_marks, with_part, with_popups, write_in, Beyond, Tally, NAMED,
+    SHAPED,
 };
 use oracle::contents::Part;
 use oracle::count::part_6;
@@ -22,10 +22,10 @@ use oracle::process::schedule_in_rank_order;
 use oracle::rank::Edition;
 use oracle::record::{write_records, Record};
 use oracle::sample::{
-    marks, popups, refused_sheets, Generator, Popups, Shape, CODES_TAKEN, P1, P5, P6,
+    marks, popups, refused_sheets, Generator, Layout, Popups, CODES_TAKEN, P1, P5, P6,
     POPUP_EXAMPLES,
 };
-use oracle::sheet::{join, join_parts, split};
+use oracle::sheet::{join, join_parts, part_extent, split};
 use oracle::tree::{self, write_tree};
 use rollmap::{
     Code, Counts, Group, Refusal, View, Zoom, COUNTED_BYTES, COUNTS_BYTES, GROUPS, STOPS,
@@ -187,16 +187,16 @@ fn every_removal_and_every_popup_about_a_stop() {
 }
 
 #[test]
-fn many_sheets_of_every_shape() {
+fn many_sheets_of_every_layout() {
     let mut generator = Generator::new(140);
     let (mut growing, mut falling) = (0, 0);
     for round in 0..1_200 {
-        let shape = Shape::ALL[round % Shape::ALL.len()];
+        let layout = Layout::ALL[round % Layout::ALL.len()];
         let n = generator.below(60) as usize;
         let sample = match round % 4 {
             0 => tied_marks(&mut generator, n),
             1 => rivals(&mut generator, n),
-            _ => marks(shape, n, round as u64),
+            _ => marks(layout, n, round as u64),
         };
         let beyond = some_uncounted(&mut generator, &sample);
         let records = some_records(&mut generator, beyond.reel(&sample));
@@ -211,9 +211,9 @@ fn many_sheets_of_every_shape() {
 
 #[test]
 fn sheets_with_any_parts_beyond_3() {
-    for shape in Shape::ALL {
+    for layout in Layout::ALL {
         for n in [0, 1, 2, 9, 70] {
-            let sample = marks(shape, n, n as u64);
+            let sample = marks(layout, n, n as u64);
             for (named, how) in NAMED.into_iter().cycle().zip(Popups::ALL) {
                 let drawn = popups(how, &sample, 3);
                 for popups in [None, Some(drawn)] {
@@ -254,12 +254,13 @@ fn counting_again_gives_the_same_bytes() {
         becomes_counted(&sheet, &sheet);
         // All other parts are as they were.
         let mut parts = split(&sheet).unwrap().present();
-        parts.pop();
+        parts.retain(|&(code, _)| code != 6);
         becomes_counted(&join_parts(&parts), &sheet);
         // And so are the counts of the sheet that is put together of them all.
         let counts = rollmap::counts(&sheet).unwrap().to_bytes();
         let mut named = named_parts(&parts);
         named.push((Code::Counts, &counts));
+        named.sort_unstable_by_key(|&(code, _)| code);
         assert_eq!(rollmap::assemble_to_vec(&named), Ok(sheet));
     }
 }
@@ -278,6 +279,7 @@ fn every_list_of_codes_is_counted_or_lacks_a_schedule() {
             }
             let mut more = codes.to_vec();
             more.push(6);
+            more.sort_unstable();
             more.dedup();
             becomes_counted(&sheet, &scheduled_of(&more, sample, &popups));
         }
@@ -321,8 +323,8 @@ fn no_marks() {
 #[test]
 fn the_most_marks() {
     let ways = Popups::ALL.into_iter().cycle();
-    for (shape, how) in Shape::ALL.into_iter().zip(ways) {
-        let sample = marks(shape, 4_096, 14);
+    for (layout, how) in Layout::ALL.into_iter().zip(ways) {
+        let sample = marks(layout, 4_096, 14);
         let popping_up = Beyond::popping_up(popups(how, &sample, 14));
         for beyond in [Beyond::named(NAMED[2]), popping_up] {
             let records = schedule_in_rank_order(beyond.reel(&sample));
@@ -331,7 +333,7 @@ fn the_most_marks() {
     }
     // All of one group, and none goes: the largest count that there is.
     for kind in [0, 199] {
-        let mut sample = marks(Shape::Uniform, 4_096, 15);
+        let mut sample = marks(Layout::Uniform, 4_096, 15);
         sample.iter_mut().for_each(|mark| mark.kind = kind);
         let mut expected = [0; GROUPS];
         expected[if kind == 0 { 0 } else { 4 }] = 4_096;
@@ -367,10 +369,11 @@ fn scheduling_renews_the_counts() {
 
 #[test]
 fn the_counts_of_the_largest_sheets_are_renewed() {
-    for shape in [Shape::Uniform, Shape::Clustered, Shape::Reel] {
-        let sample = marks(shape, 4_096, 16);
+    for layout in [Layout::Uniform, Layout::Clustered, Layout::Reel] {
+        let sample = marks(layout, 4_096, 16);
         let popups = Some(popups(Popups::Few, &sample, 16));
         let beyond = Beyond::uncounted(NAMED[2], popups).counted();
+        let beyond = beyond.with_shape(SHAPED[2]);
         assert_eq!(beyond.lengths(4_096), longest());
         becomes_scheduled(&beyond, &sample);
     }
@@ -383,12 +386,13 @@ fn adding_and_taking_out_renew_the_counts() {
         let n = 1 + generator.below(24) as usize;
         let sample = match round % 2 {
             0 => rivals(&mut generator, n),
-            _ => marks(generator.choose(&Shape::ALL), n, round),
+            _ => marks(generator.choose(&Layout::ALL), n, round),
         };
         let m = generator.below(n as u32) as usize;
         let drawn = popups(generator.choose(&Popups::ALL), &sample, round);
         let popups = (generator.below(2) == 0).then_some(drawn);
         let beyond = Beyond::uncounted(generator.choose(&NAMED), popups);
+        let beyond = beyond.with_shape(generator.choose(&SHAPED));
         come_and_go(&beyond.counted(), &sample, m);
     }
     for n in [256, 4_096] {
@@ -403,9 +407,12 @@ fn adding_and_taking_out_renew_the_counts() {
 fn the_buffers_of_its_own_have_room_for_part_6() {
     for named in NAMED {
         for popups in [None, Some(vec![64, 65_536])] {
-            let beyond = Beyond::uncounted(named, popups).counted();
-            let two = come_in_buffers_of_its_own(&beyond, &P5);
-            assert_eq!(rollmap::count_to_vec(&two), Ok(two));
+            for shaped in SHAPED {
+                let beyond = Beyond::uncounted(named, popups.clone()).counted();
+                let beyond = beyond.with_shape(shaped);
+                let two = come_in_buffers_of_its_own(&beyond, &P5);
+                assert_eq!(rollmap::count_to_vec(&two), Ok(two));
+            }
         }
     }
 }
@@ -445,17 +452,6 @@ fn the_judge_takes_counts_along() {
 
 // ---- damaged
 
-/// Putting the parts of a sheet together, which 23 refuses, writes nothing either.
-fn not_put_together(sheet: &[u8]) {
-    let named = named_parts(&split(sheet).unwrap().present());
-    for length in [0, sheet.len()] {
-        let mut out = Lent::new(length, 3);
-        let answer = rollmap::assemble(&named, out.slice());
-        assert_eq!(answer, Err(Refusal::Counts));
-        out.assert_untouched();
-    }
-}
-
 /// Counted sheets of a few marks with every list of codes that has part 6.
 fn small_sheets() -> Vec<Vec<u8>> {
     let samples = [&P1[..], &P5, &[]];
@@ -466,8 +462,9 @@ fn small_sheets() -> Vec<Vec<u8>> {
 #[test]
 fn every_byte_of_part_6_with_every_value() {
     for mut sheet in small_sheets() {
-        assert_eq!(check(&sheet), 0);
-        for at in sheet.len() - COUNTS_BYTES..sheet.len() {
+        let (start, length) = part_extent(&sheet, 6);
+        assert_eq!(length as usize, COUNTS_BYTES);
+        for at in start as usize..(start + length) as usize {
             let own = sheet[at];
             for value in (0..=255).filter(|&value| value != own) {
                 sheet[at] = value;
@@ -475,7 +472,6 @@ fn every_byte_of_part_6_with_every_value() {
             }
             sheet[at] = own ^ 1;
             refused_by_every_job(&sheet, 23);
-            not_put_together(&sheet);
             sheet[at] = own;
         }
         assert_eq!(check(&sheet), 0);
@@ -486,7 +482,8 @@ fn every_byte_of_part_6_with_every_value() {
 fn every_length_of_part_6() {
     for sheet in small_sheets() {
         let mut parts = split(&sheet).unwrap().present();
-        let (_, own) = parts.pop().unwrap();
+        let own = split(&sheet).unwrap().get(6).unwrap();
+        parts.retain(|&(code, _)| code != 6);
         let without = join_parts(&parts);
         for length in (0..COUNTS_BYTES).chain([171, 172, 180, 340, 65_536]) {
             let mut part_6 = own.to_vec();
@@ -495,7 +492,6 @@ fn every_length_of_part_6() {
             assert_eq!(check(&damaged), 23, "{length}");
             if [0, 2, 168, 169, 171, 340].contains(&length) {
                 refused_by_every_job(&damaged, 23);
-                not_put_together(&damaged);
             }
         }
     }
@@ -506,8 +502,9 @@ fn part_6_needs_part_2() {
     for (marks, part_6) in [(&P1[..], &[0; 170][..]), (&[], &[0; 170]), (&[], &[])] {
         let part_1 = write_marks(marks);
         let part_5 = write_popups(&vec![0; marks.len()]);
-        let lists: [&[Part]; 4] = [
+        let lists: [&[Part]; 5] = [
             &[(1, &part_1), (6, part_6)],
+            &[(1, &part_1), (6, part_6), (7, &[2])],
             &[(1, &part_1), (4, &[1]), (6, part_6)],
             &[(1, &part_1), (5, &part_5), (6, part_6)],
             &[(1, &part_1), (3, &[]), (6, part_6)],
@@ -545,7 +542,7 @@ fn many_sheets_with_a_few_faults() {
         let room = some_room(&mut generator, counted);
         numbers.add(count(&sheet, room));
     }
-    numbers.assert_reached((0..=10).chain([13, 19, 21, 23]), 100);
+    numbers.assert_reached((0..=10).chain([13, 19, 21, 23, 24]), 100);
 }
 
 #[test]
@@ -558,7 +555,7 @@ fn the_buffer_of_its_own_is_long_enough() {
         let expected = oracle::count::count(&sheet, usize::MAX);
         numbers.add(assert_made(&sheet, counted, &expected));
     }
-    numbers.assert_reached((0..=10).chain([19, 21, 23]), 10);
+    numbers.assert_reached((0..=10).chain([19, 21, 23, 24]), 10);
 }
 
 // ---- what is asked
@@ -597,13 +594,15 @@ fn a_refused_sheet_gets_its_own_number() {
 }
 
 #[test]
-fn questions_7_19_21_8_9_23_10_and_13_are_put_in_turn() {
+fn questions_7_19_21_24_8_9_23_10_and_13_are_put_in_turn() {
     let part_1 = write_marks(&P1);
     let never = [Record::NEVER; 4];
     let (part_2, part_3) = (write_records(&never), write_tree(&tree::build(&P1, &never)));
     let counts = part_6(Edition::First.reel(&P1), &never);
     let (no_records, no_tree) = ([0; 56], [0; 8]);
     let beyond = write_popups(&[0, 0, 0, 65_537]);
+    let shapes: [(Option<&[u8]>, bool); 3] =
+        [(None, false), (Some(&[2]), false), (Some(&[3]), true)];
     let mut numbers = Tally::default();
     for (records, no_7, no_8) in [
         (Some(&part_2[..]), false, false),
@@ -622,7 +621,11 @@ fn questions_7_19_21_8_9_23_10_and_13_are_put_in_turn() {
                 (None, false),
             ] {
                 for (edition, no_19) in [(1, false), (0, true)] {
-                    for (part_5, no_21) in [(&[0; 16][..], false), (&beyond, true)] {
+                    for ((part_5, no_21), (part_7, no_24)) in
+                        [(&[0; 16][..], false), (&beyond, true)]
+                            .into_iter()
+                            .flat_map(|popups| shapes.map(|shape| (popups, shape)))
+                    {
                         let part_4 = [edition];
                         let all = [
                             Some(&part_1[..]),
@@ -631,6 +634,7 @@ fn questions_7_19_21_8_9_23_10_and_13_are_put_in_turn() {
                             Some(&part_4),
                             Some(part_5),
                             part_6,
+                            part_7,
                         ];
                         let there = (1..).zip(all);
                         let parts = there.filter_map(|(code, body)| Some((code, body?)));
@@ -642,6 +646,7 @@ fn questions_7_19_21_8_9_23_10_and_13_are_put_in_turn() {
                                 (7, no_7),
                                 (19, no_19),
                                 (21, no_21),
+                                (24, no_24),
                                 (8, no_8),
                                 (9, no_9),
                                 (23, no_23),
@@ -656,12 +661,12 @@ fn questions_7_19_21_8_9_23_10_and_13_are_put_in_turn() {
             }
         }
     }
-    numbers.assert_reached([0, 7, 8, 9, 10, 13, 19, 21, 23], 1);
+    numbers.assert_reached([0, 7, 8, 9, 10, 13, 19, 21, 23, 24], 1);
 }
 
 #[test]
 fn question_23_comes_before_those_of_a_view_and_of_changes() {
-    let sample = marks(Shape::Line, 4_096, 5);
+    let sample = marks(Layout::Line, 4_096, 5);
     let never = vec![Record::NEVER; 4_096];
     let full = three_parts(&sample, &never);
     let unindexed = join(&[&write_marks(&sample), &write_records(&never)]);

@@ -16,7 +16,7 @@ use oracle::process::schedule_by_process;
 use oracle::rank::Edition::{self, First, Second};
 use oracle::record::Record;
 use oracle::sample::{
-    each_list, marks, small_choice, Generator, Shape, TIED_IN_TREE, TIED_RECORDS,
+    each_list, marks, small_choice, Generator, Layout, TIED_IN_TREE, TIED_RECORDS,
 };
 use oracle::tree;
 use rollmap::{Code, Turn, View, Zoom};
@@ -79,10 +79,10 @@ fn every_sheet_of_three_marks_from_a_small_choice() {
 }
 
 #[test]
-fn every_shape_of_sheet() {
-    for shape in Shape::ALL {
+fn sheets_of_every_layout() {
+    for layout in Layout::ALL {
         for n in [0, 1, 2, 40, 191, 192, 193, 255, 256, 257, 700] {
-            let mut sample = marks(shape, n, 8);
+            let mut sample = marks(layout, n, 8);
             becomes_scheduled(Some(Second), &sample);
             sample.iter_mut().for_each(|mark| mark.priority &= 1);
             becomes_scheduled(Some(Second), &sample);
@@ -104,8 +104,8 @@ fn sheets_of_a_few_hundred_rivals() {
 fn the_largest_sheets() {
     let mut generator = Generator::new(82);
     becomes_scheduled(Some(Second), &rivals(&mut generator, 4_096));
-    for shape in [Shape::Uniform, Shape::Clustered, Shape::FewHuge] {
-        let mut sample = marks(shape, 4_096, 9);
+    for layout in [Layout::Uniform, Layout::Clustered, Layout::FewHuge] {
+        let mut sample = marks(layout, 4_096, 9);
         sample.iter_mut().for_each(|mark| mark.priority &= 7);
         becomes_scheduled(Some(Second), &sample);
     }

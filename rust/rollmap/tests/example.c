@@ -473,6 +473,80 @@ static void print_counted(const uint8_t *sheet, size_t length)
     printf("part 6 without part 2: %u %u\n", answer.number, answer.value);
 }
 
+/* Two marks that lie 30 apart along x and 40 along y, as disks 50 and as squares 40. */
+static const uint8_t pair[2 * ROLLMAP_MARK_BYTES] = {
+    0,  0, 0,  0, 10, 0, 9, 0, 0, 0, 0, /* (0, 0), 10, 9 */
+    30, 0, 40, 0, 10, 0, 5, 0, 0, 0, 0, /* (30, 40), 10, 5 */
+};
+
+/* What part 7 says. */
+static unsigned shape_of(const uint8_t *sheet, size_t length)
+{
+    return sheet[rollmap_part(sheet, length, ROLLMAP_CODE_SHAPE).offset];
+}
+
+/* A mark comes and goes, and the sheet is counted: part 7 stays, behind all others. */
+static void print_shaped_changes(const uint8_t *sheet, size_t length)
+{
+    uint8_t work[ROLLMAP_WORK_BYTES(3)];
+    uint8_t more[ROLLMAP_SCHEDULED_BYTES(3) + ROLLMAP_SHAPE_BYTES + 1];
+    uint8_t back[ROLLMAP_SCHEDULED_BYTES(2) + ROLLMAP_SHAPE_BYTES + 1];
+    uint8_t counted[ROLLMAP_SCHEDULED_BYTES(2) + ROLLMAP_SHAPE_BYTES + ROLLMAP_COUNTED_BYTES + 1];
+    struct rollmap_answer answer;
+
+    memset(more, 0xee, sizeof more);
+    memset(counted, 0xee, sizeof counted);
+    answer = rollmap_add(sheet, length, 1, 2, 3, 4, 5, 6, ROLLMAP_NO_POPUP, work, sizeof work, more, sizeof more);
+    printf("add: %u %u, then %02x, part 7 at %u: %u", answer.number, answer.value, more[answer.value],
+           rollmap_part(more, answer.value, ROLLMAP_CODE_SHAPE).offset, shape_of(more, answer.value));
+    answer = rollmap_take_out(more, answer.value, 2, work, sizeof work, back, sizeof back);
+    printf(", take it out: %u %u, the same %d\n", answer.number, answer.value,
+           memcmp(back, sheet, length) == 0);
+    answer = rollmap_count(sheet, length, counted, sizeof counted);
+    printf("count: %u %u, then %02x, part 6 at %u, part 7 at %u: %u\n", answer.number, answer.value,
+           counted[answer.value], rollmap_part(counted, answer.value, ROLLMAP_CODE_COUNTS).offset,
+           rollmap_part(counted, answer.value, ROLLMAP_CODE_SHAPE).offset,
+           shape_of(counted, answer.value));
+}
+
+/* At zoom 5 both shapes reach 50 along x and along y, but only squares the corner of that.
+   Squares take no turn. */
+static void print_shape(uint8_t shape)
+{
+    static const uint16_t codes[2] = {ROLLMAP_CODE_MARKS, ROLLMAP_CODE_SHAPE};
+    uint8_t sheet[ROLLMAP_CONTENTS_BYTES(1) + sizeof pair + ROLLMAP_SHAPE_BYTES];
+    uint8_t work[ROLLMAP_WORK_BYTES(2)];
+    uint8_t out[ROLLMAP_SCHEDULED_BYTES(2) + ROLLMAP_SHAPE_BYTES + 1];
+    uint8_t map[2] = {0xee, 0xee};
+    struct rollmap_body rows[2];
+    struct rollmap_answer answer;
+    size_t length;
+
+    memset(out, 0xee, sizeof out);
+    rows[0].bytes = pair;
+    rows[0].length = sizeof pair;
+    rows[1].bytes = &shape;
+    rows[1].length = 1;
+    answer = rollmap_assemble(codes, 2, rows, 2, sheet, sizeof sheet);
+    printf("shape %u: %u %u", shape, answer.number, answer.value);
+    if (answer.number != ROLLMAP_SUCCESS) {
+        printf("\n");
+        return;
+    }
+    answer = rollmap_schedule(sheet, sizeof sheet, work, sizeof work, out, sizeof out - 2);
+    printf(", in a short buffer %u %u", answer.number, answer.value);
+    answer = rollmap_schedule(sheet, sizeof sheet, work, sizeof work, out, sizeof out);
+    length = answer.value;
+    printf(", scheduled %u %u, then %02x, part 7 at %u: %u\n", answer.number, answer.value, out[length],
+           rollmap_part(out, length, ROLLMAP_CODE_SHAPE).offset, shape_of(out, length));
+    print_record(out, length, 1);
+    answer = rollmap_view_wheel(out, length, -99, -50, -99, -50, ROLLMAP_NO_TURN, 5, map, 1);
+    print_view("wheel 5, the corner", answer, map);
+    answer = rollmap_view_wheel(out, length, -99, 99, -99, 99, 1, 1, map, 1);
+    print_view("wheel 1, turn 1", answer, map);
+    print_shaped_changes(out, length);
+}
+
 int main(void)
 {
     uint8_t sheet[ROLLMAP_CONTENTS_BYTES(1) + sizeof marks];
@@ -506,5 +580,8 @@ int main(void)
     print_logs();
     print_columns();
     print_counted(out, sizeof out - 1);
+    print_shape(ROLLMAP_SHAPE_DISK);
+    print_shape(ROLLMAP_SHAPE_SQUARE);
+    print_shape(3);
     return 0;
 }

@@ -1,18 +1,19 @@
-//! Marks, records, editions, popups and counts by their fields, compared with the oracle's.
+//! Marks, records, editions, popups, counts and shapes by their fields, compared with the
+//! oracle's.
 
 mod common;
 
 use common::{
-    bound, one_part, our_records, scheduled, three_parts, with_part, with_part_4, with_popups,
-    Beyond,
+    bound, one_part, our_records, scheduled, three_parts, with_part, with_part_4, with_part_7,
+    with_popups, Beyond, SHAPED,
 };
 use oracle::count::read_counts;
 use oracle::fraction::Removal;
 use oracle::popup::write_popups;
-use oracle::sample::{marks, popups, Popups, Shape, P1};
+use oracle::sample::{marks, popups, Layout, Popups, P1};
 use rollmap::{
-    marks_to_vec, popups_to_vec, Code, Counts, Edition, Group, Mark, Record, GROUPS, NO_POPUP,
-    STOPS,
+    marks_to_vec, popups_to_vec, Code, Counts, Edition, Group, Mark, Record, Shape, GROUPS,
+    NO_POPUP, STOPS,
 };
 
 /// A record of the oracle as the bindings have it.
@@ -29,9 +30,9 @@ fn bound_record(record: &oracle::record::Record) -> Record {
 
 #[test]
 fn marks_and_records_are_the_oracles() {
-    for shape in Shape::ALL {
+    for layout in Layout::ALL {
         for n in [0, 1, 2, 100] {
-            let marks = marks(shape, n, 8);
+            let marks = marks(layout, n, 8);
             let records = our_records(&marks);
             let sheet = three_parts(&marks, &records);
 
@@ -48,8 +49,8 @@ fn marks_and_records_are_the_oracles() {
 
 #[test]
 fn written_marks_are_part_1() {
-    for shape in Shape::ALL {
-        let sheet = one_part(&marks(shape, 50, 9));
+    for layout in Layout::ALL {
+        let sheet = one_part(&marks(layout, 50, 9));
         let own: Vec<Mark> = rollmap::marks(&sheet).unwrap().collect();
         assert_eq!(
             rollmap::part(&sheet, Code::Marks),
@@ -85,9 +86,9 @@ fn a_sheet_goes_by_the_edition_that_part_4_names() {
 
 #[test]
 fn popups_are_the_oracles() {
-    for shape in Shape::ALL {
+    for layout in Layout::ALL {
         for n in [0, 1, 2, 100] {
-            let sample = marks(shape, n, 8);
+            let sample = marks(layout, n, 8);
             let drawn = popups(Popups::Any, &sample, 8);
             let beyond = Beyond::popping_up(drawn.clone());
             for sheet in [beyond.bare(&sample), beyond.scheduled(&sample)] {
@@ -122,9 +123,9 @@ fn without_part_5_every_mark_is_there_from_the_start() {
 
 #[test]
 fn counts_are_the_oracles() {
-    for shape in Shape::ALL {
+    for layout in Layout::ALL {
         for n in [0, 1, 2, 100] {
-            let sample = marks(shape, n, 8);
+            let sample = marks(layout, n, 8);
             let beyond = Beyond::popping_up(popups(Popups::Any, &sample, 8)).counted();
             for sheet in [beyond.bare(&sample), beyond.scheduled(&sample)] {
                 let part_6 = rollmap::part(&sheet, Code::Counts).unwrap();
@@ -153,6 +154,32 @@ fn a_sheet_without_part_6_has_no_counts() {
     let counted = Beyond::default().counted().scheduled(&P1);
     assert!(rollmap::counts(&counted).is_some());
     assert_eq!(rollmap::counts(&counted[1..]), None);
+}
+
+#[test]
+fn a_sheet_has_the_shape_that_part_7_names() {
+    for sheet in [one_part(&P1), scheduled(&P1), scheduled(&[])] {
+        assert_eq!(rollmap::shape(&sheet), Some(Shape::Disk));
+        assert_eq!(rollmap::part(&sheet, Code::Shape), None);
+        for shape in [Shape::Disk, Shape::Square] {
+            let named = with_part_7(&sheet, &shape.to_bytes());
+            assert_eq!(rollmap::shape(&named), Some(shape));
+            let part_7 = rollmap::part(&named, Code::Shape);
+            assert_eq!(part_7, Some(&shape.to_bytes()[..]));
+        }
+        for part_7 in [&[][..], &[0], &[3], &[1, 2]] {
+            assert_eq!(rollmap::shape(&with_part_7(&sheet, part_7)), None);
+        }
+        assert_eq!(rollmap::shape(&sheet[1..]), None);
+    }
+    // The bytes are the oracle's.
+    for (shape, own) in SHAPED[1..]
+        .iter()
+        .flatten()
+        .zip([Shape::Disk, Shape::Square])
+    {
+        assert_eq!(shape.write(), own.to_bytes());
+    }
 }
 
 #[test]

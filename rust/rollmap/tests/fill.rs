@@ -10,7 +10,7 @@ use common::{
 use oracle::fill::old_radius;
 use oracle::mark::{read_marks, write_marks, Mark};
 use oracle::record::{write_records, Record};
-use oracle::sample::{marks, Generator, Shape};
+use oracle::sample::{marks, Generator, Layout};
 use oracle::sheet::{join, split};
 use oracle::tree;
 use rollmap::{Code, Refusal, MARK_BYTES};
@@ -64,14 +64,14 @@ fn every_kind_with_some_radii() {
 
 #[test]
 fn every_length_of_the_marks_and_of_the_written_buffer() {
-    let part_1 = write_marks(&marks(Shape::Uniform, 5, 1));
+    let part_1 = write_marks(&marks(Layout::Uniform, 5, 1));
     every_length(fill, &part_1, AS_WIDE);
 }
 
 #[test]
 fn the_most_marks() {
     let mut generator = Generator::new(1);
-    let mut sample = marks(Shape::Uniform, 4_096, 4);
+    let mut sample = marks(Layout::Uniform, 4_096, 4);
     for mark in &mut sample {
         mark.radius = generator.choose(&[0, 0, mark.radius]);
     }
@@ -204,7 +204,7 @@ fn what_the_other_parts_hold_plays_no_part_in_a_rescue() {
         assert_eq!(rollmap::rescue(&join(&[&part_1, &junk])), expected);
         let three = join(&[&part_1, &junk, &junk]);
         assert_eq!(rollmap::rescue(&three), expected);
-        for code in [4, 5, 6] {
+        for code in [4, 5, 6, 7] {
             assert_eq!(rollmap::rescue(&with_part(&three, code, &junk)), expected);
         }
     }

@@ -2,7 +2,7 @@
 
 mod common;
 
-use common::{one_part, with_part_4, with_popups, Beyond};
+use common::{one_part, with_part_4, with_part_7, with_popups, Beyond};
 use oracle::mark::{house_radius, Mark};
 use oracle::sample::{CODES_TAKEN, P1};
 use rollmap::{schedule_to_vec, Code};
@@ -69,9 +69,19 @@ fn the_codes_are_those_of_the_text() {
         let words: Vec<String> = codes.iter().map(u16::to_string).collect();
         words.join(", ")
     };
-    let lists: Vec<String> = CODES_TAKEN.iter().map(list).collect();
+    // Each list has a fellow with 7 at its end.
+    let (with_7, without): (Vec<&[u16]>, Vec<&[u16]>) =
+        CODES_TAKEN.iter().partition(|codes| codes.contains(&7));
+    assert!(with_7
+        .iter()
+        .all(|codes| without.contains(&&codes[..codes.len() - 1])));
+    assert_eq!(with_7.len(), without.len());
+    let lists: Vec<String> = without.iter().map(list).collect();
     let (last, others) = lists.split_last().expect("there are lists");
-    let sentence = format!("So the codes are {}; or {last}.", others.join("; "));
+    let sentence = format!(
+        "So the codes are {}; or {last}; each of these lists also with 7 at its end.",
+        others.join("; ")
+    );
     assert!(FORMAT.contains(&sentence), "{sentence}");
     let code = |code: &Code| format!("\n| {} | the ", code.number());
     assert!(Code::ALL.iter().all(|it| FORMAT.contains(&code(it))));
@@ -95,6 +105,10 @@ fn a_scheduled_sheet_is_as_long_as_the_text_says() {
         let all = with_part_4(&with_popups(&given, popups), &[2]);
         let all = rollmap::count_to_vec(&schedule_to_vec(&all).unwrap()).unwrap();
         assert_eq!(length(&all), 53 + 31 * n + 180);
+        let shaped = with_part_7(&given, &[2]);
+        assert_eq!(length(&shaped), 43 + 27 * n);
+        let whole = with_part_7(&all, &[1]);
+        assert_eq!(length(&whole), 64 + 31 * n + 180);
     }
 }
 

@@ -7,18 +7,19 @@ use std::process::{Command, Stdio};
 
 use common::jobs::records;
 use common::{
-    bound, one_part, rivals, some_records, three_parts, with_part_4, with_popups, Beyond, PROGRAM,
+    bound, one_part, rivals, some_records, three_parts, with_part_4, with_part_7, with_popups,
+    Beyond, PROGRAM,
 };
 use oracle::mark::{read_marks, touching_value, Mark};
 use oracle::record::{read_records, removals, Record};
-use oracle::sample::{marks, popups, Generator, Popups, Shape, P1};
+use oracle::sample::{marks, popups, Generator, Layout, Popups, P1};
 use oracle::turn::turned_marks;
 use oracle::view::{map_and_count, Edges};
 use oracle::zoom::remains;
 use rollmap::{
     add_to_vec, count_to_vec, from_columns_vec, map_bytes, popups_bytes, schedule_to_vec,
     scheduled_bytes, take_out_to_vec, to_columns_vec, view_to_map, work_bytes, Code, Counts,
-    Edition, Group, Refusal, Turn, View, Work, Zoom, EDITION_BYTES, NO_POPUP,
+    Edition, Group, Refusal, Shape, Turn, View, Work, Zoom, EDITION_BYTES, NO_POPUP, SHAPE_BYTES,
 };
 
 const GUARDS: &str = include_str!("../../../docs/GUARDS.md");
@@ -33,15 +34,20 @@ fn scheduled_by(edition: Edition, marks: &[Mark]) -> Vec<u8> {
     schedule_to_vec(&with_part_4(&one_part(marks), &edition.to_bytes())).unwrap()
 }
 
+/// The sheet of these marks with a shape named, as scheduling writes it.
+fn scheduled_as(shape: Shape, marks: &[Mark]) -> Vec<u8> {
+    schedule_to_vec(&with_part_7(&one_part(marks), &shape.to_bytes())).unwrap()
+}
+
 /// The sheet of these marks with these popups, as scheduling writes it.
 fn scheduled_popping_up(marks: &[Mark], popups: &[u32]) -> Vec<u8> {
     schedule_to_vec(&with_popups(&one_part(marks), popups)).unwrap()
 }
 
-/// The sheets of a sample of every shape, without popups and with popups of every kind.
+/// The sheets of a sample of every layout, without popups and with popups of every kind.
 fn sheets_of_every_kind(n: usize, seed: u64) -> Vec<(Vec<u8>, Vec<Mark>)> {
     let mut sheets = Vec::new();
-    for sample in Shape::ALL.map(|shape| marks(shape, n, seed)) {
+    for sample in Layout::ALL.map(|layout| marks(layout, n, seed)) {
         let drawn = Popups::ALL.map(|how| popups(how, &sample, seed));
         let popping_up = drawn.map(|popups| scheduled_popping_up(&sample, &popups));
         let all = [scheduled(&sample)].into_iter().chain(popping_up);
@@ -71,9 +77,14 @@ fn wheel(k: u32) -> Zoom {
     Zoom::Wheel(k as f32 / 64.0)
 }
 
-/// Whether two marks touch at k / 64.
+/// Whether two marks touch at k / 64, as disks.
 fn touch(a: &Mark, b: &Mark, k: u64) -> bool {
-    let value = touching_value(a, b);
+    touch_as(oracle::shape::Shape::Disk, a, b, k)
+}
+
+/// Whether two marks touch at k / 64, as labels of a shape.
+fn touch_as(shape: oracle::shape::Shape, a: &Mark, b: &Mark, k: u64) -> bool {
+    let value = touching_value(shape, a, b);
     4_096 * value.numerator <= k * k * u64::from(value.denominator)
 }
 
@@ -100,7 +111,7 @@ fn every_test_that_the_page_names_is_here() {
     let sentences = GUARDS.lines().filter_map(|line| line.split_once("Test: "));
     let named = cells.chain(sentences.map(|(_, name)| name.trim_end_matches('.')));
     let names: Vec<&str> = named.flat_map(|names| names.split(", ")).collect();
-    assert_eq!(names.len(), 37);
+    assert_eq!(names.len(), 42);
     for name in names {
         let test = format!("#[test]\nfn {}()", name.trim_matches('`'));
         assert!(own.contains(&test), "{name}");
@@ -175,8 +186,8 @@ fn the_cut_list_reads_part_1() {
         }
     }
     // No mark is missing in part 1, whatever the sheet.
-    for shape in Shape::ALL {
-        let marks = marks(shape, 200, 3);
+    for layout in Layout::ALL {
+        let marks = marks(layout, 200, 3);
         let (given, sheet) = (one_part(&marks), scheduled(&marks));
         assert_eq!(
             rollmap::part(&sheet, Code::Marks),
@@ -365,12 +376,12 @@ fn text_of(sheet: &[u8]) -> String {
 
 #[test]
 fn the_program_prints_2000_marks_and_part_2_has_the_rest() {
-    for shape in Shape::ALL {
-        let given = marks(shape, 2_000, 6);
+    for layout in Layout::ALL {
+        let given = marks(layout, 2_000, 6);
         assert_eq!(printed(&one_part(&given)), text_of(&scheduled(&given)));
     }
     for n in [2_001, 4_096] {
-        let given = marks(Shape::Clustered, n, 6);
+        let given = marks(Layout::Clustered, n, 6);
         assert_eq!(printed(&one_part(&given)), "refused 14\n");
         let text = text_of(&scheduled(&given));
         assert_eq!(text.lines().count(), n + 1);
@@ -404,7 +415,7 @@ fn the_printed_zoom_is_the_nearest_64th() {
     assert!(shown(&sheet, wheel(319)).contains(&1));
     assert!(!shown(&sheet, wheel(320)).contains(&1));
     // One 64th below the printed zoom a mark lives, and one above it is gone.
-    let sheet = scheduled(&marks(Shape::Clustered, 60, 8));
+    let sheet = scheduled(&marks(Layout::Clustered, 60, 8));
     for (m, record) in (0..).zip(rollmap::records(&sheet).unwrap()) {
         let rollmap::Record::Removed {
             numerator,
@@ -518,7 +529,7 @@ fn a_view_is_the_full_scan() {
 #[test]
 fn the_value_is_the_number_of_set_bits() {
     for n in [1, 7, 8, 9, 100] {
-        let sheet = scheduled(&marks(Shape::Clustered, n, 8));
+        let sheet = scheduled(&marks(Layout::Clustered, n, 8));
         for stop in 0..=16 {
             let mut map = vec![0xff; map_bytes(n) + 3];
             let view = View::whole(Zoom::Stop(stop));
@@ -533,8 +544,8 @@ fn the_value_is_the_number_of_set_bits() {
 
 #[test]
 fn a_stop_and_its_wheel_value_show_the_same() {
-    for shape in Shape::ALL {
-        let sheet = scheduled(&marks(shape, 100, 9));
+    for layout in Layout::ALL {
+        let sheet = scheduled(&marks(layout, 100, 9));
         for stop in 0..=16 {
             let by_stop = view_to_map(&sheet, View::whole(Zoom::Stop(stop)));
             let by_wheel = view_to_map(&sheet, View::whole(wheel(1 << stop)));
@@ -558,7 +569,7 @@ fn an_old_map_is_lent_as_it_is() {
 #[test]
 fn a_turned_view_needs_no_turned_sheet() {
     for turn in Turn::ALL {
-        let places = marks(Shape::Clustered, 120, 5);
+        let places = marks(Layout::Clustered, 120, 5);
         let sheet = scheduled(&places);
         let copy = scheduled(&turned_marks(turn.quarters(), &places).unwrap());
         for k in [1, 64, 1_000] {
@@ -593,8 +604,8 @@ fn one_mark_is_asked_for_by_its_number() {
 
 #[test]
 fn a_change_is_scheduling_by_hand() {
-    for shape in Shape::ALL {
-        let marks = marks(shape, 60, 10);
+    for layout in Layout::ALL {
+        let marks = marks(layout, 60, 10);
         let (&last, others) = marks.split_last().unwrap();
         assert_eq!(
             add_to_vec(&scheduled(others), bound(&last), NO_POPUP),
@@ -618,7 +629,7 @@ fn a_change_is_scheduling_by_hand() {
 
 #[test]
 fn changes_as_they_come_are_the_merged_list() {
-    let marks = marks(Shape::Grid, 20, 11);
+    let marks = marks(Layout::Grid, 20, 11);
     let mut sheet = scheduled(&marks[..10]);
     for mark in &marks[10..] {
         sheet = add_to_vec(&sheet, bound(mark), NO_POPUP).unwrap();
@@ -673,8 +684,8 @@ fn an_addition_is_taken_back_by_taking_out_the_last_mark() {
         let last = rollmap::mark_count(sheet).unwrap();
         take_out_to_vec(&more, last as u32).unwrap()
     };
-    for shape in Shape::ALL {
-        let sheet = scheduled(&marks(shape, 40, 12));
+    for layout in Layout::ALL {
+        let sheet = scheduled(&marks(layout, 40, 12));
         assert_eq!(there_and_back(&sheet), sheet);
     }
     let foreign = three_parts(&P1, &[Record::NEVER; 4]);
@@ -716,7 +727,7 @@ fn a_refused_change_leaves_the_old_sheet() {
     // The sheet has no part 5.
     let added = rollmap::add(&sheet, bound(&P1[0]), 7, Work(&mut work), &mut out);
     assert_eq!(added, Err(Refusal::Popups));
-    let full = three_parts(&marks(Shape::Line, 4_096, 13), &[Record::NEVER; 4_096]);
+    let full = three_parts(&marks(Layout::Line, 4_096, 13), &[Record::NEVER; 4_096]);
     let added = rollmap::add(&full, bound(&P1[0]), 7, Work(&mut work), &mut out);
     assert_eq!(added, Err(Refusal::Full));
     assert_eq!(out, before);
@@ -785,6 +796,114 @@ fn an_unknown_edition_is_refused() {
             let view = View::whole(Zoom::Stop(0));
             assert_eq!(view_to_map(&damaged, view), Err(Refusal::Edition));
         }
+    }
+}
+
+// ---- panels that draw squares
+
+#[test]
+fn shown_squares_do_not_overlap() {
+    for sample in Layout::ALL.map(|layout| marks(layout, 150, 5)) {
+        let sheet = scheduled_as(Shape::Square, &sample);
+        let squares = oracle::shape::Shape::Square;
+        for stop in 0..=16 {
+            let shown = shown(&sheet, Zoom::Stop(stop));
+            for (at, &a) in shown.iter().enumerate() {
+                let a = &sample[a as usize];
+                let apart = |&b: &u32| !touch_as(squares, a, &sample[b as usize], 1 << stop);
+                assert!(shown[at + 1..].iter().all(apart));
+            }
+        }
+    }
+    // A sheet of disks, drawn as squares, shows some that do.
+    let pair = [Mark::plain(0, 0, 10, 9), Mark::plain(30, 40, 10, 5)];
+    let [disks, squares] = [Shape::Disk, Shape::Square].map(|it| scheduled_as(it, &pair));
+    assert!(touch_as(
+        oracle::shape::Shape::Square,
+        &pair[0],
+        &pair[1],
+        130
+    ));
+    assert_eq!(shown(&disks, wheel(130)), [0, 1]);
+    assert_eq!(shown(&squares, wheel(130)), [0]);
+}
+
+#[test]
+fn a_square_at_the_corner_of_the_screen_is_shown() {
+    let label = [Mark::plain(0, 0, 10, 0)];
+    let corner = View {
+        x0: 50,
+        y0: 50,
+        ..View::whole(wheel(320))
+    };
+    let count = |sheet: &[u8], view| view_to_map(sheet, view).unwrap().count();
+    let [disks, squares] = [Shape::Disk, Shape::Square].map(|it| scheduled_as(it, &label));
+    assert_eq!([&disks, &squares].map(|sheet| count(sheet, corner)), [0, 1]);
+    let beyond = View { x0: 51, ..corner };
+    assert_eq!(count(&squares, beyond), 0);
+}
+
+#[test]
+fn a_sheet_names_its_own_shape_and_keeps_it() {
+    for shape in [Shape::Disk, Shape::Square] {
+        let sheet = scheduled_as(shape, &marks(Layout::Grid, 30, 3));
+        assert_eq!(rollmap::shape(&sheet), Some(shape));
+        let more = add_to_vec(&sheet, bound(&P1[0]), NO_POPUP).unwrap();
+        assert_eq!(rollmap::shape(&more), Some(shape));
+        let fewer = take_out_to_vec(&more, 0).unwrap();
+        assert_eq!(rollmap::shape(&fewer), Some(shape));
+        let counted = count_to_vec(&sheet).unwrap();
+        assert_eq!(rollmap::shape(&counted), Some(shape));
+        // Its bytes are asked for: the length without part 7 is too short.
+        let (mut work, mut out) = (vec![0; work_bytes(30)], vec![0; scheduled_bytes(30)]);
+        let short = rollmap::schedule(&sheet, Work(&mut work), &mut out);
+        assert_eq!(short, Err(Refusal::Buffer));
+        out.resize(scheduled_bytes(30) + SHAPE_BYTES, 0);
+        let written = rollmap::schedule(&sheet, Work(&mut work), &mut out);
+        assert_eq!(written, Ok(out.len()));
+    }
+    // Old reels have none, and are disks.
+    let old = scheduled(&P1);
+    assert_eq!(rollmap::part(&old, Code::Shape), None);
+    assert_eq!(rollmap::shape(&old), Some(Shape::Disk));
+    assert_eq!(rollmap::shape(&old[1..]), None);
+}
+
+#[test]
+fn another_shape_is_another_schedule() {
+    let pair = [Mark::plain(0, 0, 10, 9), Mark::plain(30, 40, 10, 5)];
+    let disks = scheduled_as(Shape::Disk, &pair);
+    let part = |code| (code, rollmap::part(&disks, code).unwrap());
+    let [marks_part, schedule, index] = [Code::Marks, Code::Schedule, Code::Index].map(part);
+    let squares = Shape::Square.to_bytes();
+    // With the old schedule, part 7 alone is not exchanged.
+    let exchanged = [marks_part, schedule, index, (Code::Shape, &squares)];
+    assert_eq!(rollmap::assemble_to_vec(&exchanged), Err(Refusal::Schedule));
+    // The marks are put together with it, and scheduled.
+    let afresh = rollmap::assemble_to_vec(&[marks_part, (Code::Shape, &squares)]).unwrap();
+    let sheet = schedule_to_vec(&afresh).unwrap();
+    assert_eq!(sheet, scheduled_as(Shape::Square, &pair));
+    for part_7 in [&[][..], &[0], &[3], &[255], &[2, 2]] {
+        let damaged = with_part_7(&scheduled(&P1), part_7);
+        assert_eq!(rollmap::check(&damaged), Err(Refusal::Shape));
+    }
+}
+
+#[test]
+fn squares_are_not_turned() {
+    let [disks, squares] = [Shape::Disk, Shape::Square].map(|it| scheduled_as(it, &P1));
+    for turn in Turn::ALL {
+        let asked = View {
+            turn,
+            ..View::whole(wheel(1))
+        };
+        assert_eq!(view_to_map(&disks, asked).map(|map| map.count()), Ok(4));
+        let expected = match turn {
+            Turn::None => Ok(4),
+            _ => Err(Refusal::Window),
+        };
+        let shown = view_to_map(&squares, asked).map(|map| map.count());
+        assert_eq!(shown, expected);
     }
 }
 
@@ -857,8 +976,8 @@ fn a_mark_that_is_not_there_yet_is_told_from_one_that_is_gone() {
 
 #[test]
 fn a_sheet_keeps_its_popups() {
-    let drawn = popups(Popups::Any, &marks(Shape::Grid, 30, 3), 3);
-    let sheet = scheduled_popping_up(&marks(Shape::Grid, 30, 3), &drawn);
+    let drawn = popups(Popups::Any, &marks(Layout::Grid, 30, 3), 3);
+    let sheet = scheduled_popping_up(&marks(Layout::Grid, 30, 3), &drawn);
     let own = |sheet: &[u8]| -> Vec<u32> { rollmap::popups(sheet).unwrap().collect() };
     assert_eq!(own(&sheet), drawn);
     let more = add_to_vec(&sheet, bound(&P1[0]), 640).unwrap();

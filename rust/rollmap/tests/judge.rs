@@ -6,8 +6,8 @@ mod common;
 use common::jobs::first_no;
 use common::{
     bound, foreign_records, number, one_part, rivals, scheduled, scheduled_having, scheduled_of,
-    some_marks, some_records, some_sheet, three_parts, tied_marks, with_part_4, with_popups,
-    Beyond, Lent, Tally, NAMED,
+    some_marks, some_records, some_sheet, three_parts, tied_marks, with_part_4, with_part_7,
+    with_popups, Beyond, Lent, Tally, NAMED, SHAPED,
 };
 use oracle::count::part_6;
 use oracle::mark::{write_marks, Mark};
@@ -18,8 +18,9 @@ use oracle::record::{read_records, write_records, Record};
 use oracle::reel::Reel;
 use oracle::sample::{
     each_list, each_schedule, fitting_records, marks, popups, refused_sheets, small_choice,
-    Generator, Popups, Shape, CODES_TAKEN, JUDGED_EXAMPLES, P1, P5, TOGETHER,
+    Generator, JudgedExample, Layout, Popups, CODES_TAKEN, JUDGED_EXAMPLES, P1, P5, TOGETHER,
 };
+use oracle::shape::Shape;
 use oracle::sheet::{join, join_parts};
 use oracle::tree;
 use rollmap::{Refusal, NO_POPUP};
@@ -49,15 +50,24 @@ fn judge_records(beyond: &Beyond, marks: &[Mark], records: &[Record]) -> u32 {
     judge(&beyond.with_records(marks, records))
 }
 
-/// The parts beyond 3 of every kind for some marks: without and with part 4, and with popups
-/// of every kind.
+/// The parts beyond 3 of every kind for some marks: without and with parts 4 and 7, and with
+/// popups of every kind.
 fn every_beyond(marks: &[Mark], seed: u64) -> Vec<Beyond> {
     let mut all = NAMED.map(Beyond::named).to_vec();
-    for (named, how) in NAMED.into_iter().cycle().zip(Popups::ALL) {
+    all.push(Beyond::shaped(SHAPED[2]));
+    let shapes = SHAPED.into_iter().rev().cycle();
+    for ((named, shaped), how) in NAMED.into_iter().cycle().zip(shapes).zip(Popups::ALL) {
         let popups = Some(popups(how, marks, seed));
-        all.push(Beyond::uncounted(named, popups));
+        all.push(Beyond::uncounted(named, popups).with_shape(shaped));
     }
     all
+}
+
+/// The parts beyond 3 of an example: part 4, part 5 where it has popups, and part 7.
+fn beyond_of(example: &JudgedExample) -> Beyond {
+    let popups = example.popups.map(<[u32]>::to_vec);
+    let beyond = Beyond::uncounted(Some(example.edition), popups);
+    beyond.with_shape(Some(example.shape))
 }
 
 /// Some marks, of which many tie.
@@ -65,14 +75,14 @@ fn some_tied_marks(generator: &mut Generator, n: usize) -> Vec<Mark> {
     match generator.below(3) {
         0 => tied_marks(generator, n),
         1 => rivals(generator, n),
-        _ => marks(Shape::Grid, n, generator.draw()),
+        _ => marks(Layout::Grid, n, generator.draw()),
     }
 }
 
-/// Marks of some shape in one round of so many, and in the others some that tie.
+/// Marks of some layout in one round of so many, and in the others some that tie.
 fn some_of_round(generator: &mut Generator, n: usize, round: u64, one_in: u64) -> Vec<Mark> {
     match round % one_in {
-        0 => marks(generator.choose(&Shape::ALL), n, round),
+        0 => marks(generator.choose(&Layout::ALL), n, round),
         _ => some_tied_marks(generator, n),
     }
 }
@@ -83,14 +93,15 @@ fn some_of_round(generator: &mut Generator, n: usize, round: u64, one_in: u64) -
 fn worked_examples() {
     for example in JUDGED_EXAMPLES {
         let expected = if example.accepted { 0 } else { 22 };
-        let popups = example.popups.map(<[u32]>::to_vec);
-        let beyond = Beyond::uncounted(Some(example.edition), popups);
+        let beyond = beyond_of(&example);
         let sheet = beyond.with_records(example.marks, example.records);
         assert_eq!(rollmap::check(&sheet), Ok(()));
         assert_eq!(judge(&sheet), expected, "{example:?}");
         if example.edition == Edition::First {
+            let shaped = beyond.shaped.filter(|&shape| shape == Shape::Square);
             let unnamed = Beyond {
                 named: None,
+                shaped,
                 ..beyond
             };
             let number = judge_records(&unnamed, example.marks, example.records);
@@ -114,9 +125,9 @@ fn marks_that_touch_are_not_removed_together() {
 
 #[test]
 fn nobody_but_the_highest_ranked_stays() {
-    for shape in Shape::ALL {
+    for layout in Layout::ALL {
         for n in 0..12 {
-            let sample = marks(shape, n, 2);
+            let sample = marks(layout, n, 2);
             for beyond in every_beyond(&sample, 2) {
                 let never = vec![Record::NEVER; n];
                 let expected = if n < 2 { 0 } else { 22 };
@@ -153,9 +164,9 @@ fn accepts_scheduled(beyond: &Beyond, marks: &[Mark]) {
 
 #[test]
 fn every_scheduled_sheet_of_few_marks_is_accepted() {
-    for shape in Shape::ALL {
+    for layout in Layout::ALL {
         for seed in 0..60 {
-            let mut sample = marks(shape, seed as usize % 20, seed);
+            let mut sample = marks(layout, seed as usize % 20, seed);
             if seed % 3 == 0 {
                 sample.iter_mut().for_each(|mark| mark.priority &= 1);
             }
@@ -169,8 +180,8 @@ fn every_scheduled_sheet_of_few_marks_is_accepted() {
 #[test]
 fn every_number_of_marks_up_to_a_hundred() {
     for n in 0..100 {
-        for shape in [Shape::Grid, Shape::Uniform, Shape::Extreme] {
-            let sample = marks(shape, n, 5);
+        for layout in [Layout::Grid, Layout::Uniform, Layout::Extreme] {
+            let sample = marks(layout, n, 5);
             let popping_up = Beyond::popping_up(popups(Popups::Any, &sample, 5));
             for beyond in [Beyond::default(), popping_up] {
                 accepts_scheduled(&beyond, &sample);
@@ -182,9 +193,9 @@ fn every_number_of_marks_up_to_a_hundred() {
 #[test]
 fn scheduled_sheets_of_a_few_hundred_marks_are_accepted() {
     let mut generator = Generator::new(120);
-    for shape in Shape::ALL {
+    for layout in Layout::ALL {
         for n in [191, 256, 300, 511, 512, 513] {
-            let sample = marks(shape, n, 8);
+            let sample = marks(layout, n, 8);
             accepts_scheduled(&Beyond::default(), &sample);
             accepts_scheduled(&Beyond::draw(&mut generator, &sample), &sample);
         }
@@ -194,12 +205,12 @@ fn scheduled_sheets_of_a_few_hundred_marks_are_accepted() {
 #[test]
 fn the_largest_scheduled_sheets_are_accepted() {
     let ways = Popups::ALL.into_iter().cycle();
-    for (shape, how) in Shape::ALL.into_iter().zip(ways) {
-        let sample = marks(shape, 4_096, 9);
+    for (layout, how) in Layout::ALL.into_iter().zip(ways) {
+        let sample = marks(layout, 4_096, 9);
         let popping_up = Beyond::popping_up(popups(how, &sample, 9));
         for beyond in [Beyond::default(), Beyond::named(NAMED[2]), popping_up] {
             let sheet = rollmap::schedule_to_vec(&beyond.bare(&sample)).unwrap();
-            assert_eq!(judge_by_scheduling(&sheet), 0, "{shape:?}");
+            assert_eq!(judge_by_scheduling(&sheet), 0, "{layout:?}");
         }
     }
 }
@@ -212,7 +223,7 @@ fn what_adding_and_taking_out_write_is_accepted() {
         let beyond = Beyond::draw(&mut generator, &sample);
         let records = some_records(&mut generator, beyond.reel(&sample));
         let sheet = beyond.with_records(&sample, &records);
-        let new = marks(generator.choose(&Shape::ALL), 1, generator.draw())[0];
+        let new = marks(generator.choose(&Layout::ALL), 1, generator.draw())[0];
         let popup = match beyond.popups {
             Some(_) => generator.choose(&[0, 64, 65_536]),
             None => NO_POPUP,
@@ -230,9 +241,9 @@ fn what_adding_and_taking_out_write_is_accepted() {
 #[test]
 fn of_all_schedules_that_question_8_takes_ours_alone_is_accepted() {
     let mut numbers = Tally::default();
-    for shape in Shape::ALL {
+    for layout in Layout::ALL {
         for seed in 0..12 {
-            let mut sample = marks(shape, 1 + seed as usize % 5, seed);
+            let mut sample = marks(layout, 1 + seed as usize % 5, seed);
             if seed % 2 == 0 {
                 sample.iter_mut().for_each(|mark| mark.priority &= 1);
             }
@@ -427,7 +438,7 @@ fn schedules_of_some_other_kind() {
 }
 
 #[test]
-fn schedules_by_another_edition_and_other_popups() {
+fn schedules_by_another_edition_other_popups_and_another_shape() {
     let mut generator = Generator::new(126);
     let mut numbers = Tally::default();
     for _ in 0..6_000 {
@@ -440,7 +451,7 @@ fn schedules_by_another_edition_and_other_popups() {
     numbers.assert_reached([0, 8, 22], 500);
 }
 
-// ---- many marks, and shapes that are hard to search
+// ---- many marks, and layouts that are hard to search
 
 /// Judges our schedule of some marks and a few that differ from it in one record.
 fn judge_ours_and_changed(generator: &mut Generator, beyond: &Beyond, marks: &[Mark], few: usize) {
@@ -452,7 +463,7 @@ fn judge_ours_and_changed(generator: &mut Generator, beyond: &Beyond, marks: &[M
 
 /// Marks anywhere, of which those of these numbers have radii near the largest.
 fn with_large(generator: &mut Generator, n: usize, large: &[usize]) -> Vec<Mark> {
-    let mut sample = marks(Shape::Uniform, n, generator.draw());
+    let mut sample = marks(Layout::Uniform, n, generator.draw());
     for &m in large {
         sample[m].radius = 16_383 - generator.below(40) as u16;
     }
@@ -480,7 +491,7 @@ fn radii_of_every_size() {
     let mut generator = Generator::new(128);
     for n in [2, 9, 60, 400] {
         for most in [1, 3, 14] {
-            let mut sample = marks(Shape::Uniform, n, generator.draw());
+            let mut sample = marks(Layout::Uniform, n, generator.draw());
             for mark in &mut sample {
                 mark.radius = 1 << generator.below(most);
             }
@@ -494,15 +505,15 @@ fn radii_of_every_size() {
 #[test]
 fn one_place_one_line_and_huge_radii() {
     let mut generator = Generator::new(129);
-    for shape in [
-        Shape::OnePlace,
-        Shape::Line,
-        Shape::HugeRadius,
-        Shape::FewHuge,
-        Shape::Extreme,
+    for layout in [
+        Layout::OnePlace,
+        Layout::Line,
+        Layout::HugeRadius,
+        Layout::FewHuge,
+        Layout::Extreme,
     ] {
         for n in [2, 3, 40, 600] {
-            let sample = marks(shape, n, 3);
+            let sample = marks(layout, n, 3);
             let drawn = Beyond::draw(&mut generator, &sample);
             for beyond in [Beyond::default(), drawn] {
                 judge_ours_and_changed(&mut generator, &beyond, &sample, 8);
@@ -523,12 +534,12 @@ fn one_place_one_line_and_huge_radii() {
 fn a_vertical_line_and_a_cross() {
     let mut generator = Generator::new(130);
     for n in [3, 50, 300] {
-        let mut sample = marks(Shape::Line, n, 6);
+        let mut sample = marks(Layout::Line, n, 6);
         for mark in &mut sample {
             (mark.x, mark.y) = (mark.y, mark.x);
         }
         judge_ours_and_changed(&mut generator, &Beyond::default(), &sample, 10);
-        sample.extend(marks(Shape::Line, n, 6));
+        sample.extend(marks(Layout::Line, n, 6));
         judge_ours_and_changed(&mut generator, &Beyond::default(), &sample, 10);
     }
 }
@@ -570,8 +581,8 @@ fn equal_priorities_in_both_editions() {
 fn one_record_that_is_not_ours_among_the_most_marks() {
     let mut generator = Generator::new(133);
     let mut refused = 0;
-    for shape in Shape::ALL {
-        let sample = marks(shape, 4_096, 10);
+    for layout in Layout::ALL {
+        let sample = marks(layout, 4_096, 10);
         for beyond in [Beyond::default(), Beyond::draw(&mut generator, &sample)] {
             let reel = beyond.reel(&sample);
             let ours = schedule_in_rank_order(reel);
@@ -592,8 +603,8 @@ fn one_record_that_is_not_ours_among_the_most_marks() {
 #[test]
 fn some_of_the_largest_sheets_by_all_pairs() {
     let mut generator = Generator::new(134);
-    for shape in [Shape::Clustered, Shape::Grid] {
-        let sample = marks(shape, 4_096, 11);
+    for layout in [Layout::Clustered, Layout::Grid] {
+        let sample = marks(layout, 4_096, 11);
         let beyond = Beyond::draw(&mut generator, &sample);
         judge_ours_and_changed(&mut generator, &beyond, &sample, 1);
         let records = foreign_records(&mut generator, beyond.reel(&sample));
@@ -609,7 +620,7 @@ fn small_sheets() -> Vec<Vec<u8>> {
         P1.to_vec(),
         Vec::new(),
         P5.to_vec(),
-        marks(Shape::Extreme, 3, 5),
+        marks(Layout::Extreme, 3, 5),
     ];
     samples.map(|sample| scheduled_having(3, &sample)).concat()
 }
@@ -634,14 +645,15 @@ fn every_byte_of_small_sheets_with_every_value() {
             for value in (0..=255).filter(|&value| value != own) {
                 sheet[at] = value;
                 let number = judge(&sheet);
-                // What is accepted has other marks, another edition or other popups.
+                // What is accepted has other marks, another edition, other popups or another
+                // shape.
                 assert!(number != 0 || given(&sheet) != own_parts, "{at} {value}");
                 numbers.add(number);
             }
             sheet[at] = own;
         }
     }
-    numbers.assert_reached([0, 1, 2, 3, 5, 6, 8, 9, 10, 19, 21, 22, 23], 0);
+    numbers.assert_reached([0, 1, 2, 3, 5, 6, 8, 9, 10, 19, 21, 22, 23, 24], 0);
 }
 
 #[test]
@@ -661,9 +673,7 @@ fn every_length_of_small_sheets() {
 fn every_byte_of_schedules_that_are_not_ours() {
     let mut numbers = Tally::default();
     for example in JUDGED_EXAMPLES.iter().filter(|example| !example.accepted) {
-        let popups = example.popups.map(<[u32]>::to_vec);
-        let beyond = Beyond::uncounted(Some(example.edition), popups);
-        let mut sheet = beyond.with_records(example.marks, example.records);
+        let mut sheet = beyond_of(example).with_records(example.marks, example.records);
         for at in 0..sheet.len() {
             let own = sheet[at];
             for value in [0, 1, 2, 5, 64, 200, 255, own ^ 1, own ^ 4, own ^ 128] {
@@ -673,7 +683,7 @@ fn every_byte_of_schedules_that_are_not_ours() {
             sheet[at] = own;
         }
     }
-    numbers.assert_reached([0, 1, 2, 3, 5, 6, 8, 9, 19, 21, 22], 10);
+    numbers.assert_reached([0, 1, 2, 3, 5, 6, 8, 9, 19, 21, 22, 23, 24], 10);
 }
 
 #[test]
@@ -683,14 +693,14 @@ fn many_sheets_with_a_few_faults() {
     for _ in 0..40_000 {
         numbers.add(judge(&some_sheet(&mut generator)));
     }
-    numbers.assert_reached((0..=10).chain([19, 21, 22, 23]), 100);
+    numbers.assert_reached((0..=10).chain([19, 21, 22, 23, 24]), 100);
 }
 
 #[test]
 fn a_scheduled_sheet_with_a_bit_changed() {
     let mut generator = Generator::new(136);
-    for shape in Shape::ALL {
-        let sample = marks(shape, 150, 12);
+    for layout in Layout::ALL {
+        let sample = marks(layout, 150, 12);
         let beyond = Beyond::draw(&mut generator, &sample);
         let mut sheet = beyond.scheduled(&sample);
         let own_parts = given(&sheet);
@@ -699,7 +709,7 @@ fn a_scheduled_sheet_with_a_bit_changed() {
             let bit = 1 << generator.below(8);
             sheet[at] ^= bit;
             let accepted = judge(&sheet) == 0;
-            assert!(!accepted || given(&sheet) != own_parts, "{shape:?} {at}");
+            assert!(!accepted || given(&sheet) != own_parts, "{layout:?} {at}");
             sheet[at] ^= bit;
         }
         assert_eq!(judge(&sheet), 0);
@@ -732,7 +742,7 @@ fn a_sheet_without_part_2_or_part_3_gets_10() {
 }
 
 #[test]
-fn questions_7_19_21_8_9_23_10_and_22_are_put_in_turn() {
+fn questions_7_19_21_24_8_9_23_10_and_22_are_put_in_turn() {
     let part_1 = write_marks(&P1);
     let ours = schedule_in_rank_order(Edition::First.reel(&P1));
     let tree_of = |records: &[Record]| tree::write_tree(&tree::build(&P1, records));
@@ -756,20 +766,25 @@ fn questions_7_19_21_8_9_23_10_and_22_are_put_in_turn() {
             (None, false),
         ] {
             for (part_4, no_19) in [(&[1][..], false), (&[2], false), (&[0], true), (&[], true)] {
-                for ((k, no_21), (part_6, no_23)) in [(0, false), (65_537, true)]
+                let shapes: [(Option<&[u8]>, bool); 3] =
+                    [(None, false), (Some(&[2]), false), (Some(&[0]), true)];
+                for (((k, no_21), (part_7, no_24)), (part_6, no_23)) in [(0, false), (65_537, true)]
                     .into_iter()
-                    .flat_map(|popup| counts_of(&records).map(|counts| (popup, counts)))
+                    .flat_map(|popup| shapes.map(|shape| (popup, shape)))
+                    .flat_map(|both| counts_of(&records).map(|counts| (both, counts)))
                 {
                     let part_5 = write_popups(&[0, 0, 0, k]);
                     let mut parts = vec![(1, &part_1[..]), (2, &records), (4, part_4)];
                     parts.extend(part_3.map(|part_3| (3, part_3.as_slice())));
                     parts.push((5, &part_5));
                     parts.extend(part_6.as_ref().map(|part_6| (6, part_6.as_slice())));
+                    parts.extend(part_7.map(|part_7| (7, part_7)));
                     parts.sort_unstable_by_key(|&(code, _)| code);
                     let expected = first_no(&[
                         (7, no_7),
                         (19, no_19),
                         (21, no_21),
+                        (24, no_24),
                         (8, no_8),
                         (9, no_9),
                         (23, no_23),
@@ -783,7 +798,7 @@ fn questions_7_19_21_8_9_23_10_and_22_are_put_in_turn() {
             }
         }
     }
-    numbers.assert_reached([0, 7, 8, 9, 10, 19, 21, 22, 23], 1);
+    numbers.assert_reached([0, 7, 8, 9, 10, 19, 21, 22, 23, 24], 1);
 }
 
 /// No part 6 for P1 with these records, that of its counts, and another one; with what 23
@@ -798,10 +813,12 @@ fn counts_of(part_2: &[u8]) -> [(Option<Vec<u8>>, bool); 3] {
 }
 
 #[test]
-fn parts_4_and_5_of_an_accepted_sheet_may_change_where_nothing_goes_by_them() {
+fn parts_4_5_and_7_of_an_accepted_sheet_may_change_where_nothing_goes_by_them() {
     let ours = scheduled(&P1);
     assert_eq!(judge(&with_part_4(&ours, &[1])), 0);
     assert_eq!(judge(&with_part_4(&ours, &[2])), 0);
+    assert_eq!(judge(&with_part_7(&ours, &[1])), 0);
+    assert_eq!(judge(&with_part_7(&ours, &[2])), 0);
     assert_eq!(judge(&with_popups(&ours, &[0; 4])), 0);
     assert_eq!(judge(&with_popups(&ours, &[0, 320, 0, 0])), 0);
     assert_eq!(judge(&with_popups(&ours, &[0, 321, 0, 0])), 8);

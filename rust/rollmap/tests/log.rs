@@ -6,7 +6,7 @@ use common::jobs::every_length;
 use common::{damage_rows, some_marks, some_room, turn, Tally, FAULTS_OF_A_MARK};
 use oracle::log::write_packed;
 use oracle::mark::{write_marks, Mark};
-use oracle::sample::{marks, Generator, Shape};
+use oracle::sample::{marks, Generator, Layout};
 use rollmap::{LOG_RECORD_BYTES, MARK_BYTES};
 
 fn log_to_marks(log: &[u8], out_length: usize, seed: u64) -> u32 {
@@ -122,7 +122,7 @@ fn a_record_is_asked_by_x_y_kind_and_radius_before_the_next_one() {
 
 #[test]
 fn every_length_of_the_input_and_of_the_written_buffer() {
-    let sample = marks(Shape::Uniform, 4, 1);
+    let sample = marks(Layout::Uniform, 4, 1);
     let (part_1, log) = (write_marks(&sample), log_of(&sample));
     every_length(log_to_marks, &log, [LOG_RECORD_BYTES, MARK_BYTES]);
     every_length(marks_to_log, &part_1, [MARK_BYTES, LOG_RECORD_BYTES]);
@@ -130,7 +130,7 @@ fn every_length_of_the_input_and_of_the_written_buffer() {
 
 #[test]
 fn the_most_records() {
-    let sample = marks(Shape::Uniform, 4_096, 5);
+    let sample = marks(Layout::Uniform, 4_096, 5);
     let (part_1, log) = (write_marks(&sample), log_of(&sample));
     assert_eq!(log_to_marks(&log, 45_056, 1), 0);
     assert_eq!(log_to_marks(&log, 45_055, 2), 13);
@@ -173,9 +173,9 @@ fn many_logs_and_marks_with_a_few_faults() {
 #[test]
 fn accepted_logs_and_marks_come_back_byte_for_byte() {
     let mut generator = Generator::new(42);
-    for shape in Shape::ALL {
+    for layout in Layout::ALL {
         for n in [0, 1, 2, 30] {
-            let mut sample = marks(shape, n, n as u64);
+            let mut sample = marks(layout, n, n as u64);
             for mark in &mut sample {
                 mark.radius = generator.choose(&[0, mark.radius]);
                 mark.tag = generator.draw() as u16;

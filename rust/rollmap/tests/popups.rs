@@ -16,10 +16,11 @@ use oracle::fraction::{Fraction, Removal};
 use oracle::mark::{touching_value, write_marks, Mark};
 use oracle::popup::{read_popups, write_popups};
 use oracle::process::{schedule_by_process, schedule_in_rank_order};
+use oracle::rank::Edition::First;
 use oracle::record::{removals, write_records, Record};
 use oracle::rules::{keep_both, Breach};
 use oracle::sample::{
-    each_list, marks, popups, small_choice, Generator, PopupExample, Popups, Shape, P1, P5,
+    each_list, marks, popups, small_choice, Generator, Layout, PopupExample, Popups, P1, P5,
     POPUP_EXAMPLES,
 };
 use oracle::sheet::{join, join_parts, open};
@@ -33,11 +34,11 @@ fn popping_up(how: Popups, marks: &[Mark], seed: u64) -> Beyond {
     Beyond::popping_up(popups(how, marks, seed))
 }
 
-/// Calls `visit` with samples of every shape that pop up in every way, and a seed.
+/// Calls `visit` with samples of every layout that pop up in every way, and a seed.
 fn each_sample(n: impl Fn(u64) -> usize, seeds: u64, mut visit: impl FnMut(&[Mark], &[u32], u64)) {
-    for shape in Shape::ALL {
+    for layout in Layout::ALL {
         for (seed, how) in (0..seeds).flat_map(|seed| Popups::ALL.map(|how| (seed, how))) {
-            let sample = marks(shape, n(seed), seed);
+            let sample = marks(layout, n(seed), seed);
             visit(&sample, &popups(how, &sample, seed), seed);
         }
     }
@@ -123,7 +124,7 @@ fn an_equal_popup_keeps_the_numbers_of_the_touching_value() {
     ] {
         let two = [Mark::plain(0, 0, radius, 1), Mark::plain(d, 0, radius, 0)];
         let k = 32 * u32::from(d.unsigned_abs()) / u32::from(radius);
-        let touching = touching_value(&two[0], &two[1]);
+        let touching = First.reel(&two).pair_value(0, 1);
         assert!(touching.compare(zoom_squared(k)).is_eq());
         for (popups, value) in [
             ([0, 0], touching),
@@ -218,12 +219,12 @@ fn every_sheet_of_three_marks_from_a_small_choice() {
 
 #[test]
 fn sheets_about_the_number_from_which_cells_are_used() {
-    for (shape, how) in Shape::ALL
+    for (layout, how) in Layout::ALL
         .into_iter()
-        .flat_map(|shape| Popups::ALL.map(|how| (shape, how)))
+        .flat_map(|layout| Popups::ALL.map(|how| (layout, how)))
     {
         for n in [40, 191, 192, 193, 255, 256, 257, 500] {
-            let sample = marks(shape, n, 8);
+            let sample = marks(layout, n, 8);
             becomes_scheduled(&popping_up(how, &sample, 8), &sample);
         }
     }
@@ -231,15 +232,15 @@ fn sheets_about_the_number_from_which_cells_are_used() {
 
 #[test]
 fn the_largest_sheets() {
-    for shape in [Shape::Uniform, Shape::Clustered, Shape::FewHuge] {
-        let sample = marks(shape, 4_096, 9);
+    for layout in [Layout::Uniform, Layout::Clustered, Layout::FewHuge] {
+        let sample = marks(layout, 4_096, 9);
         for how in Popups::ALL {
             let beyond = popping_up(how, &sample, 9);
             let (bare, ours) = (beyond.bare(&sample), beyond.scheduled(&sample));
             schedule(&bare, beyond.lengths(4_096), Ok(&ours));
         }
     }
-    let sample = marks(Shape::OnePlace, 4_096, 9);
+    let sample = marks(Layout::OnePlace, 4_096, 9);
     let popups = Some(popups(Popups::Any, &sample, 9));
     let named = NAMED[2];
     becomes_scheduled(&Beyond::uncounted(named, popups), &sample);
@@ -248,9 +249,9 @@ fn the_largest_sheets() {
 #[test]
 fn where_every_popup_is_0_all_is_as_without_part_5_but_for_its_own_bytes() {
     let mut generator = Generator::new(111);
-    for shape in Shape::ALL {
+    for layout in Layout::ALL {
         for n in [0, 1, 2, 30, 300] {
-            let sample = marks(shape, n, 4);
+            let sample = marks(layout, n, 4);
             for named in NAMED {
                 let zeros = Some(vec![NO_POPUP; n]);
                 let [bare, popping_up] = [None, zeros].map(|popups| {
@@ -305,15 +306,15 @@ fn a_list_keeps_both_rules_exactly_if_it_is_ours() {
     let mut generator = Generator::new(113);
     let (mut changed, mut by_touching) = (0, 0);
     for round in 0..600 {
-        let shape = generator.choose(&Shape::ALL);
-        let sample = marks(shape, 1 + round % 9, round as u64);
+        let layout = generator.choose(&Layout::ALL);
+        let sample = marks(layout, 1 + round % 9, round as u64);
         let beyond = Beyond::draw(&mut generator, &sample);
         let reel = beyond.reel(&sample);
         let sheet = rollmap::schedule_to_vec(&beyond.bare(&sample)).unwrap();
         let ours = removals(&records(&sheet));
         assert_eq!(keep_both(reel, &ours), Ok(()));
         // Whoever leaves the popups aside names another list, or the same values.
-        let without = Beyond::named(beyond.named);
+        let without = Beyond::named(beyond.named).with_shape(beyond.shaped);
         let others = removals(&schedule_in_rank_order(without.reel(&sample)));
         let same = ours
             .iter()
@@ -325,7 +326,7 @@ fn a_list_keeps_both_rules_exactly_if_it_is_ours() {
             let other = generator.below(sample.len() as u32) as usize;
             for value in [
                 Removal::Never,
-                Removal::At(touching_value(&sample[m], &sample[other])),
+                Removal::At(touching_value(reel.shape, &sample[m], &sample[other])),
                 Removal::At(zoom_squared(reel.popup(m))),
                 Removal::At(zoom_squared(reel.popup(m) + 1)),
                 Removal::At(reel.pair_value(m, other)),
@@ -444,7 +445,7 @@ fn the_popup_of_either_mark_counts_in_a_record() {
 #[test]
 fn a_damaged_part_5_is_refused_by_every_job() {
     for n in [0, 1, 2, 9] {
-        let sample = marks(Shape::Grid, n, 5);
+        let sample = marks(Layout::Grid, n, 5);
         let whole = write_popups(&vec![3; n]);
         let mut damaged = vec![[whole.as_slice(), &[0]].concat(), vec![0; 4 * n + 4]];
         if n > 0 {
@@ -623,7 +624,7 @@ fn a_scheduled_sheet_comes_back_byte_for_byte() {
         let sample = rivals(&mut generator, n);
         let beyond = Beyond::draw(&mut generator, &sample);
         let sheet = rollmap::schedule_to_vec(&beyond.bare(&sample)).unwrap();
-        let new = marks(generator.choose(&Shape::ALL), 1, generator.draw())[0];
+        let new = marks(generator.choose(&Layout::ALL), 1, generator.draw())[0];
         let popup = match beyond.popups {
             Some(_) => generator.choose(&[0, 1, 64, 640, 65_535, 65_536]),
             None => NO_POPUP,
@@ -659,7 +660,7 @@ fn a_popup_without_part_5_is_refused() {
 
 #[test]
 fn questions_18_5_6_21_and_13_are_put_in_turn() {
-    let line = marks(Shape::Line, 4_096, 5);
+    let line = marks(Layout::Line, 4_096, 5);
     let never = vec![Record::NEVER; 4_096];
     let sheet_of = |n: usize, part_5: bool| {
         let beyond = Beyond::uncounted(None, part_5.then(|| vec![0; n]));

@@ -12,13 +12,13 @@ use std::thread;
 
 use common::{
     foreign_records, one_part, rivals, scheduled, scheduled_with, some_sheet, three_parts,
-    with_named, with_part, with_part_4, with_popups, Beyond, NAMED, PROGRAM,
+    with_named, with_part, with_part_4, with_part_7, with_popups, Beyond, NAMED, PROGRAM, SHAPED,
 };
 use oracle::mark::{write_marks, Mark};
 use oracle::rank::Edition::{First, Second};
 use oracle::record::{write_records, Record};
 use oracle::report::{LONGEST_INPUT, MOST_PRINTED};
-use oracle::sample::{marks, popups, Generator, Popups, Shape, P1};
+use oracle::sample::{marks, popups, Generator, Layout, Popups, DIAGONAL, P1};
 use oracle::sheet::join;
 
 /// The sheet that `rt` runs the program on, and the text that it must write.
@@ -137,7 +137,7 @@ fn a_long_input_gets_14_before_all_else() {
 
 #[test]
 fn many_marks_get_14_after_all_else() {
-    let many = |n| marks(Shape::Extreme, n, 3);
+    let many = |n| marks(Layout::Extreme, n, 3);
     assert!(run(&one_part(&many(MOST_PRINTED))).starts_with("marks 2000\n"));
     assert_eq!(run(&one_part(&many(MOST_PRINTED + 1))), "refused 14\n");
     assert_eq!(run(&with_unknown_kind(many(MOST_PRINTED))), "refused 5\n");
@@ -145,10 +145,10 @@ fn many_marks_get_14_after_all_else() {
 }
 
 #[test]
-fn every_shape_of_sheet() {
-    for shape in Shape::ALL {
+fn sheets_of_every_layout() {
+    for layout in Layout::ALL {
         for n in [1, 2, 3, 10, 100, 600] {
-            run(&one_part(&marks(shape, n, n as u64)));
+            run(&one_part(&marks(layout, n, n as u64)));
         }
     }
 }
@@ -164,8 +164,8 @@ fn sheets_with_and_without_faults() {
 #[test]
 fn the_schedule_is_worked_out_afresh() {
     let mut generator = Generator::new(15);
-    for shape in Shape::ALL {
-        let marks = marks(shape, 40, 2);
+    for layout in Layout::ALL {
+        let marks = marks(layout, 40, 2);
         let records = foreign_records(&mut generator, First.reel(&marks));
         let text = run(&three_parts(&marks, &records));
         assert_eq!(text, run(&one_part(&marks)));
@@ -198,7 +198,7 @@ fn a_sheet_of_another_edition_is_refused() {
             assert_eq!(run(&with_part_4(&sheet, part_4)), "refused 19\n");
         }
     }
-    let many = one_part(&marks(Shape::Grid, MOST_PRINTED + 1, 1));
+    let many = one_part(&marks(Layout::Grid, MOST_PRINTED + 1, 1));
     assert_eq!(run(&with_part_4(&many, &[0])), "refused 19\n");
     assert_eq!(run(&with_part_4(&many, &[2])), "refused 14\n");
 }
@@ -231,7 +231,7 @@ fn a_sheet_with_a_damaged_part_5_is_refused() {
             assert_eq!(run(&with_part(&sheet, 5, part_5)), "refused 21\n");
         }
     }
-    let many = one_part(&marks(Shape::Grid, MOST_PRINTED + 1, 1));
+    let many = one_part(&marks(Layout::Grid, MOST_PRINTED + 1, 1));
     assert_eq!(run(&with_part(&many, 5, &[])), "refused 21\n");
     let popups = [9; MOST_PRINTED + 1];
     assert_eq!(run(&with_popups(&many, &popups)), "refused 14\n");
@@ -257,12 +257,12 @@ fn nothing_is_printed_of_the_counts() {
         // With a schedule that is not ours, and its counts, too.
         assert_eq!(run(&counted.bare(&marks)), text);
     }
-    // All six parts of the most marks that are printed.
-    let marks = marks(Shape::Uniform, MOST_PRINTED, 8);
+    // All seven parts of the most marks that are printed.
+    let marks = marks(Layout::Uniform, MOST_PRINTED, 8);
     let popups = Some(vec![9; MOST_PRINTED]);
     let all = Beyond::uncounted(NAMED[2], popups).counted();
-    let sheet = all.scheduled(&marks);
-    assert_eq!(sheet.len(), 62_233);
+    let sheet = all.with_shape(SHAPED[2]).scheduled(&marks);
+    assert_eq!(sheet.len(), 62_244);
     assert!(run(&sheet).starts_with("marks 2000\n"));
 }
 
@@ -287,7 +287,7 @@ fn a_sheet_with_a_damaged_part_6_is_refused() {
     }
     assert_eq!(run(&with_part(&one_part(&P1), 6, &[0; 170])), "refused 2\n");
     // Too many marks come after all else.
-    let many = marks(Shape::Grid, MOST_PRINTED + 1, 1);
+    let many = marks(Layout::Grid, MOST_PRINTED + 1, 1);
     let sheet = two_parts(&many);
     assert_eq!(run(&with_part(&sheet, 6, &[0; 170])), "refused 23\n");
     let counted = Beyond::default().counted().bare(&many);
@@ -295,8 +295,45 @@ fn a_sheet_with_a_damaged_part_6_is_refused() {
 }
 
 #[test]
+fn a_sheet_is_printed_by_its_own_shape() {
+    let sheet = one_part(&DIAGONAL);
+    let disks = "marks 3\n0 -\n1 0 7200 400 272\n2 1 4225 400 208\n";
+    assert_eq!(run(&sheet), disks);
+    assert_eq!(run(&with_part_7(&sheet, &[1])), disks);
+    let squares = "marks 3\n0 -\n1 0 3600 400 192\n2 0 15625 400 400\n";
+    assert_eq!(run(&with_part_7(&sheet, &[2])), squares);
+    let mut generator = Generator::new(19);
+    for shaped in SHAPED {
+        for n in [0, 1, 2, 9, 200, MOST_PRINTED] {
+            let marks = rivals(&mut generator, n);
+            let beyond = Beyond::draw(&mut generator, &marks).with_shape(shaped);
+            let text = run(&beyond.bare(&marks));
+            assert_eq!(text, run(&beyond.scheduled(&marks)));
+        }
+    }
+}
+
+#[test]
+fn a_sheet_with_a_damaged_part_7_is_refused() {
+    for sheet in [one_part(&P1), scheduled(&P1), one_part(&[])] {
+        for part_7 in [&[][..], &[0], &[3], &[255], &[1, 1]] {
+            assert_eq!(run(&with_part_7(&sheet, part_7)), "refused 24\n");
+        }
+    }
+    // Question 21 comes before it, and 8 and 14 after it.
+    let late = with_part(&one_part(&P1), 5, &[]);
+    assert_eq!(run(&with_part_7(&late, &[0])), "refused 21\n");
+    let unfit = join(&[&write_marks(&P1), &[0; 56]]);
+    assert_eq!(run(&with_part_7(&unfit, &[0])), "refused 24\n");
+    assert_eq!(run(&with_part_7(&unfit, &[2])), "refused 8\n");
+    let many = one_part(&marks(Layout::Grid, MOST_PRINTED + 1, 1));
+    assert_eq!(run(&with_part_7(&many, &[0])), "refused 24\n");
+    assert_eq!(run(&with_part_7(&many, &[2])), "refused 14\n");
+}
+
+#[test]
 fn an_input_that_comes_in_pieces() {
-    let sheet = one_part(&marks(Shape::Clustered, 1_500, 4));
+    let sheet = one_part(&marks(Layout::Clustered, 1_500, 4));
     let text = run(&sheet);
     for piece in [1, 11, 4_095, 4_096, 4_097] {
         assert_eq!(run_in_pieces(&sheet, piece), text);
@@ -356,7 +393,7 @@ fn a_write_that_fails_is_told() {
 fn a_write_that_is_cut_short_is_told() {
     let folder = Path::new(env!("CARGO_TARGET_TMPDIR"));
     let (sheet, out) = (folder.join("cut_short_sheet"), folder.join("cut_short"));
-    let input = one_part(&marks(Shape::Uniform, 500, 6));
+    let input = one_part(&marks(Layout::Uniform, 500, 6));
     fs::write(&sheet, &input).unwrap();
     // The file takes one block, and the signal that goes with it is ignored.
     let output = Command::new("sh")
@@ -396,7 +433,7 @@ fn the_script_tells_by_its_status() {
 #[test]
 fn the_stack_that_the_readme_names_is_enough() {
     let sheet = Path::new(env!("CARGO_TARGET_TMPDIR")).join("stack_sheet");
-    let input = one_part(&marks(Shape::Extreme, MOST_PRINTED, 7));
+    let input = one_part(&marks(Layout::Extreme, MOST_PRINTED, 7));
     fs::write(&sheet, &input).unwrap();
     let output = Command::new("sh")
         .args(["-c", "ulimit -s 512; exec \"$0\""])

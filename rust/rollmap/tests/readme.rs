@@ -7,7 +7,7 @@ use std::path::{Path, PathBuf};
 use std::process::Command;
 
 use oracle::mark::write_marks;
-use oracle::sample::{marks, Shape};
+use oracle::sample::{marks, Layout};
 use oracle::sheet::join;
 
 /// The archive that this crate was built with.
@@ -52,7 +52,7 @@ fn the_example_in_c() {
 
 #[test]
 fn the_sample_begins_as_the_readme_says() {
-    let sheet = join(&[&write_marks(&marks(Shape::Clustered, 300, 1))]);
+    let sheet = join(&[&write_marks(&marks(Layout::Clustered, 300, 1))]);
     let text = oracle::report::print(&sheet);
     assert!(text.starts_with(blocks("text")[0]));
 }

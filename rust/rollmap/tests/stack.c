@@ -1,5 +1,6 @@
 /* Prints how many bytes of stack each call takes on 4,096 marks of the second edition, which pop
-   up all over, and which are counted once there is a schedule: it runs on a stack of which every byte has a known value beforehand. */
+   up all over, which are counted once there is a schedule, and of which the shape is what its
+   input says: it runs on a stack of which every byte has a known value beforehand. */
 #define _POSIX_C_SOURCE 200809L
 #include <pthread.h>
 #include <stdio.h>
@@ -12,13 +13,15 @@
 #define STACK_BYTES ((size_t)256 * 1024)
 #define OWN_BYTES 256 /* what the painting function itself has below its last local */
 
-/* Bytes of the scheduled sheet of n marks with parts 4 and 5, and with part 6. */
-#define WHOLE_BYTES(n) (ROLLMAP_SCHEDULED_BYTES(n) + ROLLMAP_EDITION_BYTES + ROLLMAP_POPUPS_BYTES(n))
+/* Bytes of parts 4, 5 and 7 of n marks; of their scheduled sheet with these; and with part 6. */
+#define KEPT_BYTES(n) (ROLLMAP_EDITION_BYTES + ROLLMAP_POPUPS_BYTES(n) + ROLLMAP_SHAPE_BYTES)
+#define WHOLE_BYTES(n) (ROLLMAP_SCHEDULED_BYTES(n) + KEPT_BYTES(n))
 #define COUNTED_BYTES(n) (WHOLE_BYTES(n) + ROLLMAP_COUNTED_BYTES)
 
 static uint8_t marks[N * ROLLMAP_MARK_BYTES];
 static uint8_t popups[N * ROLLMAP_POPUP_BYTES];
-static uint8_t sheet[ROLLMAP_CONTENTS_BYTES(1) + sizeof marks + ROLLMAP_EDITION_BYTES + ROLLMAP_POPUPS_BYTES(N)];
+static uint8_t shape[1];
+static uint8_t sheet[ROLLMAP_CONTENTS_BYTES(1) + sizeof marks + KEPT_BYTES(N)];
 static uint8_t work[ROLLMAP_WORK_BYTES(N)];
 static uint8_t whole[WHOLE_BYTES(N)];
 static uint8_t out[COUNTED_BYTES(N)], again[COUNTED_BYTES(N)];
@@ -30,12 +33,19 @@ static uint8_t columns[sizeof marks];
 
 static uint32_t assemble(void)
 {
-    static const uint16_t codes[3] = {ROLLMAP_CODE_MARKS, ROLLMAP_CODE_EDITION, ROLLMAP_CODE_POPUPS};
+    static const uint16_t codes[4] = {ROLLMAP_CODE_MARKS, ROLLMAP_CODE_EDITION, ROLLMAP_CODE_POPUPS,
+                                      ROLLMAP_CODE_SHAPE};
     static const uint8_t edition[1] = {ROLLMAP_EDITION_SECOND};
-    const struct rollmap_body bodies[3] = {
-        {marks, sizeof marks}, {edition, sizeof edition}, {popups, sizeof popups}};
+    const struct rollmap_body bodies[4] = {{marks, sizeof marks}, {edition, sizeof edition},
+                                           {popups, sizeof popups}, {shape, sizeof shape}};
 
-    return rollmap_assemble(codes, 3, bodies, 3, sheet, sizeof sheet).number;
+    return rollmap_assemble(codes, 4, bodies, 4, sheet, sizeof sheet).number;
+}
+
+/* A turn that is taken. */
+static uint8_t turn(void)
+{
+    return shape[0] == ROLLMAP_SHAPE_DISK ? 3 : ROLLMAP_NO_TURN;
 }
 
 static uint32_t schedule(void)
@@ -75,12 +85,12 @@ static uint32_t judge(void)
 
 static uint32_t view_stop(void)
 {
-    return rollmap_view_stop(out, sizeof out, -32768, 32768, -32768, 32768, 3, 0, map, sizeof map).number;
+    return rollmap_view_stop(out, sizeof out, -32768, 32768, -32768, 32768, turn(), 0, map, sizeof map).number;
 }
 
 static uint32_t view_wheel(void)
 {
-    return rollmap_view_wheel(out, sizeof out, -32768, 32768, -32768, 32768, 3, 1, map, sizeof map).number;
+    return rollmap_view_wheel(out, sizeof out, -32768, 32768, -32768, 32768, turn(), 1, map, sizeof map).number;
 }
 
 static uint32_t walk(void)
@@ -186,6 +196,8 @@ int main(void)
     size_t i;
 
     fill_marks();
+    if (fread(shape, 1, sizeof shape, stdin) != sizeof shape)
+        return 1;
     if (posix_memalign(&space, 4096, STACK_BYTES) != 0 || pthread_attr_init(&attributes) != 0
         || pthread_attr_setstack(&attributes, space, STACK_BYTES) != 0)
         return 1;

@@ -4,7 +4,7 @@
 mod common;
 
 use common::views::{
-    anywhere, assert_view, beside_a_disk, in_64ths, some_edge, some_zoom, touches, view, wheel,
+    anywhere, assert_view, beside_a_label, in_64ths, some_edge, some_zoom, touches, view, wheel,
     window, zoom, Scheduled, WHOLE,
 };
 use common::{
@@ -16,7 +16,8 @@ use oracle::mark::{read_marks, write_marks, Mark};
 use oracle::process::schedule_in_rank_order;
 use oracle::rank::Edition::First;
 use oracle::record::Record;
-use oracle::sample::{marks, popups, refused_sheets, Generator, Popups, Shape, P1};
+use oracle::sample::{marks, popups, refused_sheets, Generator, Layout, Popups, P1};
+use oracle::shape::Shape::Disk;
 use oracle::turn::{turned, turned_marks};
 use rollmap::{Code, Refusal, Turn, View, Zoom, FARTHEST_EDGE};
 
@@ -80,8 +81,8 @@ fn proved_examples_with_every_turn() {
 
 #[test]
 fn every_mark_is_at_its_turned_place() {
-    for shape in Shape::ALL {
-        let sample = marks(shape, 60, 21);
+    for layout in Layout::ALL {
+        let sample = marks(layout, 60, 21);
         let never = Scheduled::new(sample, &[Record::NEVER; 60]);
         for (number, mark) in never.marks.iter().enumerate() {
             for turn in Turn::ALL {
@@ -102,7 +103,7 @@ fn many_small_sheets() {
     let mut partly = [0; 4];
     for _ in 0..5_000 {
         let sample = some_marks(&mut generator);
-        let beyond = Beyond::draw(&mut generator, &sample);
+        let beyond = Beyond::draw_disks(&mut generator, &sample);
         let records = some_records(&mut generator, beyond.reel(&sample));
         let scheduled = Scheduled::with(beyond, sample, &records);
         for turn in Turn::ALL {
@@ -122,9 +123,9 @@ fn many_small_sheets() {
 #[test]
 fn larger_sheets_ours_and_foreign() {
     let mut generator = Generator::new(92);
-    for shape in Shape::ALL {
+    for layout in Layout::ALL {
         for n in [64, 65, 300] {
-            let sample = marks(shape, n, n as u64);
+            let sample = marks(layout, n, n as u64);
             let lists = [
                 our_records(&sample),
                 foreign_records(&mut generator, First.reel(&sample)),
@@ -146,8 +147,8 @@ fn larger_sheets_ours_and_foreign() {
 #[test]
 fn the_largest_sheets() {
     let mut generator = Generator::new(93);
-    for shape in Shape::ALL {
-        let sample = marks(shape, 4_096, 22);
+    for layout in Layout::ALL {
+        let sample = marks(layout, 4_096, 22);
         let beyond = Beyond::popping_up(popups(Popups::Few, &sample, 22));
         let records = foreign_records(&mut generator, beyond.reel(&sample));
         let scheduled = Scheduled::with(beyond, sample, &records);
@@ -165,9 +166,9 @@ fn the_largest_sheets() {
 fn disks_that_just_reach_the_rectangle_and_that_just_miss_it() {
     let mut generator = Generator::new(94);
     let (mut touched, mut reached, mut missed) = ([0; 4], [0; 4], [0; 4]);
-    for shape in Shape::ALL {
+    for layout in Layout::ALL {
         for n in [1, 2, 9, 120] {
-            let sample = marks(shape, n, 23);
+            let sample = marks(layout, n, 23);
             let records = vec![Record::NEVER; n];
             let scheduled = Scheduled::new(sample, &records);
             for turn in [Turn::ALL; 75].concat() {
@@ -177,13 +178,14 @@ fn disks_that_just_reach_the_rectangle_and_that_just_miss_it() {
                     _ => some_zoom(&mut generator),
                 };
                 let k = in_64ths(zoom);
-                let (beside, mark) = beside_a_disk(&mut generator, &scheduled.marks, turn, k);
+                let (beside, mark) =
+                    beside_a_label(&mut generator, Disk, &scheduled.marks, turn, k);
                 let asked = View { zoom, ..beside };
                 let shown = is_set(&scheduled.expected(asked).0, mark);
                 let at = usize::from(turn.quarters());
                 reached[at] += usize::from(shown);
                 missed[at] += usize::from(!shown);
-                touched[at] += usize::from(touches(&scheduled.marks[mark], asked, k));
+                touched[at] += usize::from(touches(Disk, &scheduled.marks[mark], asked, k));
                 scheduled.view(asked);
             }
         }
@@ -219,7 +221,7 @@ fn a_stop_and_its_wheel_value_give_the_same_with_every_turn() {
             numbers.add(number(&by_stop.0));
         }
     }
-    numbers.assert_reached((0..=10).chain([19, 20, 21, 23]), 100);
+    numbers.assert_reached((0..=10).chain([19, 20, 21, 23, 24]), 100);
 }
 
 // ---- what is refused
@@ -231,7 +233,7 @@ fn edges_at_the_ends_of_their_range_and_beyond() {
     let sheets = [
         scheduled(&P1),
         scheduled(&[]),
-        scheduled(&marks(Shape::Extreme, 8, 24)),
+        scheduled(&marks(Layout::Extreme, 8, 24)),
     ];
     let set = |at: usize, edge: i32, turn| {
         let mut edges = [-32_768, 32_768, -32_768, 32_768];
@@ -338,7 +340,7 @@ fn a_refused_sheet_gets_its_number_before_20() {
         let asked = generator.choose(&[beyond(turn), whole(turn)]);
         numbers.add(view(&sheet, asked, generator.choose(&[0, 1, 6, 6])));
     }
-    numbers.assert_reached((0..=10).chain([13, 19, 20, 21, 23]), 20);
+    numbers.assert_reached((0..=10).chain([13, 19, 20, 21, 23, 24]), 20);
 }
 
 // ---- the guarantee on turned marks
@@ -354,7 +356,7 @@ fn turned_sheet(sheet: &[u8], turn: Turn) -> Option<Vec<u8>> {
     let marks = read_marks(rollmap::part(sheet, Code::Marks).unwrap());
     let part_1 = write_marks(&turned_marks(turn.quarters(), &marks)?);
     let mut parts = vec![(Code::Marks, part_1.as_slice())];
-    let carried = [Code::Edition, Code::Popups].iter();
+    let carried = [Code::Edition, Code::Popups, Code::Shape].iter();
     parts.extend(carried.filter_map(|&code| Some((code, rollmap::part(sheet, code)?))));
     let together = rollmap::assemble_to_vec(&parts).unwrap();
     Some(rollmap::schedule_to_vec(&together).unwrap())
@@ -392,9 +394,9 @@ fn a_turned_view_is_the_view_of_the_turned_marks() {
         let sample = match round % 3 {
             0 => some_marks(&mut generator),
             1 => rivals(&mut generator, 12),
-            _ => marks(generator.choose(&Shape::ALL), 30, round),
+            _ => marks(generator.choose(&Layout::ALL), 30, round),
         };
-        let beyond = Beyond::draw(&mut generator, &sample);
+        let beyond = Beyond::draw_disks(&mut generator, &sample);
         let sheet = scheduled_here(&sample, &beyond);
         let records = oracle::sheet::open(&sheet).unwrap().records.unwrap();
         let scheduled = Scheduled::with(beyond, sample, &records);
@@ -427,8 +429,8 @@ fn a_turned_view_is_the_view_of_the_turned_marks() {
 #[test]
 fn larger_reels_of_both_editions_and_with_popups_turned() {
     let mut generator = Generator::new(98);
-    for shape in Shape::ALL {
-        let mut sample = marks(shape, 700, 26);
+    for layout in Layout::ALL {
+        let mut sample = marks(layout, 700, 26);
         sample.iter_mut().for_each(|mark| mark.priority &= 3);
         let popping_up = Beyond::popping_up(popups(Popups::Any, &sample, 26));
         for beyond in NAMED.map(Beyond::named).into_iter().chain([popping_up]) {
@@ -474,7 +476,7 @@ fn edges_of_2_bytes_still_hold_all_places() {
     let mut generator = Generator::new(99);
     for _ in 0..1_000 {
         let sample = some_marks(&mut generator);
-        let sheet = scheduled_here(&sample, &Beyond::draw(&mut generator, &sample));
+        let sheet = scheduled_here(&sample, &Beyond::draw_disks(&mut generator, &sample));
         let asked = View {
             zoom: some_zoom(&mut generator),
             ..WHOLE
@@ -511,7 +513,7 @@ fn turned_marks_viewed_with_a_turn_are_turned_in_succession() {
     let mut generator = Generator::new(100);
     for _ in 0..600 {
         let sample = turnable(&mut generator);
-        let beyond = Beyond::draw(&mut generator, &sample);
+        let beyond = Beyond::draw_disks(&mut generator, &sample);
         let sheet = scheduled_here(&sample, &beyond);
         let records = schedule_in_rank_order(beyond.reel(&sample));
         let scheduled = Scheduled::with(beyond, sample.clone(), &records);
@@ -533,7 +535,7 @@ fn four_quarter_turns_give_the_sheet_back() {
     let mut generator = Generator::new(101);
     for _ in 0..300 {
         let sample = turnable(&mut generator);
-        let sheet = scheduled_here(&sample, &Beyond::draw(&mut generator, &sample));
+        let sheet = scheduled_here(&sample, &Beyond::draw_disks(&mut generator, &sample));
         let quarter =
             |sheet: Vec<u8>, _| turned_sheet(&sheet, Turn::Quarter).expect("the places fit");
         let half = turned_sheet(&sheet, Turn::Half).expect("the places fit");

@@ -10,10 +10,10 @@ use Rattle.bodies.proofs.is_schedule.Statement.{statement}
 use Rattle.bodies.proofs.is_schedule.Tie as tie
 
 abbrev Inv-loop : tie.InvT-loop
-Inv-loop marks edition popups schedule n m₀ m = (m ≤ n) × (every (recordRight (record { marks = marks; count = n; edition = edition; popups = popups }) schedule) m ≡ true)
+Inv-loop marks edition shape popups schedule n m₀ m = (m ≤ n) × (every (recordRight (record { marks = marks; count = n; edition = edition; shape = shape; popups = popups }) schedule) m ≡ true)
 
 abbrev μ-loop : tie.MeasureT-loop
-μ-loop marks edition popups schedule n m₀ m = n - m
+μ-loop marks edition shape popups schedule n m₀ m = n - m
 
 loop-holds : tie.Need-loop-holds Inv-loop μ-loop
 unfolding every

@@ -38,7 +38,7 @@ value-at-requires : tie.Need-value-at-requires
 value-at-requires c κs =
     let d = c .before .before .before .before .before in
     let a = d .before .before .before .before .args in
-    let right = named (record { marks = now (a .marks); count = a .n; edition = a .edition; popups = now (a .popups) }) (d .record-at .result) (a .m) (said-yes (c .before .before .names-right .ensures) (c .before .if2 .left)) in
+    let right = named (record { marks = now (a .marks); count = a .n; edition = a .edition; shape = a .shape; popups = now (a .popups) }) (d .record-at .result) (a .m) (said-yes (c .before .before .names-right .ensures) (c .before .if2 .left)) in
     omega (arith, right .below)
 
 value-of-requires : tie.Need-value-of-requires

@@ -1,4 +1,4 @@
--- Each of questions 4 to 9, 19, 21 and 23 decides its statement, so the answer 0 is what Fitting says.
+-- Each of questions 4 to 9, 19, 21, 23 and 24 decides its statement, so the answer 0 is what Fitting says.
 use Prim.Native.Nat.{ℕ, _*_, _%_, _<_, _≤_}
 use mathlib.Core.Path.{_≡_, refl}
 use mathlib.Core.Bool.{Bool, true, false, false≢true}
@@ -17,10 +17,10 @@ use Rattle.marks.specs.Laws.{kind-iff, used-bound}
 use Rattle.index.specs.Index.{isIndex}
 use Rattle.counting.specs.Counts.{isCounts, countsOf}
 use Rattle.counting.specs.Laws.{is-counts-iff}
-use Rattle.contents.specs.Contents.{Part, has, marksPart, schedulePart, indexPart, editionPart, popupsPart, countsPart}
+use Rattle.contents.specs.Contents.{Part, has, find, marksPart, schedulePart, indexPart, popupsPart, countsPart}
 use Rattle.contents.specs.Asking.{answer, ifThere}
 use Rattle.contents.specs.Laws.{none-asked, asked-iff, append-iff, turn-at, turn-of, find-none}
-use Rattle.bodies.specs.Questions.{question4, markCount, fieldQuestions, oneMark, markQuestions, part1Questions, isSchedule, countOf, reelOf, isSized, question7, isEdition, question19, isPopup, isPopups, question21, question8, question9, question23, lastQuestions, bodyQuestions}
+use Rattle.bodies.specs.Questions.{question4, markCount, fieldQuestions, oneMark, markQuestions, part1Questions, isSchedule, countOf, reelOf, isSized, question7, isChoice, isChosen, question19, isPopup, isPopups, question21, question24, question8, question9, question23, lastQuestions, bodyQuestions}
 use Rattle.bodies.specs.Fitting.{Fitting}
 use Rattle.bodies.specs.Lemmas.Numbered.{one-numbered, part1-numbered}
 
@@ -72,12 +72,12 @@ part1-iff s = (
   )),
 )
 
--- ---- 7 to 9, 19, 21 and 23
+-- ---- 7 to 9, 19, 21, 23 and 24
 
--- part 4 is one byte
-pub edition-long : (body : List ℕ) → isEdition body ≡ true → length body ≡ 1
-unfolding isEdition
-edition-long body e = eqb-true (length body) 1 (both-iff (eqb (length body) 1) _ .0 e .0)
+-- parts 4 and 7 are one byte
+pub choice-long : (body : List ℕ) → isChoice body ≡ true → length body ≡ 1
+unfolding isChoice
+choice-long body e = eqb-true (length body) 1 (both-iff (eqb (length body) 1) _ .0 e .0)
 
 -- part 5 has a popup for each mark
 pub popups-iff : (body : List ℕ) (n : ℕ) → (isPopups body n ≡ true) ↔ ((length body ≡ popupSize * n) × ((m : ℕ) → m < n → popupAt body m ≤ 65536))
@@ -128,6 +128,10 @@ pub popups-asked : (parts : List Part) → (question21 parts ≡ true) ↔ (has 
 unfolding question21
 popups-asked parts = there-iff (has parts 5) (isPopups (popupsPart parts) (countOf parts))
 
+chosen-iff : (parts : List Part) (code : ℕ) → (isChosen parts code ≡ true) ↔ (has parts code ≡ true → isChoice (find parts code) ≡ true)
+unfolding isChosen
+chosen-iff parts code = there-iff (has parts code) (isChoice (find parts code))
+
 -- part 6 is its counts, byte for byte
 counts-asked : (parts : List Part)
     → (question23 parts ≡ true) ↔ (has parts 6 ≡ true → countsPart parts ≡ countsOf (marksPart parts) (schedulePart parts) (popupsPart parts) (countOf parts))
@@ -139,7 +143,7 @@ counts-asked parts =
     ((λ e h. same .0 (there .0 e h)), (λ f. there .1 (λ h. same .1 (f h))))
 
 pub fitting-iff : (parts : List Part) → (answer (bodyQuestions parts) ≡ 0) ↔ Fitting parts
-unfolding bodyQuestions lastQuestions question19 question8 question9
+unfolding bodyQuestions lastQuestions question19 question24 question8 question9
 fitting-iff parts = (there, back)
   where
     scheduled : Bool
@@ -155,7 +159,8 @@ fitting-iff parts = (there, back)
         let sizes = sizes-iff parts .0 (c .0) in
         let g = asked-iff 19 (question19 parts) _ (omega arith) .0 (c .1) in
         let p = asked-iff 21 (question21 parts) _ (omega arith) .0 (g .1) in
-        let d = asked-iff 8 (question8 parts) _ (omega arith) .0 (p .1) in
+        let s = asked-iff 24 (question24 parts) _ (omega arith) .0 (p .1) in
+        let d = asked-iff 8 (question8 parts) _ (omega arith) .0 (s .1) in
         let f = asked-iff 9 (question9 parts) _ (omega arith) .0 (d .1) in
         let h = asked-iff 23 (question23 parts) _ (omega arith) .0 (f .1) in
         record {
@@ -163,8 +168,9 @@ fitting-iff parts = (there, back)
           marks-long = part1-iff (marksPart parts) .0 (b .0) .1;
           schedule-long = sizes .0;
           index-long = sizes .1;
-          edition-right = there-iff (has parts 4) (isEdition (editionPart parts)) .0 (g .0);
+          edition-right = chosen-iff parts 4 .0 (g .0);
           popups-right = popups-asked parts .0 (p .0);
+          shape-right = chosen-iff parts 7 .0 (s .0);
           schedule-right = there-iff (has parts 2) scheduled .0 (d .0);
           index-right = there-iff (has parts 3) indexed .0 (f .0);
           counts-right = counts-asked parts .0 (h .0);
@@ -177,14 +183,17 @@ fitting-iff parts = (there, back)
           asked-iff 7 (question7 parts) _ (omega arith) .1 (
             sizes-iff parts .1 (f .schedule-long, f .index-long),
             asked-iff 19 (question19 parts) _ (omega arith) .1 (
-              there-iff (has parts 4) (isEdition (editionPart parts)) .1 (f .edition-right),
+              chosen-iff parts 4 .1 (f .edition-right),
               asked-iff 21 (question21 parts) _ (omega arith) .1 (
                 popups-asked parts .1 (f .popups-right),
-                asked-iff 8 (question8 parts) _ (omega arith) .1 (
-                  there-iff (has parts 2) scheduled .1 (f .schedule-right),
-                  asked-iff 9 (question9 parts) _ (omega arith) .1 (
-                    there-iff (has parts 3) indexed .1 (f .index-right),
-                    asked-iff 23 (question23 parts) _ (omega arith) .1 (counts-asked parts .1 (f .counts-right), none-asked),
+                asked-iff 24 (question24 parts) _ (omega arith) .1 (
+                  chosen-iff parts 7 .1 (f .shape-right),
+                  asked-iff 8 (question8 parts) _ (omega arith) .1 (
+                    there-iff (has parts 2) scheduled .1 (f .schedule-right),
+                    asked-iff 9 (question9 parts) _ (omega arith) .1 (
+                      there-iff (has parts 3) indexed .1 (f .index-right),
+                      asked-iff 23 (question23 parts) _ (omega arith) .1 (counts-asked parts .1 (f .counts-right), none-asked),
+                    ),
                   ),
                 ),
               ),

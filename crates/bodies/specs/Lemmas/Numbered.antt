@@ -16,4 +16,4 @@ part1-numbered s = (omega arith, turn-numbered (oneMark s) (one-numbered s) (mar
 pub bodies-numbered : (parts : List Part) → Numbered (bodyQuestions parts)
 unfolding bodyQuestions lastQuestions
 bodies-numbered parts = numbered-append (part1Questions _) _ (part1-numbered _)
-    (omega arith, (omega arith, (omega arith, (omega arith, (omega arith, (omega arith, tt))))))
+    (omega arith, (omega arith, (omega arith, (omega arith, (omega arith, (omega arith, (omega arith, tt)))))))

@@ -21,14 +21,14 @@ use Rattle.bodies.specs.Questions.{exactly, namesRight, recordRight, isS
 pub record Named (r : Reel) (d : Record) (m : ℕ) : Type 0 where
   pub below : d .eliminator < r .count
   pub higher : outranks (r .edition) (r .marks) (d .eliminator) m ≡ true
-  pub num-is : d .num ≡ (pairValue (r .marks) (r .popups) (d .eliminator) m) .num
-  pub den-is : d .den ≡ (pairValue (r .marks) (r .popups) (d .eliminator) m) .den
+  pub num-is : d .num ≡ (pairValue (r .shape) (r .marks) (r .popups) (d .eliminator) m) .num
+  pub den-is : d .den ≡ (pairValue (r .shape) (r .marks) (r .popups) (d .eliminator) m) .den
 
 pub named : (r : Reel) (d : Record) (m : ℕ) → namesRight r d m ≡ true → Named r d m
 unfolding namesRight
 named r d m e =
     let by = d .eliminator in
-    let t = pairValue (r .marks) (r .popups) by m in
+    let t = pairValue (r .shape) (r .marks) (r .popups) by m in
     let a = both-iff _ (exactly (fractionOf d) t) .0 e in
     let b = both-iff (ltb by (r .count)) (outranks (r .edition) (r .marks) by m) .0 (a .0) in
     let c = both-iff (eqb (d .num) (t .num)) (eqb (d .den) (t .den)) .0 (a .1) in
@@ -58,7 +58,7 @@ record-small r p m right e l =
       | inr rest ↦
           (let k = named r (markRecord p m) m (both-iff (namesRight r (markRecord p m) m) _ .0 rest .0) in
           let small =
-          pairs-small (r .marks) (r .popups) by m (right .bytes) (right .good .each by (k .below) .used) (right .good .each m l .used)
+          pairs-small (r .shape) (r .marks) (r .popups) by m (right .bytes) (right .good .each by (k .below) .used) (right .good .each m l .used)
           (right .popped .each by (k .below)) (right .popped .each m l) in
           record { num-small = omega (arith, k .num-is, small .num-small); den-small = omega (arith, k .den-is, small .den-small) })
     ]

@@ -7,12 +7,12 @@ use native.Mathlib.Omega.{arith}
 use lib.ListN.{length, getD, length-map}
 use Rattle.lists.specs.TestLaws.{by-cases}
 use Rattle.counting.specs.Laws.{counts-length}
-use Rattle.contents.specs.Contents.{Part, codesOf, bodiesOf, has, find, marksPart, schedulePart, editionPart, popupsPart, Writable}
+use Rattle.contents.specs.Contents.{Part, codesOf, bodiesOf, has, find, marksPart, schedulePart, editionPart, popupsPart, shapePart, Writable}
 use Rattle.contents.specs.Questions.{topCode, codesRight}
 use Rattle.contents.specs.Laws.{codes-few, codes-positive, codes-most, find-none, find-own, chain-most, join-length}
 use Rattle.bodies.specs.Questions.{countOf}
 use Rattle.bodies.specs.Fitting.{Fitting}
-use Rattle.bodies.specs.Lemmas.Fitting.{edition-long, popups-iff}
+use Rattle.bodies.specs.Lemmas.Fitting.{choice-long, popups-iff}
 
 -- the most bytes of a body
 abbrev most : ℕ
@@ -28,12 +28,13 @@ module _ (parts : List Part) (fits : Fitting parts) where
   part-small (suc zero) some few = omega (arith, fits .marks .few, fits .marks-long)
   part-small (suc (suc zero)) some few = if-there 2 (14 * countOf parts) (omega (arith, fits .marks .few)) (fits .schedule-long)
   part-small (suc (suc (suc zero))) some few = if-there 3 (2 * countOf parts) (omega (arith, fits .marks .few)) (fits .index-long)
-  part-small (suc (suc (suc (suc zero)))) some few = if-there 4 1 (omega arith) (λ e. edition-long (editionPart parts) (fits .edition-right e))
+  part-small (suc (suc (suc (suc zero)))) some few = if-there 4 1 (omega arith) (λ e. choice-long (editionPart parts) (fits .edition-right e))
   part-small (suc (suc (suc (suc (suc zero))))) some few =
       if-there 5 (4 * countOf parts) (omega (arith, fits .marks .few)) (λ e. popups-iff (popupsPart parts) (countOf parts) .0 (fits .popups-right e) .0)
   part-small (suc (suc (suc (suc (suc (suc zero)))))) some few =
       if-there 6 170 (omega arith) (λ e. ap length (fits .counts-right e) ∙ counts-length (marksPart parts) (schedulePart parts) (popupsPart parts) (countOf parts))
-  part-small (suc (suc (suc (suc (suc (suc (suc code))))))) some few = absurd (omega arith)
+  part-small (suc (suc (suc (suc (suc (suc (suc zero))))))) some few = if-there 7 1 (omega arith) (λ e. choice-long (shapePart parts) (fits .shape-right e))
+  part-small (suc (suc (suc (suc (suc (suc (suc (suc code)))))))) some few = absurd (omega arith)
 
   pub fitting-writable : codesRight (codesOf parts) ≡ true → Writable parts
   fitting-writable right =

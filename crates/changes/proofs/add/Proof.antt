@@ -14,14 +14,14 @@ use Rattle.marks.specs.declared.Mark.{Mark}
 use Rattle.marks.specs.Marks.{markBytes}
 use Rattle.marks.specs.Fields.{FieldsFit}
 use Rattle.changing.specs.Changing.{added, addedPopup}
-use Rattle.contents.specs.Contents.{has, split, marksPart, editionPart, popupsPart}
+use Rattle.contents.specs.Contents.{has, split, marksPart, editionPart, popupsPart, shapePart}
 use Rattle.contents.specs.Asking.{answer}
 use Rattle.sheet.specs.Questions.{sheetCount, check, indexedQuestions}
 use Rattle.sheet.specs.Laws.{indexed-iff, indexed-number, indexed-layout, layout-part, layout-there}
 use Rattle.jobs.specs.Jobs.{isNewPopup, addChecks}
 use Rattle.jobs.specs.Answers.{fields}
 use Rattle.jobs.specs.Coming.{add-numbered, add-lent, add-popups-lent, add-whole}
-use Rattle.jobs.specs.Laws.Kept.{carried-lent, edition-short}
+use Rattle.jobs.specs.Laws.Kept.{carried-lent, edition-short, shape-short}
 use Rattle.jobs.specs.Laws.Scheduling.{stopped, once-passed}
 use Rattle.jobs.specs.Laws.Changing.{add-refused, add-full, add-fields, add-popup, popup-no, popup-yes}
 use Rattle.changes.proofs.add.Statement.{statement}
@@ -67,8 +67,11 @@ part4 c = let e = c .before .before .before .before .before .before .before .bef
 part5 : (c : tie.After-part3) → now (c .part3 .result) ≡ popupsPart (split (given (c .before .before .before .before .before .before .before .before .before .before .before .before .before .before .before .before .before)))
 part5 c = let e = c .before .before .before .before .before .before .before .before .before .before .before .before in c .part3 .ensures ∙ layout-part _ (accepted e) (indexed-layout _ (e .before .indexed .ensures) (indexed e)) 5
 
-there6 : (c : tie.After-is-there2) → c .is-there2 .result ≡ has (split (given (c .before .before .before .before .before .before .before .before .before .before .before .before .before .before .before .before .before .before .before .before .before))) 6
-there6 c = let e = c .before .before .before .before .before .before .before .before .before .before .before .before .before .before .before .before in c .is-there2 .ensures ∙ layout-there _ (accepted e) (indexed-layout _ (e .before .indexed .ensures) (indexed e)) 6
+part7 : (c : tie.After-part4) → now (c .part4 .result) ≡ shapePart (split (given (c .before .before .before .before .before .before .before .before .before .before .before .before .before .before .before .before .before .before)))
+part7 c = let e = c .before .before .before .before .before .before .before .before .before .before .before .before .before in c .part4 .ensures ∙ layout-part _ (accepted e) (indexed-layout _ (e .before .indexed .ensures) (indexed e)) 7
+
+there6 : (c : tie.After-is-there2) → c .is-there2 .result ≡ has (split (given (c .before .before .before .before .before .before .before .before .before .before .before .before .before .before .before .before .before .before .before .before .before .before))) 6
+there6 c = let e = c .before .before .before .before .before .before .before .before .before .before .before .before .before .before .before .before .before in c .is-there2 .ensures ∙ layout-there _ (accepted e) (indexed-layout _ (e .before .indexed .ensures) (indexed e)) 6
 
 -- the bytes of the new mark, as they were told
 last-is : (c : tie.After-mark-bytes) → c .mark-bytes .result ≡ markBytes (mark (c .before .before .before .before .before .before .before .before .before .before .before .before .before .before))
@@ -92,17 +95,17 @@ all c =
     (popup-yes (given b) (b .args .popup) (said-yes (popup-asked (c .before)) (c .if4 .left))))
 
 -- the marks and the popups with the new ones
-row-is : (c : tie.After-row-if) → now (c .row-if .result) ≡ cond (has (split (given (c .before .before .before .before .before .before .before .before .before .before .before .before .before .before .before .before .before .before .before .before))) 5) (leBytes 4 (c .before .before .before .before .before .before .before .before .before .before .before .before .before .before .before .before .before .before .before .before .args .popup)) []
-row-is c = c .row-if .ensures ∙ ap₂ (λ t (l : List ℕ). cond t l []) (there5 (c .before .before .before .before .before .before .before .before .before)) (c .before .before .before .before .before .popup-bytes .ensures)
+row-is : (c : tie.After-row-if) → now (c .row-if .result) ≡ cond (has (split (given (c .before .before .before .before .before .before .before .before .before .before .before .before .before .before .before .before .before .before .before .before .before))) 5) (leBytes 4 (c .before .before .before .before .before .before .before .before .before .before .before .before .before .before .before .before .before .before .before .before .before .args .popup)) []
+row-is c = c .row-if .ensures ∙ ap₂ (λ t (l : List ℕ). cond t l []) (there5 (c .before .before .before .before .before .before .before .before .before .before)) (c .before .before .before .before .before .before .popup-bytes .ensures)
 
 popups-are : (c : tie.After-row-if)
-    → now (c .before .before .before .part3 .result) ++ now (c .row-if .result) ≡ popupsPart (split (given (c .before .before .before .before .before .before .before .before .before .before .before .before .before .before .before .before .before .before .before .before))) ++ cond (has (split (given (c .before .before .before .before .before .before .before .before .before .before .before .before .before .before .before .before .before .before .before .before))) 5) (leBytes 4 (c .before .before .before .before .before .before .before .before .before .before .before .before .before .before .before .before .before .before .before .before .args .popup)) []
-popups-are c = ap₂ _++_ (part5 (c .before .before .before)) (row-is c)
+    → now (c .before .before .before .before .part3 .result) ++ now (c .row-if .result) ≡ popupsPart (split (given (c .before .before .before .before .before .before .before .before .before .before .before .before .before .before .before .before .before .before .before .before .before))) ++ cond (has (split (given (c .before .before .before .before .before .before .before .before .before .before .before .before .before .before .before .before .before .before .before .before .before))) 5) (leBytes 4 (c .before .before .before .before .before .before .before .before .before .before .before .before .before .before .before .before .before .before .before .before .before .args .popup)) []
+popups-are c = ap₂ _++_ (part5 (c .before .before .before .before)) (row-is c)
 
-more : (c : tie.After-row-if) → c .before .before .before .before .before .before .before .before .before .is-there .result ≡ true
-    → now (c .before .before .before .part3 .result) ++ now (c .row-if .result) ≡ addedPopup (popupsPart (split (given (c .before .before .before .before .before .before .before .before .before .before .before .before .before .before .before .before .before .before .before .before)))) (c .before .before .before .before .before .before .before .before .before .before .before .before .before .before .before .before .before .before .before .before .args .popup)
+more : (c : tie.After-row-if) → c .before .before .before .before .before .before .before .before .before .before .is-there .result ≡ true
+    → now (c .before .before .before .before .part3 .result) ++ now (c .row-if .result) ≡ addedPopup (popupsPart (split (given (c .before .before .before .before .before .before .before .before .before .before .before .before .before .before .before .before .before .before .before .before .before)))) (c .before .before .before .before .before .before .before .before .before .before .before .before .before .before .before .before .before .before .before .before .before .args .popup)
 unfolding addedPopup
-more c t = rw (sym (there5 (c .before .before .before .before .before .before .before .before .before)) ∙ t) at (popups-are c)
+more c t = rw (sym (there5 (c .before .before .before .before .before .before .before .before .before .before)) ∙ t) at (popups-are c)
 
 indexed-requires : tie.Need-indexed-requires
 indexed-requires c κs = search needs
@@ -178,6 +181,9 @@ part-requires-2 c κs = search needs
 part-requires-3 : tie.Need-part-requires-3
 part-requires-3 c κs = search needs
 
+part-requires-4 : tie.Need-part-requires-4
+part-requires-4 c κs = search needs
+
 slice-aggregate-schedule-marks : tie.Need-slice-aggregate-schedule-marks
 slice-aggregate-schedule-marks c = search needs
 
@@ -195,11 +201,11 @@ add-schedule-marks c = search needs
 
 schedule-marks-requires : tie.Need-schedule-marks-requires
 schedule-marks-requires c κs =
-    let b = c .before .before .before .before .before .before .before .before .before .before .before .before .before .before .before .before .before .before .before .before .before .before .before in
-    let ok = all (c .before .before .before .before .before .before .before .before .before .before) in
-    let bytes : Bytes (given b) = λ i. c .before .before .before .before .before .before .before .before .before .before .before .before .before .before .before .before .before .before .before .before .before .before .shared-slice-known .given i .fits in
-    let lent = add-lent (given b) (mark b) (b .args .popup) bytes (fit b) ok (part1 (c .before .before .before .before .before .before .before .before .before .before .before .before .before .before .before .before)) (last-is (c .before .before .before .before .before .before .before .before .before)) in
-    (lent .0, lent .1, rw (part4 (c .before .before .before .before .before .before .before)) (edition-short _ (accepted (c .before .before .before .before .before .before .before .before .before .before .before .before .before .before .before .before .before .before))), rw (there5 (c .before .before .before .before .before .before .before .before .before .before .before .before), popups-are (c .before .before .before), count (c .before .before .before .before .before .before .before .before .before .before .before .before .before .before .before .before)) (add-popups-lent (given b) (mark b) (b .args .popup) bytes (fit b) ok))
+    let b = c .before .before .before .before .before .before .before .before .before .before .before .before .before .before .before .before .before .before .before .before .before .before .before .before in
+    let ok = all (c .before .before .before .before .before .before .before .before .before .before .before) in
+    let bytes : Bytes (given b) = λ i. c .before .before .before .before .before .before .before .before .before .before .before .before .before .before .before .before .before .before .before .before .before .before .before .shared-slice-known .given i .fits in
+    let lent = add-lent (given b) (mark b) (b .args .popup) bytes (fit b) ok (part1 (c .before .before .before .before .before .before .before .before .before .before .before .before .before .before .before .before .before)) (last-is (c .before .before .before .before .before .before .before .before .before .before)) in
+    (lent .0, lent .1, rw (part4 (c .before .before .before .before .before .before .before .before)) (edition-short _ (accepted (c .before .before .before .before .before .before .before .before .before .before .before .before .before .before .before .before .before .before .before))), rw (part7 (c .before .before .before .before .before .before)) (shape-short _ (accepted (c .before .before .before .before .before .before .before .before .before .before .before .before .before .before .before .before .before .before .before))), rw (there5 (c .before .before .before .before .before .before .before .before .before .before .before .before .before), popups-are (c .before .before .before), count (c .before .before .before .before .before .before .before .before .before .before .before .before .before .before .before .before .before)) (add-popups-lent (given b) (mark b) (b .args .popup) bytes (fit b) ok))
 
 same-length : tie.Need-same-length
 same-length c = search needs
@@ -211,12 +217,12 @@ returns-5 : tie.Need-returns-5
 unfolding added
 returns-5 c =
     let p = c .before .before .before .before .before .before .before .before in
-    let b = c .before .before .before .before .before .before .before .before .before .before .before .before .before .before .before .before .before .before .before .before .before .before .before .before .before .before .before .before in
+    let b = c .before .before .before .before .before .before .before .before .before .before .before .before .before .before .before .before .before .before .before .before .before .before .before .before .before .before .before .before .before in
     let k = b .args .popup in
-    add-whole (given b) (mark b) k (λ i. c .before .before .before .before .before .before .before .before .before .before .before .before .before .before .before .before .before .before .before .before .before .before .before .before .before .before .before .shared-slice-known .given i .fits) (fit b) _ _
-    (once-passed (addChecks (given b) (mark b) k) (add-numbered (given b) (mark b) k) (all (c .before .before .before .before .before .before .before .before .before .before .before .before .before .before .before)) _
-    (ap₂ _++_ (part1 (c .before .before .before .before .before .before .before .before .before .before .before .before .before .before .before .before .before .before .before .before .before)) (last-is (c .before .before .before .before .before .before .before .before .before .before .before .before .before .before)))
-    (carried-lent _ (accepted (c .before .before .before .before .before .before .before .before .before .before .before .before .before .before .before .before .before .before .before .before .before .before .before)) (λ q. addedPopup q k) (part4 (c .before .before .before .before .before .before .before .before .before .before .before .before)) (there5 (c .before .before .before .before .before .before .before .before .before .before .before .before .before .before .before .before .before)) (more p)) (there6 (c .before .before .before .before .before .before .before)) (c .before .before .before .before .schedule-marks .ensures .0))
+    add-whole (given b) (mark b) k (λ i. c .before .before .before .before .before .before .before .before .before .before .before .before .before .before .before .before .before .before .before .before .before .before .before .before .before .before .before .before .shared-slice-known .given i .fits) (fit b) _ _
+    (once-passed (addChecks (given b) (mark b) k) (add-numbered (given b) (mark b) k) (all (c .before .before .before .before .before .before .before .before .before .before .before .before .before .before .before .before)) _
+    (ap₂ _++_ (part1 (c .before .before .before .before .before .before .before .before .before .before .before .before .before .before .before .before .before .before .before .before .before .before)) (last-is (c .before .before .before .before .before .before .before .before .before .before .before .before .before .before .before)))
+    (carried-lent _ (accepted (c .before .before .before .before .before .before .before .before .before .before .before .before .before .before .before .before .before .before .before .before .before .before .before .before)) (λ q. addedPopup q k) (part4 (c .before .before .before .before .before .before .before .before .before .before .before .before .before)) (there5 (c .before .before .before .before .before .before .before .before .before .before .before .before .before .before .before .before .before .before)) (more p) (part7 (c .before .before .before .before .before .before .before .before .before .before .before))) (there6 (c .before .before .before .before .before .before .before)) (c .before .before .before .before .schedule-marks .ensures .0))
     (c .before .before .before .before .schedule-marks .ensures .1)
 
 pub add-spec : {M : Type 1} → statement M
@@ -240,6 +246,7 @@ add-spec =
     popup-bytes-requires
     part-requires-2
     part-requires-3
+    part-requires-4
     slice-aggregate-schedule-marks
     slice-aggregate-row-if
     row-if-requires

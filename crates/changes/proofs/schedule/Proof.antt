@@ -7,7 +7,7 @@ use lib.ListN.{length}
 use borrow.Author.Needs.{needs}
 use denote.Ref.{now}
 use Rattle.numbers.specs.Little.{Bytes}
-use Rattle.contents.specs.Contents.{has, split, marksPart, editionPart, popupsPart}
+use Rattle.contents.specs.Contents.{has, split, marksPart, editionPart, popupsPart, shapePart}
 use Rattle.contents.specs.Laws.{find-none}
 use Rattle.sheet.specs.Questions.{checkQuestions, check}
 use Rattle.sheet.specs.Laws.{check-numbered, accepted-iff, found-number, found-layout, found-part, layout-there}
@@ -16,7 +16,7 @@ use Rattle.jobs.specs.Jobs.{keptParts, scheduleJob}
 use Rattle.jobs.specs.Answers.{Gives, Lent}
 use Rattle.jobs.specs.Demand3.{Meets}
 use Rattle.jobs.specs.Theorems.{schedule-meets}
-use Rattle.jobs.specs.Laws.Kept.{carried-lent, edition-short, popups-lent}
+use Rattle.jobs.specs.Laws.Kept.{carried-lent, edition-short, shape-short, popups-lent}
 use Rattle.jobs.specs.Laws.Scheduling.{stopped, once-passed}
 use Rattle.changes.proofs.schedule.Statement.{statement}
 use Rattle.changes.proofs.schedule.Tie as tie
@@ -43,10 +43,13 @@ there5 c =
 part5 : (c : tie.After-part3) → now (c .part3 .result) ≡ popupsPart (split (given (c .before .before .before .before .before .before .before .before .before .before)))
 part5 c = c .part3 .ensures ∙ found-part _ (c .before .before .before .before .before .before .opened .ensures) (accepted (c .before .before .before .before .before)) 5
 
-there6 : (c : tie.After-is-there2) → c .is-there2 .result ≡ has (split (given (c .before .before .before .before .before .before .before .before .before .before .before .before .before))) 6
+part7 : (c : tie.After-part4) → now (c .part4 .result) ≡ shapePart (split (given (c .before .before .before .before .before .before .before .before .before .before .before)))
+part7 c = c .part4 .ensures ∙ found-part _ (c .before .before .before .before .before .before .before .opened .ensures) (accepted (c .before .before .before .before .before .before)) 7
+
+there6 : (c : tie.After-is-there2) → c .is-there2 .result ≡ has (split (given (c .before .before .before .before .before .before .before .before .before .before .before .before .before .before))) 6
 there6 c =
-    let e = accepted (c .before .before .before .before .before .before .before .before) in
-    c .is-there2 .ensures ∙ layout-there _ e (found-layout _ (c .before .before .before .before .before .before .before .before .before .opened .ensures) e) 6
+    let e = accepted (c .before .before .before .before .before .before .before .before .before) in
+    c .is-there2 .ensures ∙ layout-there _ e (found-layout _ (c .before .before .before .before .before .before .before .before .before .before .opened .ensures) e) 6
 
 -- what a way out gives, with demand 3 of it
 whole : (g : List ℕ) (work : ℕ) {before out w w′ : List ℕ} {r : Answer} → Bytes g → Gives (scheduleJob g work (length before)) before r out
@@ -79,6 +82,9 @@ is-there-requires c κs = search needs
 part-requires-3 : tie.Need-part-requires-3
 part-requires-3 c κs = search needs
 
+part-requires-4 : tie.Need-part-requires-4
+part-requires-4 c κs = search needs
+
 slice-aggregate-schedule-marks : tie.Need-slice-aggregate-schedule-marks
 slice-aggregate-schedule-marks c = search needs
 
@@ -90,11 +96,11 @@ is-there-requires-2 c κs = search needs
 
 schedule-marks-requires : tie.Need-schedule-marks-requires
 schedule-marks-requires c κs =
-    let p = c .before .before .before .before .before in
+    let p = c .before .before .before .before .before .before in
     let ok = accepted (p .before .before .before .before .before) in
     let fit = accepted-iff _ .0 ok .fitting in
-    rw (append-nil (now (p .before .before .before .part .result)), append-nil (now (p .part3 .result)), part1 (p .before .before .before), part4 (p .before .before), there5 (p .before), part5 p)
-    (fit .marks, fit .marks-long, edition-short _ ok, popups-lent _ _ _ (fit .popups-right) (find-none (split (given (c .before .before .before .before .before .before .before .before .before .before .before .before .before .before .before))) 5))
+    rw (append-nil (now (p .before .before .before .part .result)), append-nil (now (p .part3 .result)), part1 (p .before .before .before), part4 (p .before .before), there5 (p .before), part5 p, part7 (c .before .before .before .before .before))
+    (fit .marks, fit .marks-long, edition-short _ ok, shape-short _ ok, popups-lent _ _ _ (fit .popups-right) (find-none (split (given (c .before .before .before .before .before .before .before .before .before .before .before .before .before .before .before .before))) 5))
 
 same-length : tie.Need-same-length
 same-length c = search needs
@@ -105,11 +111,11 @@ same-length-2 c = search needs
 returns-2 : tie.Need-returns-2
 unfolding check
 returns-2 c =
-    let p = c .before .before .before .before .before .before .before .before .before .before in
+    let p = c .before .before .before .before .before .before .before .before .before .before .before in
     let ok = accepted (p .before .before .before .before .before) in
-    whole _ _ (λ i. c .before .before .before .before .before .before .before .before .before .before .before .before .before .before .before .before .before .before .before .shared-slice-known .given i .fits)
+    whole _ _ (λ i. c .before .before .before .before .before .before .before .before .before .before .before .before .before .before .before .before .before .before .before .before .shared-slice-known .given i .fits)
     (once-passed (checkQuestions _) (check-numbered _) ok _ (append-nil (now (p .before .before .before .part .result)) ∙ part1 (p .before .before .before))
-    (carried-lent _ ok (λ q. q) (part4 (p .before .before)) (there5 (p .before)) (λ t. append-nil (now (p .part3 .result)) ∙ part5 p))
+    (carried-lent _ ok (λ q. q) (part4 (p .before .before)) (there5 (p .before)) (λ t. append-nil (now (p .part3 .result)) ∙ part5 p) (part7 (c .before .before .before .before .before .before .before .before .before .before)))
     (there6 (c .before .before .before .before .before .before .before)) (c .before .before .before .before .schedule-marks .ensures .0)) (c .before .before .before .before .schedule-marks .ensures .1)
 
 pub schedule-spec : {M : Type 1} → statement M
@@ -123,6 +129,7 @@ schedule-spec =
     part-requires-2
     is-there-requires
     part-requires-3
+    part-requires-4
     slice-aggregate-schedule-marks
     slice-aggregate-schedule-marks-2
     is-there-requires-2

@@ -8,7 +8,7 @@ use borrow.Author.Needs.{needs}
 use denote.Ref.{now}
 use Rattle.numbers.specs.Little.{Bytes}
 use Rattle.changing.specs.Changing.{takenOut, takenOutPopup}
-use Rattle.contents.specs.Contents.{has, split, marksPart, editionPart, popupsPart}
+use Rattle.contents.specs.Contents.{has, split, marksPart, editionPart, popupsPart, shapePart}
 use Rattle.contents.specs.Asking.{answer}
 use Rattle.sheet.specs.Questions.{sheetCount, check, indexedQuestions}
 use Rattle.sheet.specs.Laws.{indexed-iff, indexed-number, indexed-layout, layout-part, layout-there}
@@ -17,7 +17,7 @@ use Rattle.jobs.specs.Jobs.{carried, takeOutChecks, takeOutJob}
 use Rattle.jobs.specs.Answers.{Gives, Lent}
 use Rattle.jobs.specs.Demand3.{Meets}
 use Rattle.jobs.specs.Coming.{take-out-numbered, take-out-iff, take-out-lent, take-out-popups-lent, take-out-meets}
-use Rattle.jobs.specs.Laws.Kept.{carried-lent, edition-short}
+use Rattle.jobs.specs.Laws.Kept.{carried-lent, edition-short, shape-short}
 use Rattle.jobs.specs.Laws.Scheduling.{stopped, once-passed}
 use Rattle.jobs.specs.Laws.Changing.{take-out-refused, take-out-none, lent-pieces}
 use Rattle.changes.proofs.take_out.Statement.{statement}
@@ -49,8 +49,11 @@ there5 c = let e = c .before .before .before .before .before in c .is-there .ens
 part5 : (c : tie.After-part3) → now (c .part3 .result) ≡ popupsPart (split (given (c .before .before .before .before .before .before .before .before .before .before .before)))
 part5 c = let e = c .before .before .before .before .before .before in c .part3 .ensures ∙ layout-part _ (accepted e) (indexed-layout _ (e .before .indexed .ensures) (indexed e)) 5
 
-there6 : (c : tie.After-is-there2) → c .is-there2 .result ≡ has (split (given (c .before .before .before .before .before .before .before .before .before .before .before .before .before .before .before .before))) 6
-there6 c = let e = c .before .before .before .before .before .before .before .before .before .before .before in c .is-there2 .ensures ∙ layout-there _ (accepted e) (indexed-layout _ (e .before .indexed .ensures) (indexed e)) 6
+part7 : (c : tie.After-part4) → now (c .part4 .result) ≡ shapePart (split (given (c .before .before .before .before .before .before .before .before .before .before .before .before)))
+part7 c = let e = c .before .before .before .before .before .before .before in c .part4 .ensures ∙ layout-part _ (accepted e) (indexed-layout _ (e .before .indexed .ensures) (indexed e)) 7
+
+there6 : (c : tie.After-is-there2) → c .is-there2 .result ≡ has (split (given (c .before .before .before .before .before .before .before .before .before .before .before .before .before .before .before .before .before))) 6
+there6 c = let e = c .before .before .before .before .before .before .before .before .before .before .before .before in c .is-there2 .ensures ∙ layout-there _ (accepted e) (indexed-layout _ (e .before .indexed .ensures) (indexed e)) 6
 
 -- 17 was answered with yes
 all : (c : tie.Else2) → answer (takeOutChecks (given (c .before .before .before .before .before .before .before .before)) (c .before .before .before .before .before .before .before .before .args .m)) ≡ 0
@@ -59,13 +62,13 @@ all c =
     take-out-iff _ _ .1 (indexed-iff _ .0 (indexed (c .before .before .before)), low)
 
 -- the marks and the popups that are left
-left : (c : tie.After-behind) → now (c .before .before2 .result) ++ now (c .behind .result) ≡ takenOut (marksPart (split (given (c .before .before .before .before .before .before .before .before .before .before .before .before .before)))) (c .before .before .before .before .before .before .before .before .before .before .before .before .before .args .m)
+left : (c : tie.After-behind) → now (c .before .before2 .result) ++ now (c .behind .result) ≡ takenOut (marksPart (split (given (c .before .before .before .before .before .before .before .before .before .before .before .before .before .before)))) (c .before .before .before .before .before .before .before .before .before .before .before .before .before .before .args .m)
 unfolding takenOut
-left c = lent-pieces 11 (c .before .before .before .before .before .before .before .before .before .before .before .before .before .args .m) (c .before .before2 .ensures) (c .behind .ensures) (part1 (c .before .before .before .before .before .before))
+left c = lent-pieces 11 (c .before .before .before .before .before .before .before .before .before .before .before .before .before .before .args .m) (c .before .before2 .ensures) (c .behind .ensures) (part1 (c .before .before .before .before .before .before .before))
 
-left-popups : (c : tie.After-behind2) → now (c .before .before3 .result) ++ now (c .behind2 .result) ≡ takenOutPopup (popupsPart (split (given (c .before .before .before .before .before .before .before .before .before .before .before .before .before .before .before)))) (c .before .before .before .before .before .before .before .before .before .before .before .before .before .before .before .args .m)
+left-popups : (c : tie.After-behind2) → now (c .before .before3 .result) ++ now (c .behind2 .result) ≡ takenOutPopup (popupsPart (split (given (c .before .before .before .before .before .before .before .before .before .before .before .before .before .before .before .before)))) (c .before .before .before .before .before .before .before .before .before .before .before .before .before .before .before .before .args .m)
 unfolding takenOutPopup
-left-popups c = lent-pieces 4 (c .before .before .before .before .before .before .before .before .before .before .before .before .before .before .before .args .m) (c .before .before3 .ensures) (c .behind2 .ensures) (part5 (c .before .before .before .before))
+left-popups c = lent-pieces 4 (c .before .before .before .before .before .before .before .before .before .before .before .before .before .before .before .before .args .m) (c .before .before3 .ensures) (c .behind2 .ensures) (part5 (c .before .before .before .before .before))
 
 -- what a way out gives, with demand 3 of it
 whole : (s : List ℕ) (m work : ℕ) {before out w w′ : List ℕ} {r : Answer} → Bytes s → Gives (takeOutJob s m work (length before)) before r out
@@ -112,6 +115,9 @@ is-there-requires c κs = search needs
 part-requires-3 : tie.Need-part-requires-3
 part-requires-3 c κs = search needs
 
+part-requires-4 : tie.Need-part-requires-4
+part-requires-4 c κs = search needs
+
 before-requires : tie.Need-before-requires
 before-requires c κs = search needs
 
@@ -132,13 +138,13 @@ sub-schedule-marks c = search needs
 
 schedule-marks-requires : tie.Need-schedule-marks-requires
 schedule-marks-requires c κs =
-    let b = c .before .before .before .before .before .before .before .before .before .before .before .before .before .before .before .before .before .before in
+    let b = c .before .before .before .before .before .before .before .before .before .before .before .before .before .before .before .before .before .before .before in
     let m = b .args .m in
-    let ok = all (c .before .before .before .before .before .before .before .before .before .before) in
-    let bytes : Bytes (given b) = λ i. c .before .before .before .before .before .before .before .before .before .before .before .before .before .before .before .before .before .shared-slice-known .given i .fits in
+    let ok = all (c .before .before .before .before .before .before .before .before .before .before .before) in
+    let bytes : Bytes (given b) = λ i. c .before .before .before .before .before .before .before .before .before .before .before .before .before .before .before .before .before .before .shared-slice-known .given i .fits in
     let lent = take-out-lent (given b) m bytes ok (left (c .before .before .before .before .before)) in
-    rw (count (c .before .before .before .before .before .before .before .before .before .before .before), part4 (c .before .before .before .before .before .before .before .before .before), there5 (c .before .before .before .before .before .before .before .before), left-popups (c .before .before .before))
-    (lent .0, lent .1, edition-short _ (accepted (c .before .before .before .before .before .before .before .before .before .before .before .before .before)), take-out-popups-lent (given b) m bytes ok)
+    rw (count (c .before .before .before .before .before .before .before .before .before .before .before .before), part4 (c .before .before .before .before .before .before .before .before .before .before), there5 (c .before .before .before .before .before .before .before .before .before), left-popups (c .before .before .before), part7 (c .before .before .before .before .before .before .before))
+    (lent .0, lent .1, edition-short _ (accepted (c .before .before .before .before .before .before .before .before .before .before .before .before .before .before)), shape-short _ (accepted (c .before .before .before .before .before .before .before .before .before .before .before .before .before .before)), take-out-popups-lent (given b) m bytes ok)
 
 same-length : tie.Need-same-length
 same-length c = search needs
@@ -149,11 +155,11 @@ same-length-2 c = search needs
 returns-3 : tie.Need-returns-3
 returns-3 c =
     let p = c .before .before .before .before .before .before .before .before in
-    let b = c .before .before .before .before .before .before .before .before .before .before .before .before .before .before .before .before .before .before .before .before .before .before .before in
+    let b = c .before .before .before .before .before .before .before .before .before .before .before .before .before .before .before .before .before .before .before .before .before .before .before .before in
     let m = b .args .m in
-    whole (given b) m _ (λ i. c .before .before .before .before .before .before .before .before .before .before .before .before .before .before .before .before .before .before .before .before .before .before .shared-slice-known .given i .fits)
-    (once-passed (takeOutChecks (given b) m) (take-out-numbered (given b) m) (all (c .before .before .before .before .before .before .before .before .before .before .before .before .before .before .before)) _ (left (p .before .before))
-    (carried-lent _ (accepted (c .before .before .before .before .before .before .before .before .before .before .before .before .before .before .before .before .before .before)) (λ q. takenOutPopup q m) (part4 (p .before .before .before .before .before .before)) (there5 (p .before .before .before .before .before)) (λ t. left-popups p))
+    whole (given b) m _ (λ i. c .before .before .before .before .before .before .before .before .before .before .before .before .before .before .before .before .before .before .before .before .before .before .before .shared-slice-known .given i .fits)
+    (once-passed (takeOutChecks (given b) m) (take-out-numbered (given b) m) (all (c .before .before .before .before .before .before .before .before .before .before .before .before .before .before .before .before)) _ (left (p .before .before))
+    (carried-lent _ (accepted (c .before .before .before .before .before .before .before .before .before .before .before .before .before .before .before .before .before .before .before)) (λ q. takenOutPopup q m) (part4 (p .before .before .before .before .before .before .before)) (there5 (p .before .before .before .before .before .before)) (λ t. left-popups p) (part7 (p .before .before .before .before)))
     (there6 (c .before .before .before .before .before .before .before)) (c .before .before .before .before .schedule-marks .ensures .0)) (c .before .before .before .before .schedule-marks .ensures .1)
 
 pub take-out-spec : {M : Type 1} → statement M
@@ -169,6 +175,7 @@ take-out-spec =
     part-requires-2
     is-there-requires
     part-requires-3
+    part-requires-4
     before-requires
     behind-requires
     before-requires-2

@@ -23,6 +23,7 @@ before s i =
       edition = placeBefore s i 4;
       popups = placeBefore s i 5;
       counts = placeBefore s i 6;
+      shape = placeBefore s i 7;
     }
 
 abbrev Inv-loop : tie.InvT-loop

@@ -21,15 +21,19 @@ placed-requires-5 c κs = search needs
 placed-requires-6 : tie.Need-placed-requires-6
 placed-requires-6 c κs = search needs
 
+placed-requires-7 : tie.Need-placed-requires-7
+placed-requires-7 c κs = search needs
+
 returns : tie.Need-returns
 returns c =
     rw (
-      c .before .before .before .before .before .placed .ensures,
-      c .before .before .before .before .placed2 .ensures,
-      c .before .before .before .placed3 .ensures,
-      c .before .before .placed4 .ensures,
-      c .before .placed5 .ensures,
-      c .placed6 .ensures,
+      c .before .before .before .before .before .before .placed .ensures,
+      c .before .before .before .before .before .placed2 .ensures,
+      c .before .before .before .before .placed3 .ensures,
+      c .before .before .before .placed4 .ensures,
+      c .before .before .placed5 .ensures,
+      c .before .placed6 .ensures,
+      c .placed7 .ensures,
     )
 
 pub with-place-spec : {M : Type 1} → statement M
@@ -42,4 +46,5 @@ with-place-spec =
     placed-requires-4
     placed-requires-5
     placed-requires-6
+    placed-requires-7
     returns)

@@ -103,6 +103,7 @@ place-past l code h =
       ne-eqb code 4 (omega arith),
       ne-eqb code 5 (omega arith),
       ne-eqb code 6 (omega arith),
+      ne-eqb code 7 (omega arith),
     )
 
 pub place-none : (code : ℕ) → placeOf noParts code ≡ nowhere
@@ -113,7 +114,8 @@ place-none (suc (suc (suc zero))) = refl
 place-none (suc (suc (suc (suc zero)))) = refl
 place-none (suc (suc (suc (suc (suc zero))))) = refl
 place-none (suc (suc (suc (suc (suc (suc zero)))))) = refl
-place-none (suc (suc (suc (suc (suc (suc (suc code))))))) = place-past noParts (suc (suc (suc (suc (suc (suc (suc code))))))) (omega arith)
+place-none (suc (suc (suc (suc (suc (suc (suc zero))))))) = refl
+place-none (suc (suc (suc (suc (suc (suc (suc (suc code)))))))) = place-past noParts (suc (suc (suc (suc (suc (suc (suc (suc code)))))))) (omega arith)
 
 module _ (s : List ℕ) (laid : Laid s) where
   -- no body starts at 0: the contents stand there
@@ -162,6 +164,7 @@ module _ (s : List ℕ) (laid : Laid s) where
   layout-at (suc (suc (suc (suc zero)))) = placed-at 4
   layout-at (suc (suc (suc (suc (suc zero))))) = placed-at 5
   layout-at (suc (suc (suc (suc (suc (suc zero)))))) = placed-at 6
-  layout-at (suc (suc (suc (suc (suc (suc (suc c))))))) =
-      let code = suc (suc (suc (suc (suc (suc (suc c)))))) in
+  layout-at (suc (suc (suc (suc (suc (suc (suc zero))))))) = placed-at 7
+  layout-at (suc (suc (suc (suc (suc (suc (suc (suc c)))))))) =
+      let code = suc (suc (suc (suc (suc (suc (suc (suc c))))))) in
       rw (place-past (layoutOf s) code (omega arith)) (at-nowhere code (no-part code (λ i l e. omega (arith, e, code-most s laid i l))))

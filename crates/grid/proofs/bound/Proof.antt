@@ -47,7 +47,7 @@ returns c =
     let a = x .before .before .before in
     let told = x .before .struct-told .given in
     let h : g .get .result ≤ 16383 = rw (g .get .ensures) (a .pre .3) in
-    bound-is (a .args .label) (g .get .ensures) h (a .pre .2)
+    bound-is (a .args .shape) (a .args .label) (g .get .ensures) h (a .pre .2)
     (rw (
       x .shifted .ensures,
       y .shifted2 .ensures,

@@ -47,7 +47,7 @@ returns c =
     let e = x .before in
     let w = e .before in
     rw (c .distance .ensures, toZ-ofZ (sfits-of (x .away-from .ok)), toZ-ofZ (sfits-of (y .away-from2 .ok)))
-    (off-box (rw (w .get .ensures, e .get2 .ensures) at (x .away-from .ensures)) (rw (s .get3 .ensures, n .get4 .ensures) at (y .away-from2 .ensures)))
+    (off-box _ (rw (w .get .ensures, e .get2 .ensures) at (x .away-from .ensures)) (rw (s .get3 .ensures, n .get4 .ensures) at (y .away-from2 .ensures)))
 
 pub off-box-spec : {M : Type 1} → statement M
 off-box-spec =

@@ -1,4 +1,4 @@
--- The sheet that counting writes, as the code has it: contents, the bodies of the sheet that is counted, and its counts; and how counting ends.
+-- The sheet that counting writes, as the code has it: contents, the bodies of the sheet that is counted, with its counts before part 7; and how counting ends.
 -- Assumes nothing.
 use Prim.Native.Nat.{ℕ, zero, suc, _+_, _*_, _-_, _/_, _<_, _≤_}
 use mathlib.Core.Path.{_≡_, refl, sym, ap, _∙_}
@@ -7,83 +7,39 @@ use mathlib.Core.List.{List, [], _∷_, _++_, append-assoc, append-nil}
 use mathlib.Core.Logic.{_⊎_}
 use native.Mathlib.Omega.{arith}
 use lib.Dec.{leb}
-use lib.ListN.{length, getD, drop, length-map}
-use lib.Seq.{sets, drop-at}
+use lib.ListN.{length, getD, take, drop, length-map, length-append, length-drop}
+use lib.Seq.{sets, take-at, drop-at}
 use Rattle.lists.specs.StoreLaws.{sets-append}
+use Rattle.lists.specs.TestLaws.{by-cases}
 use Rattle.numbers.specs.Little.{Bytes}
 use Rattle.numbers.specs.Laws.{bytes-take, bytes-drop}
 use Rattle.counting.specs.Counts.{countsOf}
 use Rattle.counting.specs.Laws.{counts-length, counts-bytes}
-use Rattle.contents.specs.Contents.{Part, _holds_, codesOf, bodiesOf, sizesOf, has, withPart, contentsSize, countAt, codeAt, offsetAt, lengthAt, bodyAt, firstParts, split, contentsOf, chain, join, marksPart, schedulePart, indexPart, editionPart, popupsPart}
+use Rattle.contents.specs.Contents.{Part, _holds_, codesOf, bodiesOf, sizesOf, has, withPart, contentsSize, countAt, codeAt, offsetAt, lengthAt, bodyAt, firstParts, split, contentsOf, chain, join, marksPart, schedulePart, indexPart, editionPart, popupsPart, shapePart}
 use Rattle.contents.specs.Asking.{_asks_, answer}
 use Rattle.contents.specs.Questions.{codesRight}
-use Rattle.contents.specs.Laws.{asked-no, append-yes, append-no, one-there, in-order, split-length, with-more, with-bytes, join-length, join-bytes, contents-length}
+use Rattle.contents.specs.Laws.{asked-no, append-yes, append-no, one-there, in-order, find-none, split-length, with-more, with-bytes, join-length, join-bytes, contents-length}
 use Rattle.bodies.specs.Fitting.{Fitting}
-use Rattle.bodies.specs.Laws.{popups-iff, popups-good, popups-enough, edition-long, fitting-writable}
+use Rattle.bodies.specs.Laws.{popups-iff, popups-good, popups-enough, choice-long, fitting-writable}
 use Rattle.sheet.specs.Questions.{sheetCount, checkQuestions, check}
 use Rattle.sheet.specs.Laws.{check-numbered, accepted-iff, sheet-again}
 use Rattle.jobs.specs.declared.Answer.{Answer}
-use Rattle.jobs.specs.Jobs.{outcome, countsIn, withOwnCounts, countChecks, countJob}
+use Rattle.jobs.specs.Jobs.{outcome, partIf, countsIn, withOwnCounts, countChecks, countJob}
 use Rattle.jobs.specs.Answers.{refusal, Gives}
 use Rattle.jobs.specs.Counted.{MeetsCounting}
 use Rattle.jobs.specs.Steps.{codesFrom, sizesFrom}
 use Rattle.jobs.specs.Laws.Outcomes.{outcome-same, refused-gives}
+use Rattle.jobs.specs.Laws.Listed.{parts-chain, chain-if, append-bytes, if-bytes, counts-between, listed, listed-codes, listed-sizes}
 use Rattle.jobs.specs.Laws.Counting.{count-numbered, count-asked, counted-accepted, countQuestions, count-meets}
-
--- ---- parts 1 to 5, and part 6 behind them
-
--- parts 1 and 2, and those of 3 to 5 that are there
-abbrev bareParts : Bool → Bool → Bool → List ℕ → List ℕ → List ℕ → List ℕ → List ℕ → List Part
-bareParts index edition popups a b x y z =
-    (1 holds a) ∷ (2 holds b) ∷ (cond index ((3 holds x) ∷ []) [] ++ (cond edition ((4 holds y) ∷ []) [] ++ cond popups ((5 holds z) ∷ []) []))
-
-module _ (a b x y z c : List ℕ) where
-  last-codes : (index edition popups : Bool) → codesFrom index edition popups true ≡ codesOf (withPart 6 c (bareParts index edition popups a b x y z))
-  last-codes true true true = refl
-  last-codes true true false = refl
-  last-codes true false true = refl
-  last-codes true false false = refl
-  last-codes false true true = refl
-  last-codes false true false = refl
-  last-codes false false true = refl
-  last-codes false false false = refl
-
-  last-bodies : (index edition popups : Bool)
-      → bodiesOf (withPart 6 c (bareParts index edition popups a b x y z)) ≡ bodiesOf (bareParts index edition popups a b x y z) ++ (c ∷ [])
-  last-bodies true true true = refl
-  last-bodies true true false = refl
-  last-bodies true false true = refl
-  last-bodies true false false = refl
-  last-bodies false true true = refl
-  last-bodies false true false = refl
-  last-bodies false false true = refl
-  last-bodies false false false = refl
-
-  last-sizes : (n : ℕ) (index edition popups : Bool) → length a ≡ 11 * n → length b ≡ 14 * n → (index ≡ true → length x ≡ 2 * n)
-      → (edition ≡ true → length y ≡ 1) → (popups ≡ true → length z ≡ 4 * n) → length c ≡ 170
-      → sizesFrom n index edition popups true ≡ sizesOf (bodiesOf (withPart 6 c (bareParts index edition popups a b x y z)))
-  last-sizes n true true true ha hb hx hy hz hc = rw (ha, hb, hx refl, hy refl, hz refl, hc)
-  last-sizes n true true false ha hb hx hy hz hc = rw (ha, hb, hx refl, hy refl, hc)
-  last-sizes n true false true ha hb hx hy hz hc = rw (ha, hb, hx refl, hz refl, hc)
-  last-sizes n true false false ha hb hx hy hz hc = rw (ha, hb, hx refl, hc)
-  last-sizes n false true true ha hb hx hy hz hc = rw (ha, hb, hy refl, hz refl, hc)
-  last-sizes n false true false ha hb hx hy hz hc = rw (ha, hb, hy refl, hc)
-  last-sizes n false false true ha hb hx hy hz hc = rw (ha, hb, hz refl, hc)
-  last-sizes n false false false ha hb hx hy hz hc = rw (ha, hb, hc)
-
-chain-last : (bodies : List (List ℕ)) (c : List ℕ) → chain (bodies ++ (c ∷ [])) ≡ chain bodies ++ c
-unfolding chain
-chain-last [] c = append-nil c
-chain-last (x ∷ bodies) c = rw (chain-last bodies c) (sym (append-assoc x (chain bodies) c))
 
 -- ---- a sheet with part 2 and without part 6
 
 -- the codes and sizes of its parts with part 6, and the contents that list them
 abbrev pub countedCodes : List ℕ → List ℕ
-countedCodes s = codesFrom (has (split s) 3) (has (split s) 4) (has (split s) 5) true
+countedCodes s = codesFrom (has (split s) 3) (has (split s) 4) (has (split s) 5) true (has (split s) 7)
 
 abbrev pub countedSizes : List ℕ → List ℕ
-countedSizes s = sizesFrom (sheetCount s) (has (split s) 3) (has (split s) 4) (has (split s) 5) true
+countedSizes s = sizesFrom (sheetCount s) (has (split s) 3) (has (split s) 4) (has (split s) 5) true (has (split s) 7)
 
 abbrev pub countedHead : List ℕ → List ℕ
 countedHead s = contentsOf (countedCodes s) (countedSizes s)
@@ -104,33 +60,63 @@ module _ (s : List ℕ) (bytes : Bytes s) (ok : check s ≡ 0) (two : has (split
   counts-long : length counts ≡ 170
   counts-long = counts-length (marksPart (split s)) (schedulePart (split s)) (popupsPart (split s)) (sheetCount s)
 
-  abbrev bare : List Part
-  bare =
-      bareParts (has (split s) 3) (has (split s) 4) (has (split s) 5) (marksPart (split s)) (schedulePart (split s)) (indexPart (split s)) (editionPart (split s)) (popupsPart (split s))
+  -- its parts, with counts or without
+  abbrev partsWith : Bool → List Part
+  partsWith counted =
+      listed (marksPart parts) (schedulePart parts) (indexPart parts) (editionPart parts) (popupsPart parts) counts (shapePart parts) (has parts 3) (has parts 4) (has parts 5) counted (has parts 7)
 
-  shape : split s ≡ bare
-  shape =
-      in-order (split s) right ∙ rw (one-there (codesOf (split s)) right, two, none, append-nil (cond (has (split s) 5) ((5 holds popupsPart (split s)) ∷ []) []))
+  without : split s ≡ partsWith false
+  without = in-order parts right ∙ rw (one-there (codesOf parts) right, two, none, append-nil (partIf (has parts 7) 7 (shapePart parts)))
+
+  -- part 6 comes before part 7
+  with-counts : withPart 6 counts (split s) ≡ partsWith true
+  with-counts =
+      ap (withPart 6 counts) without
+      ∙ ap (λ (l : List Part). (1 holds marksPart parts) ∷ (2 holds schedulePart parts) ∷ l)
+      (past (has parts 3) _ ∙ ap (λ (l : List Part). partIf (has parts 3) 3 (indexPart parts) ++ l)
+      (counts-between (has parts 4) (has parts 5) (has parts 7) (editionPart parts) (popupsPart parts) counts (shapePart parts) true))
+    where
+      past : (index : Bool) (l : List Part) → withPart 6 counts (partIf index 3 (indexPart parts) ++ l) ≡ partIf index 3 (indexPart parts) ++ withPart 6 counts l
+      past true l = refl
+      past false l = refl
 
   pub counted-codes : countedCodes s ≡ codesOf (withPart 6 (countsIn (split s)) (split s))
   counted-codes =
-      last-codes (marksPart parts) (schedulePart parts) (indexPart parts) (editionPart parts) (popupsPart parts) counts (has parts 3) (has parts 4) (has parts 5)
-      ∙ ap (λ (l : List Part). codesOf (withPart 6 counts l)) (sym shape)
+      sym (ap codesOf with-counts ∙ listed-codes (marksPart parts) (schedulePart parts) (indexPart parts) (editionPart parts) (popupsPart parts) counts (shapePart parts) (has parts 3) (has parts 4) (has parts 5) true (has parts 7))
 
-  pub counted-sizes : countedSizes s
-      ≡ sizesOf (bodiesOf (withPart 6 (countsIn (split s)) (split s)))
+  pub counted-sizes : countedSizes s ≡ sizesOf (bodiesOf (withPart 6 (countsIn (split s)) (split s)))
   counted-sizes =
-      last-sizes (marksPart parts) (schedulePart parts) (indexPart parts) (editionPart parts) (popupsPart parts) counts (sheetCount s) (has parts 3) (has parts 4) (has parts 5)
-      (fits .marks-long) (fits .schedule-long two) (fits .index-long) (λ h. edition-long (editionPart parts) (fits .edition-right h))
-      (λ h. popups-iff (popupsPart parts) (sheetCount s) .0 (fits .popups-right h) .0) counts-long
-      ∙ ap (λ (l : List Part). sizesOf (bodiesOf (withPart 6 counts l))) (sym shape)
+      sym
+      (ap (λ (l : List Part). sizesOf (bodiesOf l)) with-counts
+      ∙ listed-sizes (marksPart parts) (schedulePart parts) (indexPart parts) (editionPart parts) (popupsPart parts) counts (shapePart parts) (has parts 3) (has parts 4) (has parts 5) true (has parts 7)
+      (sheetCount s) (fits .marks-long) (fits .schedule-long two) (fits .index-long) (λ h. choice-long (editionPart parts) (fits .edition-right h))
+      (λ h. popups-iff (popupsPart parts) (sheetCount s) .0 (fits .popups-right h) .0) (λ h. counts-long) (λ h. choice-long (shapePart parts) (fits .shape-right h)))
 
-  -- part 6 comes last
-  pub counted-chain : chain (bodiesOf (withPart 6 (countsIn (split s)) (split s))) ≡ chain (bodiesOf (split s)) ++ countsIn (split s)
+  -- the bodies before part 7, and then that one; the counts stand between
+  abbrev before7 : List Part
+  before7 =
+      (1 holds marksPart parts) ∷ (2 holds schedulePart parts) ∷ (partIf (has parts 3) 3 (indexPart parts) ++ (partIf (has parts 4) 4 (editionPart parts) ++ partIf (has parts 5) 5 (popupsPart parts)))
+
+  last-chain : chain (bodiesOf (partIf (has parts 7) 7 (shapePart parts))) ≡ shapePart parts
+  last-chain = chain-if (has parts 7) 7 (shapePart parts) ∙ by-cases (has parts 7) (λ e. rw e) (λ e. rw (e, find-none parts 7 e))
+
+  bare-chain : chain (bodiesOf (split s)) ≡ chain (bodiesOf before7) ++ shapePart parts
+  bare-chain =
+      ap (λ (l : List Part). chain (bodiesOf l)) (without ∙ regrouped)
+      ∙ parts-chain before7 (partIf (has parts 7) 7 (shapePart parts)) ∙ ap (λ (l : List ℕ). chain (bodiesOf before7) ++ l) last-chain
+    where
+      regrouped : partsWith false ≡ before7 ++ partIf (has parts 7) 7 (shapePart parts)
+      regrouped = ap (λ (l : List Part). (1 holds marksPart parts) ∷ (2 holds schedulePart parts) ∷ l) (simp append-assoc)
+
+  pub counted-chain : chain (bodiesOf (withPart 6 (countsIn (split s)) (split s))) ≡ chain (bodiesOf before7) ++ (countsIn (split s) ++ shapePart (split s))
+  unfolding chain
   counted-chain =
-      ap (λ (l : List Part). chain (bodiesOf (withPart 6 counts l))) shape
-      ∙ ap chain (last-bodies (marksPart parts) (schedulePart parts) (indexPart parts) (editionPart parts) (popupsPart parts) counts (has parts 3) (has parts 4) (has parts 5))
-      ∙ chain-last (bodiesOf bare) counts ∙ ap (λ (l : List Part). chain (bodiesOf l) ++ counts) (sym shape)
+      ap (λ (l : List Part). chain (bodiesOf l)) (with-counts ∙ regrouped)
+      ∙ parts-chain before7 ((6 holds counts) ∷ partIf (has parts 7) 7 (shapePart parts))
+      ∙ ap (λ (l : List ℕ). chain (bodiesOf before7) ++ (counts ++ l)) last-chain
+    where
+      regrouped : partsWith true ≡ before7 ++ ((6 holds counts) ∷ partIf (has parts 7) 7 (shapePart parts))
+      regrouped = ap (λ (l : List Part). (1 holds marksPart parts) ∷ (2 holds schedulePart parts) ∷ l) (simp append-assoc)
 
   -- a sheet's bodies are its bytes behind its contents
   pub own-bodies : drop (contentsSize (countAt s)) s ≡ chain (bodiesOf (split s))
@@ -144,12 +130,18 @@ module _ (s : List ℕ) (bytes : Bytes s) (ok : check s ≡ 0) (two : has (split
           contents-length (codesOf parts) (sizesOf (bodiesOf parts)) (simp length-map)
           ∙ ap contentsSize (simp length-map (split-length s))
 
-  -- what counting writes: contents, the sheet's bodies, and its counts
-  pub counted-is : withOwnCounts s
-      ≡ countedHead s
-      ++ (drop (contentsSize (countAt s)) s ++ countsIn (split s))
+  -- what lies before part 7: its bytes are the last of the sheet
+  pub bodies-before : take (length s - contentsSize (countAt s) - length (shapePart (split s))) (drop (contentsSize (countAt s)) s) ≡ chain (bodiesOf before7)
+  bodies-before =
+      let whole : drop (contentsSize (countAt s)) s ≡ chain (bodiesOf before7) ++ shapePart parts = own-bodies ∙ bare-chain in
+      let size : length s - contentsSize (countAt s) - length (shapePart parts) ≡ length (chain (bodiesOf before7)) =
+      omega (arith, ap length whole, length-append (chain (bodiesOf before7)) (shapePart parts), length-drop (contentsSize (countAt s)) s) in
+      rw (whole, size) (take-at (chain (bodiesOf before7)) (shapePart parts) (length (chain (bodiesOf before7))) refl)
+
+  -- what counting writes: contents, the sheet's bodies before part 7, its counts, and part 7
+  pub counted-is : withOwnCounts s ≡ countedHead s ++ (chain (bodiesOf before7) ++ (countsIn (split s) ++ shapePart (split s)))
   unfolding join
-  counted-is = rw (counted-codes, counted-sizes, own-bodies, counted-chain)
+  counted-is = rw (counted-codes, counted-sizes, counted-chain)
 
   pub counted-long : length (withOwnCounts s) ≡ length s + 180
   counted-long =
@@ -164,59 +156,63 @@ module _ (s : List ℕ) (bytes : Bytes s) (ok : check s ≡ 0) (two : has (split
       ap length counted-codes ∙ simp length-map (more ∙ ap suc (split-length s)) in
       omega arith
 
-  -- Written one after another they are what counting writes. The sheet's contents end 10 bytes before the new ones.
-  pub counted-stores : (out : List ℕ) (start end : ℕ) → start ≡ contentsSize (length (countedCodes s)) → end ≡ start + length (drop (start - 10) s)
-      → sets (sets (sets out 0 (countedHead s)) start (drop (start - 10) s)) end (countsIn (split s)) ≡ sets out 0 (withOwnCounts s)
-  counted-stores out start end is-start is-end =
-      let own = drop (contentsSize (countAt s)) s in
-      let from : start - 10 ≡ contentsSize (countAt s) = omega (arith, is-start, counted-start) in
-      let at : 0 + length (countedHead s) ≡ start = ap (λ (k : ℕ). 0 + k) head-long ∙ omega (arith, is-start) in
-      let behind : start + length own ≡ end = rw from at (sym is-end) in
-      sym
-      (ap (sets out 0) counted-is ∙ sets-append out 0 (countedHead s) (own ++ counts)
-      ∙ ap (λ (k : ℕ). sets (sets out 0 (countedHead s)) k (own ++ counts)) at
-      ∙ sets-append (sets out 0 (countedHead s)) start own counts
-      ∙ ap (λ (k : ℕ). sets (sets (sets out 0 (countedHead s)) start own) k counts) behind
-      ∙ ap (λ (k : ℕ). sets (sets (sets out 0 (countedHead s)) start (drop k s)) end counts) (sym from))
-    where
-      head-long : length (countedHead s) ≡ contentsSize (length (countedCodes s))
-      head-long =
-          contents-length (countedCodes s) (countedSizes s)
-          (ap length counted-codes ∙ (simp length-map) ∙ sym (ap length counted-sizes))
+  head-long : length (countedHead s) ≡ contentsSize (length (countedCodes s))
+  head-long =
+      contents-length (countedCodes s) (countedSizes s)
+      (ap length counted-codes ∙ (simp length-map) ∙ sym (ap length counted-sizes))
 
-  -- the same from what each step of the code gave: which parts are there, how many marks, the contents, the bodies and the counts
-  module _ {index edition popups : Bool} (is-index : index ≡ has (split s) 3) (is-edition : edition ≡ has (split s) 4) (is-popups : popups ≡ has (split s) 5)
-      {start : ℕ} (is-start : start ≡ contentsSize (length (codesFrom index edition popups true))) where
+  -- Written one after another they are what counting writes. The sheet's contents end 10 bytes before the new ones.
+  counted-stores : (out : List ℕ) (start : ℕ) → start ≡ contentsSize (length (countedCodes s)) → {own : List ℕ} {end last : ℕ} → own ≡ chain (bodiesOf before7)
+      → end ≡ start + length own → last ≡ end + length (countsIn (split s))
+      → sets (sets (sets (sets out 0 (countedHead s)) start own) end (countsIn (split s))) last (shapePart (split s)) ≡ sets out 0 (withOwnCounts s)
+  counted-stores out start is-start {own} {end} {last} is-own is-end is-last =
+      let at : 0 + length (countedHead s) ≡ start = ap (λ (k : ℕ). 0 + k) head-long ∙ omega (arith, is-start) in
+      let headed = sets out 0 (countedHead s) in
+      sym
+      (ap (sets out 0) (counted-is ∙ ap (λ (l : List ℕ). countedHead s ++ (l ++ (counts ++ shapePart parts))) (sym is-own))
+      ∙ sets-append out 0 (countedHead s) (own ++ (counts ++ shapePart parts))
+      ∙ ap (λ (k : ℕ). sets headed k (own ++ (counts ++ shapePart parts))) at
+      ∙ sets-append headed start own (counts ++ shapePart parts)
+      ∙ ap (λ (k : ℕ). sets (sets headed start own) k (counts ++ shapePart parts)) (sym is-end)
+      ∙ sets-append (sets headed start own) end counts (shapePart parts)
+      ∙ ap (λ (k : ℕ). sets (sets (sets headed start own) end counts) k (shapePart parts)) (sym is-last))
+
+  -- the same from what each step of the code gave: which parts are there, how many marks, the contents, the bodies, the counts and part 7
+  module _ {index edition popups shape : Bool} (is-index : index ≡ has (split s) 3) (is-edition : edition ≡ has (split s) 4) (is-popups : popups ≡ has (split s) 5)
+      (is-shape : shape ≡ has (split s) 7) {start : ℕ} (is-start : start ≡ contentsSize (length (codesFrom index edition popups true shape))) where
     starts : start ≡ contentsSize (length (countedCodes s))
-    starts = rw (is-index, is-edition, is-popups) at is-start
+    starts = rw (is-index, is-edition, is-popups, is-shape) at is-start
 
     start-is : start ≡ contentsSize (countAt s) + 10
     start-is = starts ∙ counted-start
 
-    -- the bodies lie in the sheet
-    pub start-within : start - 10 ≤ length s
-    start-within = omega (arith, start-is, accepted-iff s .0 ok .laid .whole .inside)
+    -- the bodies lie in the sheet, and part 7 at its end
+    pub bodies-within : (start - 10 ≤ length s - length (shapePart (split s))) × (length (shapePart (split s)) ≤ length s)
+    bodies-within =
+        let long = ap length (own-bodies ∙ bare-chain) in
+        let more = length-append (chain (bodiesOf before7)) (shapePart parts) in
+        let behind = length-drop (contentsSize (countAt s)) s in
+        (omega (arith, start-is, long, more, behind, accepted-iff s .0 ok .laid .whole .inside), omega (arith, long, more, behind))
 
-    pub counted-written : (before : List ℕ) {n end : ℕ} {body own headed copied left : List ℕ} → n ≡ sheetCount s → body ≡ drop (start - 10) s → own ≡ countsIn (split s)
-        → headed ≡ sets before 0 (contentsOf (codesFrom index edition popups true) (sizesFrom n index edition popups true))
-        → end ≡ start + length body → copied ≡ sets headed start body → left ≡ sets copied end own → left ≡ sets before 0 (withOwnCounts s)
-    counted-written before is-n is-body is-own is-headed is-end is-copied is-left =
-        rw (is-left, is-copied, is-headed, is-own, is-body, is-n, is-index, is-edition, is-popups)
-        (counted-stores before start _ starts (rw is-body at is-end))
+    pub counted-written : (before : List ℕ) {n end last : ℕ} {body own tail headed copied counted left : List ℕ} → n ≡ sheetCount s
+        → body ≡ take (length s - length (shapePart (split s)) - (start - 10)) (drop (start - 10) s) → own ≡ countsIn (split s) → tail ≡ shapePart (split s)
+        → headed ≡ sets before 0 (contentsOf (codesFrom index edition popups true shape) (sizesFrom n index edition popups true shape))
+        → end ≡ start + length body → copied ≡ sets headed start body → last ≡ end + length own → counted ≡ sets copied end own → left ≡ sets counted last tail
+        → left ≡ sets before 0 (withOwnCounts s)
+    counted-written before {body = body} is-n is-body is-own is-tail is-headed is-end is-copied is-last is-counted is-left =
+        let from : start - 10 ≡ contentsSize (countAt s) = omega (arith, start-is) in
+        let size : length s - length (shapePart parts) - contentsSize (countAt s) ≡ length s - contentsSize (countAt s) - length (shapePart parts) = omega arith in
+        let is : body ≡ chain (bodiesOf before7) = is-body ∙ rw (from, size) bodies-before in
+        rw (is-left, is-counted, is-copied, is-headed, is-own, is-tail, is-n, is-index, is-edition, is-popups, is-shape)
+        (counted-stores before start starts is is-end (rw is-own at is-last))
 
 -- ---- the bytes that counting writes are bytes, for every list of bytes
-
-last-bytes : (parts : List Part) (p : Part) → ((i : ℕ) → Bytes (getD (bodiesOf parts) i [])) → Bytes (p .body)
-    → (i : ℕ) → Bytes (getD (bodiesOf (parts ++ (p ∷ []))) i [])
-last-bytes [] p each b zero = b
-last-bytes [] p each b (suc i) = each i
-last-bytes (q ∷ parts) p each b zero = each 0
-last-bytes (q ∷ parts) p each b (suc i) = last-bytes parts p (λ j. each (suc j)) b i
 
 first-bytes : (s : List ℕ) → Bytes s → (k i : ℕ) → Bytes (getD (bodiesOf (firstParts s k)) i [])
 first-bytes s b zero i = λ j. omega arith
 first-bytes s b (suc k) i =
-    last-bytes (firstParts s k) (codeAt s k holds bodyAt s k) (first-bytes s b k) (bytes-take (lengthAt s k) (drop (offsetAt s k) s) (bytes-drop (offsetAt s k) s b)) i
+    append-bytes (firstParts s k) _ (first-bytes s b k)
+    (if-bytes true (codeAt s k) (bodyAt s k) (bytes-take (lengthAt s k) (drop (offsetAt s k) s) (bytes-drop (offsetAt s k) s b))) i
 
 pub counted-bytes : (s : List ℕ) → Bytes s → Bytes (withOwnCounts s)
 unfolding split

@@ -13,8 +13,8 @@ use Rattle.lists.specs.Stores.{over}
 use Rattle.lists.specs.Tests.{howMany}
 use Rattle.lists.specs.TestLaws.{many-same}
 use Rattle.numbers.specs.Little.{Bytes}
-use Rattle.marks.specs.Marks.{xAt, yAt, usedAt, apart, distance}
-use Rattle.marks.specs.Laws.{place-fits}
+use Rattle.marks.specs.Marks.{xAt, yAt, usedAt, apart}
+use Rattle.marks.specs.Laws.{place-fits, distance-most}
 use Rattle.elimination.specs.Records.{valueAt}
 use Rattle.counting.specs.Lives.{lives}
 use Rattle.counting.specs.Counts.{stops, groups, livesAtStop, inGroup, livingCount}
@@ -26,7 +26,7 @@ use Rattle.contents.specs.Questions.{codesRight}
 use Rattle.contents.specs.Laws.{Numbered, numbered-append, none-asked, asked-iff, append-iff, find-none, find-bytes, split-join, with-found, with-there, with-other-found, with-other-there, with-right, with-twice, with-own}
 use Rattle.bodies.specs.Fitting.{Fitting}
 use Rattle.bodies.specs.Laws.{fitting-writable}
-use Rattle.sheet.specs.Questions.{sheetCount, checkQuestions, check}
+use Rattle.sheet.specs.Questions.{sheetCount, sheetShape, checkQuestions, check}
 use Rattle.sheet.specs.Laws.{check-numbered, accepted-iff, join-accepted, sheet-again}
 use Rattle.bitmap.specs.Map.{mapBytes, isSet}
 use Rattle.bitmap.specs.Facts.{Shows}
@@ -51,12 +51,12 @@ in-range (negsuc a) h = (le-leb a 32767 (omega arith), refl)
 apart-self : (z : ℤ) → apart z z ≡ 0
 apart-self z = ap natAbs (+ℤ-invr z)
 
-all-reached : (s : List ℕ) → Bytes s → (k m : ℕ) → reaches s k everything m ≡ true
-unfolding question11 distance
-all-reached s b k m =
+all-reached : (shape : ℕ) (s : List ℕ) → Bytes s → (k m : ℕ) → reaches shape s k everything m ≡ true
+unfolding question11
+all-reached shape s b k m =
     let x = in-range (xAt s m) (place-fits s (11 * m) b .sfits) in
     let y = in-range (yAt s m) (place-fits s (11 * m + 2) b .sfits) in
-    reaches-iff s k everything m refl .1
+    reaches-iff shape s k everything m refl .1
     (record {
       x = xAt s m;
       y = yAt s m;
@@ -64,7 +64,7 @@ all-reached s b k m =
       to-x1 = x .1;
       from-y0 = y .0;
       to-y1 = y .1;
-      near = rw (turned-0 (placeAt s m), apart-self (xAt s m), apart-self (yAt s m)) (omega arith);
+      near = rw (turned-0 (placeAt s m), apart-self (xAt s m), apart-self (yAt s m)) (omega (arith, distance-most shape 0 0));
     })
 
 stop-scale : (stop : ℕ) → stop < 17 → scale (scaleOf (Stop stop)) ≡ 2 ^ stop
@@ -120,7 +120,7 @@ module _ (s : List ℕ) (bytes : Bytes s) (ok : check s ≡ 0) (there : has (spl
       same : (m : ℕ) → m < sheetCount s → (inGroup marks group m && livesAtStop schedule popups stop m) ≡ (inGroup marks group m && isSet left m)
       same m k =
           ap (λ (b : Bool). inGroup marks group m && b)
-          (sym (shown-set shows m k ∙ rw (stop-scale stop h, all-reached marks (find-bytes s bytes 1) (2 ^ stop) m) (and-yes (lives (valueAt schedule m) popups (2 ^ stop) m))))
+          (sym (shown-set shows m k ∙ rw (stop-scale stop h, all-reached (sheetShape s) marks (find-bytes s bytes 1) (2 ^ stop) m) (and-yes (lives (valueAt schedule m) popups (2 ^ stop) m))))
 
   pub counts-right : CountsRight s
   counts-right = record { counts = counts-are; falls = counts-fall; viewed = counts-viewed }
@@ -170,7 +170,8 @@ module _ (s : List ℕ) (ok : check s ≡ 0) (two : has (split s) 2 ≡ true) wh
         index-long = λ h. rw (found 1 refl, found 3 refl) (own .index-long (rw (named 3 refl) at h));
         edition-right = λ h. rw (found 4 refl) (own .edition-right (rw (named 4 refl) at h));
         popups-right = λ h. rw (found 1 refl, found 5 refl) (own .popups-right (rw (named 5 refl) at h));
-        schedule-right = λ h. rw (found 1 refl, found 2 refl, found 4 refl, found 5 refl) (own .schedule-right (rw (named 2 refl) at h));
+        shape-right = λ h. rw (found 7 refl) (own .shape-right (rw (named 7 refl) at h));
+        schedule-right = λ h. rw (found 1 refl, found 2 refl, found 4 refl, found 5 refl, found 7 refl) (own .schedule-right (rw (named 2 refl) at h));
         index-right = λ h. rw (found 1 refl, found 2 refl, found 3 refl) (own .index-right (rw (named 3 refl) at h));
         counts-right = λ h. rw (found 1 refl, found 2 refl, found 5 refl) (with-found 6 counts (split s));
       }

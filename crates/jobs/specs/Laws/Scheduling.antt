@@ -1,11 +1,11 @@
 -- Scheduling: the written pieces are the sheet that is defined, and each way out answers as the job says. Assumes nothing.
-use Prim.Native.Nat.{ℕ, _+_, _-_, _*_, _<_, _≤_}
-use mathlib.Core.Path.{_≡_, refl, sym, ap, _∙_}
-use mathlib.Core.Bool.{Bool, true, false, cond}
+use Prim.Native.Nat.{ℕ, suc, _+_, _-_, _*_, _<_, _≤_}
+use mathlib.Core.Path.{_≡_, refl, sym, ap, ap₂, _∙_}
+use mathlib.Core.Bool.{Bool, true, false, cond, false≢true}
 use mathlib.Core.Logic.{inl, inr}
 use mathlib.Core.List.{List, [], _∷_, _++_, append-nil, append-assoc}
 use native.Mathlib.Omega.{arith}
-use borrow.Author.Tests.{leb-true, le-leb}
+use borrow.Author.Tests.{leb-true, le-leb, ltb-true, lt-ltb}
 use borrow.Rule.Slice.PartMut.{midOf, putMid}
 use lib.Dec.{ltb, leb}
 use lib.ListN.{length, take, drop, length-append, length-drop, length-map}
@@ -21,16 +21,17 @@ use Rattle.index.specs.Laws as Index
 use Rattle.indexing.specs.Buffer.{withIndex}
 use Rattle.counting.specs.Counts.{countsOf}
 use Rattle.counting.specs.Laws.{counts-length}
-use Rattle.contents.specs.Contents.{Part, codesOf, bodiesOf, has, sizesOf, contentsSize, contentsOf, chain, join, popupsPart}
+use Rattle.contents.specs.Contents.{Part, _holds_, codesOf, bodiesOf, has, sizesOf, contentsSize, contentsOf, chain, join, popupsPart}
 use Rattle.contents.specs.Asking.{Question, answer}
 use Rattle.contents.specs.Laws.{Numbered, none-asked, append-yes, append-no, append-iff, contents-length, join-length}
-use Rattle.bodies.specs.Questions.{markCount, editionIn, editionOf}
+use Rattle.bodies.specs.Questions.{markCount, choiceIn, editionOf, shapeOf}
 use Rattle.jobs.specs.declared.Answer.{Answer}
-use Rattle.jobs.specs.Jobs.{outcome, withCounts, newSchedule, newIndex, newCounts, newParts, scheduledFrom, scheduledSize, hasRoom, schedulingQuestions, schedulingJob}
+use Rattle.jobs.specs.Jobs.{outcome, partIf, withCounts, newSchedule, newIndex, newCounts, newParts, scheduledFrom, scheduledSize, hasRoom, schedulingQuestions, schedulingJob}
 use Rattle.jobs.specs.Answers.{refusal, Gives}
 use Rattle.jobs.specs.Steps.{keptFrom, PopupsLent, codesFrom, sizesFrom, bareFrom, resultsOver}
 use Rattle.jobs.specs.Laws.Outcomes.{refused-gives, written-gives}
-use Rattle.jobs.specs.Laws.Kept.{beside-sized}
+use Rattle.jobs.specs.Laws.Listed.{parts-chain, chain-if, counts-between, listed, listed-codes, listed-sizes, same-many}
+use Rattle.jobs.specs.Laws.Kept.{beside-sized, kept-uncounted, kept-edition-from, kept-shape-from, kept-popups-from}
 
 -- ---- the written pieces
 
@@ -59,48 +60,49 @@ results-are r a₀ {a₁} {a₂} long first second =
     let is : a₂ ≡ (s ++ p) ++ (index ++ drop (27 * n) a₀) = rw (marks, schedule, front, back) at second in
     is ∙ append-assoc s p (index ++ drop (27 * n) a₀)
 
-index-long : (s : List ℕ) (n edition : ℕ) (popups : List ℕ) → n ≤ 4096
-    → length (indexBytes (indexOf s (scheduleOf (record { marks = s; count = n; edition = edition; popups = popups })) n)) ≡ 2 * n
-index-long s n edition popups few =
-    Index.index-long s (scheduleOf (record { marks = s; count = n; edition = edition; popups = popups })) n (omega (arith, few))
+index-long : (s : List ℕ) (n edition shape : ℕ) (popups : List ℕ) → n ≤ 4096
+    → length (indexBytes (indexOf s (scheduleOf (record { marks = s; count = n; edition = edition; shape = shape; popups = popups })) n)) ≡ 2 * n
+index-long s n edition shape popups few =
+    Index.index-long s (scheduleOf (record { marks = s; count = n; edition = edition; shape = shape; popups = popups })) n (omega (arith, few))
 
 -- n marks, and parts that are kept
 module _ (s : List ℕ) (n : ℕ) (few : n ≤ 4096) (long : length s ≡ 11 * n) where
   count-is : markCount s ≡ n
   count-is = omega (arith, long)
 
-  abbrev schedule : ℕ → List ℕ → List ℕ
-  schedule edition popups = scheduleOf (record { marks = s; count = n; edition = edition; popups = popups })
+  abbrev schedule : ℕ → ℕ → List ℕ → List ℕ
+  schedule edition shape popups = scheduleOf (record { marks = s; count = n; edition = edition; shape = shape; popups = popups })
 
-  abbrev index : ℕ → List ℕ → List ℕ
-  index edition popups = indexBytes (indexOf s (schedule edition popups) n)
+  abbrev index : ℕ → ℕ → List ℕ → List ℕ
+  index edition shape popups = indexBytes (indexOf s (schedule edition shape popups) n)
 
-  abbrev results : ℕ → List ℕ → List ℕ
-  results edition popups = schedule edition popups ++ index edition popups
+  abbrev results : ℕ → ℕ → List ℕ → List ℕ
+  results edition shape popups = schedule edition shape popups ++ index edition shape popups
 
-  schedule-sized : (edition : ℕ) (popups : List ℕ) → length (schedule edition popups) ≡ 14 * n
-  schedule-sized edition popups = schedule-length (record { marks = s; count = n; edition = edition; popups = popups })
+  schedule-sized : (edition shape : ℕ) (popups : List ℕ) → length (schedule edition shape popups) ≡ 14 * n
+  schedule-sized edition shape popups = schedule-length (record { marks = s; count = n; edition = edition; shape = shape; popups = popups })
 
-  results-long : (edition : ℕ) (popups : List ℕ) → length (results edition popups) ≡ 16 * n
-  results-long edition popups =
-      omega (arith, length-append (schedule edition popups) (index edition popups), schedule-sized edition popups, index-long s n edition popups few)
+  results-long : (edition shape : ℕ) (popups : List ℕ) → length (results edition shape popups) ≡ 16 * n
+  results-long edition shape popups =
+      omega (arith, length-append (schedule edition shape popups) (index edition shape popups), schedule-sized edition shape popups, index-long s n edition shape popups few)
 
   -- the bodies of what is written: the marks, their results, what is kept, and the counts
   bodies-are : (kept : List Part) (counted : Bool)
       → chain (bodiesOf (newParts s kept counted))
-      ≡ s ++ (results (editionOf kept) (popupsPart kept) ++ chain (bodiesOf (withCounts counted (newCounts s kept) kept)))
+      ≡ s ++ (results (editionOf kept) (shapeOf kept) (popupsPart kept) ++ chain (bodiesOf (withCounts counted (newCounts s kept) kept)))
   unfolding chain
   bodies-are kept counted =
       let rest = chain (bodiesOf (withCounts counted (newCounts s kept) kept)) in
       let e = editionOf kept in
+      let f = shapeOf kept in
       let q = popupsPart kept in
-      ap (λ (k : ℕ). s ++ (scheduleOf (record { marks = s; count = k; edition = e; popups = q })
-      ++ (indexBytes (indexOf s (scheduleOf (record { marks = s; count = k; edition = e; popups = q })) k) ++ rest))) count-is
-      ∙ ap (λ (l : List ℕ). s ++ l) (sym (append-assoc (schedule e q) (index e q) rest))
+      ap (λ (k : ℕ). s ++ (scheduleOf (record { marks = s; count = k; edition = e; shape = f; popups = q })
+      ++ (indexBytes (indexOf s (scheduleOf (record { marks = s; count = k; edition = e; shape = f; popups = q })) k) ++ rest))) count-is
+      ∙ ap (λ (l : List ℕ). s ++ l) (sym (append-assoc (schedule e f q) (index e f q) rest))
 
   pub sheet-long : (kept : List Part) (counted : Bool) → has kept 6 ≡ false → length (join (newParts s kept counted)) ≡ scheduledSize n kept counted
   sheet-long kept counted none =
-      let r = results (editionOf kept) (popupsPart kept) in
+      let r = results (editionOf kept) (shapeOf kept) (popupsPart kept) in
       let others = withCounts counted (newCounts s kept) kept in
       let more = beside-sized kept counted (newCounts s kept) none (counts-length s (newSchedule s kept) (popupsPart kept) (markCount s)) in
       omega (
@@ -109,32 +111,32 @@ module _ (s : List ℕ) (n : ℕ) (few : n ≤ 4096) (long : length s ≡ 11 * n
         ap length (bodies-are kept counted),
         length-append s (r ++ chain (bodiesOf others)),
         length-append r (chain (bodiesOf others)),
-        results-long (editionOf kept) (popupsPart kept),
+        results-long (editionOf kept) (shapeOf kept) (popupsPart kept),
         long,
         more,
       )
 
   -- ---- as the code writes them: the contents, be they any, the marks, and what is kept, `body`
-  module _ (head : List ℕ) (edition : ℕ) (popups body : List ℕ) where
+  module _ (head : List ℕ) (edition shape : ℕ) (popups body : List ℕ) where
     -- where the marks begin
     abbrev begin : ℕ
     begin = length head
 
     abbrev reel : Reel
-    reel = record { marks = s; count = n; edition = edition; popups = popups }
+    reel = record { marks = s; count = n; edition = edition; shape = shape; popups = popups }
 
     -- all of it, once parts 2 and 3 are written
     abbrev pub whole : List ℕ
-    whole = head ++ (s ++ (results edition popups ++ body))
+    whole = head ++ (s ++ (results edition shape popups ++ body))
 
     pub whole-long : length whole ≡ begin + 27 * n + length body
     whole-long =
         omega (
           arith,
-          length-append head (s ++ (results edition popups ++ body)),
-          length-append s (results edition popups ++ body),
-          length-append (results edition popups) body,
-          results-long edition popups,
+          length-append head (s ++ (results edition shape popups ++ body)),
+          length-append s (results edition shape popups ++ body),
+          length-append (results edition shape popups) body,
+          results-long edition shape popups,
           long,
         )
 
@@ -207,7 +209,7 @@ module _ (s : List ℕ) (n : ℕ) (few : n ≤ 4096) (long : length s ≡ 11 * n
         pub results-put : {t : List ℕ} → t ≡ resultsOver reel (midOf from (end - from) o) → putMid from (end - from) o t ≡ over whole o₀
         unfolding over resultsOver
         results-put {t} t-is =
-            let p = schedule edition popups in
+            let p = schedule edition shape popups in
             let front : take from o ≡ head = rw (from-is, all) (take-at head (middle ++ past) begin refl) in
             let rest : drop (end - from) (drop from o) ≡ past = rw behind (drop-at middle past (end - from) middle-long) in
             let none : 27 * n + 0 ≡ 27 * n = omega arith in
@@ -219,10 +221,10 @@ module _ (s : List ℕ) (n : ℕ) (few : n ≤ 4096) (long : length s ≡ 11 * n
               t-is,
               last,
               size,
-              append-assoc head (s ++ (results edition popups ++ body)) past,
-              append-assoc s (results edition popups ++ body) past,
-              append-assoc p (index edition popups) body,
-              append-assoc s (p ++ (index edition popups ++ body)) past,
+              append-assoc head (s ++ (results edition shape popups ++ body)) past,
+              append-assoc s (results edition shape popups ++ body) past,
+              append-assoc p (index edition shape popups) body,
+              append-assoc s (p ++ (index edition shape popups ++ body)) past,
             )
 
     -- Read from a buffer that holds it: the marks, the schedule, and what is kept from any place on.
@@ -230,30 +232,30 @@ module _ (s : List ℕ) (n : ℕ) (few : n ≤ 4096) (long : length s ≡ 11 * n
       abbrev tail : List ℕ
       tail = drop (length whole) o
 
-      laid-out : over whole o ≡ head ++ (s ++ (schedule edition popups ++ (index edition popups ++ (body ++ tail))))
+      laid-out : over whole o ≡ head ++ (s ++ (schedule edition shape popups ++ (index edition shape popups ++ (body ++ tail))))
       unfolding over
       laid-out =
           rw (
-            append-assoc head (s ++ (results edition popups ++ body)) tail,
-            append-assoc s (results edition popups ++ body) tail,
-            append-assoc (results edition popups) body tail,
-            append-assoc (schedule edition popups) (index edition popups) (body ++ tail),
+            append-assoc head (s ++ (results edition shape popups ++ body)) tail,
+            append-assoc s (results edition shape popups ++ body) tail,
+            append-assoc (results edition shape popups) body tail,
+            append-assoc (schedule edition shape popups) (index edition shape popups) (body ++ tail),
           )
 
       pub marks-read : take (11 * n) (drop begin (over whole o)) ≡ s
       marks-read = rw (laid-out, drop-at head _ begin refl) (take-at s _ (11 * n) long)
 
-      pub schedule-read : take (14 * n) (drop (begin + 11 * n) (over whole o)) ≡ schedule edition popups
+      pub schedule-read : take (14 * n) (drop (begin + 11 * n) (over whole o)) ≡ schedule edition shape popups
       schedule-read =
           let at : begin + 11 * n ≡ length head + length s = omega (arith, long) in
-          rw (laid-out, at, drop-append-add head _ (length s), drop-at s _ (length s) refl) (take-at (schedule edition popups) _ (14 * n) (schedule-sized edition popups))
+          rw (laid-out, at, drop-append-add head _ (length s), drop-at s _ (length s) refl) (take-at (schedule edition shape popups) _ (14 * n) (schedule-sized edition shape popups))
 
       pub body-read : (first last : List ℕ) → body ≡ first ++ last → take (length last) (drop (begin + 27 * n + length first) (over whole o)) ≡ last
       body-read first last is =
-          let p = schedule edition popups in
-          let t = index edition popups in
+          let p = schedule edition shape popups in
+          let t = index edition shape popups in
           let at : begin + 27 * n + length first ≡ length head + (length s + (length p + (length t + length first))) =
-          omega (arith, long, schedule-sized edition popups, index-long s n edition popups few) in
+          omega (arith, long, schedule-sized edition shape popups, index-long s n edition shape popups few) in
           let behind : drop (begin + 27 * n + length first) (over whole o) ≡ last ++ tail =
           ap (drop (begin + 27 * n + length first)) laid-out
           ∙ ap (λ (k : ℕ). drop k (head ++ (s ++ (p ++ (t ++ (body ++ tail)))))) at
@@ -270,230 +272,197 @@ pub lent-good : (there : Bool) {q : List ℕ} {n : ℕ} → PopupsLent there q n
 lent-good true l = record { sized = inr (l .sized); each = l .each }
 lent-good false l = record { sized = inl (l .sized); each = l .each }
 
-none-lent : (q : List ℕ) {n : ℕ} → PopupsLent false q n → q ≡ []
-none-lent [] l = refl
-none-lent (x ∷ q) l = absurd (omega (arith, l .sized))
+-- what is lent of a part that is not there is empty
+none-lent : (there : Bool) (q : List ℕ) {n : ℕ} → PopupsLent there q n → cond there q [] ≡ q
+none-lent true q l = refl
+none-lent false [] l = refl
+none-lent false (x ∷ q) l = absurd (omega (arith, l .sized))
+
+choice-lent : (body : List ℕ) → cond (ltb 0 (length body)) body [] ≡ body
+choice-lent [] = refl
+choice-lent (x ∷ body) = rw (lt-ltb 0 (suc (length body)) (omega arith))
+
+-- where it is there, it has one byte
+choice-one : (body : List ℕ) → length body ≤ 1 → ltb 0 (length body) ≡ true → length body ≡ 1
+choice-one body h e = omega (arith, ltb-true 0 (length body) e)
 
 -- What is lent of a buffer `o` from `from` to `end`, in which the contents, n marks, part 4 and part 5 stand: it begins with the marks and
--- ends with the popups, and once parts 2 and 3 are written in it the buffer holds the sheet up to part 6.
-pub record Standing (s : List ℕ) (n : ℕ) (b : List ℕ) (there : Bool) (q : List ℕ) (counted : Bool) (o₀ o : List ℕ) (from end : ℕ) : Type 0 where
+-- ends with the popups, and once parts 2 and 3 are written in it the buffer holds the sheet up to parts 6 and 7.
+pub record Standing (s : List ℕ) (n : ℕ) (b : List ℕ) (there : Bool) (q v : List ℕ) (counted : Bool) (o₀ o : List ℕ) (from end : ℕ) : Type 0 where
   pub marks : take (11 * n) (midOf from (end - from) o) ≡ s
   pub long : length (midOf from (end - from) o) ≡ 27 * n + length b + length q
   pub popups : drop (27 * n + length b) (midOf from (end - from) o) ≡ q
-  pub put : (t : List ℕ) → t ≡ resultsOver (record { marks = s; count = n; edition = editionIn b; popups = q }) (midOf from (end - from) o)
-      → putMid from (end - from) o t ≡ over (bareFrom s (keptFrom b there q) counted) o₀
-
--- from part 4's bytes, none where it is not there, and part 5's
-lent-chain : (b : List ℕ) (there : Bool) (q : List ℕ) {n : ℕ} → PopupsLent there q n → chain (bodiesOf (keptFrom b there q)) ≡ b ++ q
-unfolding chain
-lent-chain [] true q l = append-nil q
-lent-chain [] false q l = sym (none-lent q l)
-lent-chain (x ∷ b) true q l = rw (append-nil q)
-lent-chain (x ∷ b) false q l = rw (none-lent q l)
-
-lent-edition : (b : List ℕ) (there : Bool) (q : List ℕ) → editionOf (keptFrom b there q) ≡ editionIn b
-lent-edition [] true q = refl
-lent-edition [] false q = refl
-lent-edition (x ∷ b) there q = refl
-
-lent-popups : (b : List ℕ) (there : Bool) (q : List ℕ) {n : ℕ} → PopupsLent there q n → popupsPart (keptFrom b there q) ≡ q
-lent-popups [] true q l = refl
-lent-popups [] false q l = sym (none-lent q l)
-lent-popups (x ∷ b) true q l = refl
-lent-popups (x ∷ b) false q l = sym (none-lent q l)
-
--- the counts come last
-counts-last : (b : List ℕ) (there : Bool) (q c : List ℕ) (counted : Bool)
-    → bodiesOf (withCounts counted c (keptFrom b there q)) ≡ bodiesOf (keptFrom b there q) ++ cond counted (c ∷ []) []
-counts-last [] true q c true = refl
-counts-last [] true q c false = refl
-counts-last [] false q c true = refl
-counts-last [] false q c false = refl
-counts-last (x ∷ b) true q c true = refl
-counts-last (x ∷ b) true q c false = refl
-counts-last (x ∷ b) false q c true = refl
-counts-last (x ∷ b) false q c false = refl
-
-chain-append : (l m : List (List ℕ)) → chain (l ++ m) ≡ chain l ++ chain m
-unfolding chain
-chain-append [] m = refl
-chain-append (x ∷ l) m = rw (chain-append l m) (sym (append-assoc x (chain l) (chain m)))
+  pub put : (t : List ℕ) → t ≡ resultsOver (record { marks = s; count = n; edition = choiceIn b; shape = choiceIn v; popups = q }) (midOf from (end - from) o)
+      → putMid from (end - from) o t ≡ over (bareFrom s b there q v counted) o₀
 
 module _ (s : List ℕ) (n : ℕ) (few : n ≤ 4096) (long : length s ≡ 11 * n) where
-  lent-codes : (b : List ℕ) (there : Bool) (q : List ℕ) (counted : Bool) → length b ≤ 1
-      → codesOf (newParts s (keptFrom b there q) counted) ≡ codesFrom true (ltb 0 (length b)) there counted
-  lent-codes [] false q false h = refl
-  lent-codes [] false q true h = refl
-  lent-codes [] true q false h = refl
-  lent-codes [] true q true h = refl
-  lent-codes (x ∷ []) false q false h = refl
-  lent-codes (x ∷ []) false q true h = refl
-  lent-codes (x ∷ []) true q false h = refl
-  lent-codes (x ∷ []) true q true h = refl
-  lent-codes (x ∷ y ∷ b) there q counted h = absurd (omega arith)
-
   -- the sizes of parts 1 to 3 and of the counts, whatever is kept
   module _ (kept : List Part) where
     new-schedule-sized : length (newSchedule s kept) ≡ 14 * n
-    new-schedule-sized = rw (count-is s n few long) (schedule-sized s n few long (editionOf kept) (popupsPart kept))
+    new-schedule-sized = rw (count-is s n few long) (schedule-sized s n few long (editionOf kept) (shapeOf kept) (popupsPart kept))
 
     new-index-sized : length (newIndex s kept) ≡ 2 * n
-    new-index-sized = rw (count-is s n few long) (index-long s n (editionOf kept) (popupsPart kept) few)
+    new-index-sized = rw (count-is s n few long) (index-long s n (editionOf kept) (shapeOf kept) (popupsPart kept) few)
 
     new-counts-sized : length (newCounts s kept) ≡ 170
     new-counts-sized = counts-length s (newSchedule s kept) (popupsPart kept) (markCount s)
 
-  lent-sizes : (b : List ℕ) (there : Bool) (q : List ℕ) (counted : Bool) → length b ≤ 1 → PopupsLent there q n
-      → sizesOf (bodiesOf (newParts s (keptFrom b there q) counted)) ≡ sizesFrom n true (ltb 0 (length b)) there counted
-  lent-sizes b there q counted h l =
-      let kept = keptFrom b there q in
-      let rest = sizesOf (bodiesOf (withCounts counted (newCounts s kept) kept)) in
-      ap (λ (k : ℕ). k ∷ length (newSchedule s kept) ∷ length (newIndex s kept) ∷ rest) long
-      ∙ ap (λ (k : ℕ). 11 * n ∷ k ∷ length (newIndex s kept) ∷ rest) (new-schedule-sized kept)
-      ∙ ap (λ (k : ℕ). 11 * n ∷ 14 * n ∷ k ∷ rest) (new-index-sized kept) ∙ behind b there q counted h l
-    where
-      behind : (b : List ℕ) (there : Bool) (q : List ℕ) (counted : Bool) → length b ≤ 1 → PopupsLent there q n
-          → 11 * n ∷ 14 * n ∷ 2 * n ∷ sizesOf (bodiesOf (withCounts counted (newCounts s (keptFrom b there q)) (keptFrom b there q)))
-          ≡ sizesFrom n true (ltb 0 (length b)) there counted
-      behind [] false q false h l = refl
-      behind [] false q true h l = rw (new-counts-sized (keptFrom [] false q))
-      behind [] true q false h l = rw (l .sized)
-      behind [] true q true h l = rw (new-counts-sized (keptFrom [] true q), l .sized)
-      behind (x ∷ []) false q false h l = refl
-      behind (x ∷ []) false q true h l = rw (new-counts-sized (keptFrom (x ∷ []) false q))
-      behind (x ∷ []) true q false h l = rw (l .sized)
-      behind (x ∷ []) true q true h l = rw (new-counts-sized (keptFrom (x ∷ []) true q), l .sized)
-      behind (x ∷ y ∷ b) there q counted h l = absurd (omega arith)
-
-  module _ (b : List ℕ) (there : Bool) (q : List ℕ) (counted : Bool) (short : length b ≤ 1) (lent : PopupsLent there q n) where
+  module _ (b : List ℕ) (there : Bool) (q v : List ℕ) (counted : Bool) (short : length b ≤ 1) (narrow : length v ≤ 1) (lent : PopupsLent there q n) where
     abbrev others : List Part
-    others = keptFrom b there q
+    others = keptFrom b there q v
+
+    abbrev edition-there : Bool
+    edition-there = ltb 0 (length b)
+
+    abbrev shape-there : Bool
+    shape-there = ltb 0 (length v)
+
+    abbrev pub lentCodes : List ℕ
+    lentCodes = codesFrom true edition-there there counted shape-there
+
+    abbrev pub lentSizes : List ℕ
+    lentSizes = sizesFrom n true edition-there there counted shape-there
 
     abbrev pub lentHead : List ℕ
-    lentHead = contentsOf (codesFrom true (ltb 0 (length b)) there counted) (sizesFrom n true (ltb 0 (length b)) there counted)
+    lentHead = contentsOf lentCodes lentSizes
 
     -- where the marks begin
     abbrev pub lentBegin : ℕ
-    lentBegin = contentsSize (length (codesFrom true (ltb 0 (length b)) there counted))
+    lentBegin = contentsSize (length lentCodes)
+
+    -- all parts, one by one
+    parts-are : newParts s others counted
+        ≡ listed s (newSchedule s others) (newIndex s others) b q (newCounts s others) v true edition-there there counted shape-there
+    parts-are =
+        ap (λ (l : List Part). (1 holds s) ∷ (2 holds newSchedule s others) ∷ (3 holds newIndex s others) ∷ l)
+        (counts-between edition-there there shape-there b q (newCounts s others) v counted)
+
+    lent-codes : codesOf (newParts s others counted) ≡ lentCodes
+    lent-codes =
+        ap codesOf parts-are
+        ∙ listed-codes s (newSchedule s others) (newIndex s others) b q (newCounts s others) v true edition-there there counted shape-there
+
+    lent-sizes : sizesOf (bodiesOf (newParts s others counted)) ≡ lentSizes
+    lent-sizes =
+        ap (λ (l : List Part). sizesOf (bodiesOf l)) parts-are
+        ∙ listed-sizes s (newSchedule s others) (newIndex s others) b q (newCounts s others) v true edition-there there counted shape-there n
+        long (new-schedule-sized others) (λ e. new-index-sized others) (choice-one b short) (rows there lent) (λ e. new-counts-sized others) (choice-one v narrow)
+      where
+        rows : (there : Bool) → PopupsLent there q n → there ≡ true → length q ≡ 4 * n
+        rows true l e = l .sized
+        rows false l e = absurd (false≢true e)
 
     head-long : length lentHead ≡ lentBegin
-    head-long =
-        contents-length (codesFrom true (ltb 0 (length b)) there counted) (sizesFrom n true (ltb 0 (length b)) there counted) (same (ltb 0 (length b)) there counted)
-      where
-        same : (e p c : Bool) → length (codesFrom true e p c) ≡ length (sizesFrom n true e p c)
-        same true true true = refl
-        same true true false = refl
-        same true false true = refl
-        same true false false = refl
-        same false true true = refl
-        same false true false = refl
-        same false false true = refl
-        same false false false = refl
+    head-long = contents-length lentCodes lentSizes (same-many n true edition-there there counted shape-there)
 
-    pub lent-size : scheduledSize n others counted ≡ lentBegin + 27 * n + length b + length q + cond counted 170 0
-    lent-size = omega (arith, ap length (lent-chain b there q lent), length-append b q, begins b there q counted short)
-      where
-        begins : (b : List ℕ) (there : Bool) (q : List ℕ) (counted : Bool) → length b ≤ 1
-            → 32 + 10 * length (keptFrom b there q) + cond counted 180 0
-            ≡ contentsSize (length (codesFrom true (ltb 0 (length b)) there counted)) + cond counted 170 0
-        begins [] false q false h = refl
-        begins [] false q true h = refl
-        begins [] true q false h = refl
-        begins [] true q true h = refl
-        begins (x ∷ []) false q false h = refl
-        begins (x ∷ []) false q true h = refl
-        begins (x ∷ []) true q false h = refl
-        begins (x ∷ []) true q true h = refl
-        begins (x ∷ y ∷ b) there q counted h = absurd (omega arith)
+    -- what is kept, and the counts between: part 4, part 5, part 6 and part 7
+    behind-chain : chain (bodiesOf (withCounts counted (newCounts s others) others)) ≡ b ++ (q ++ (cond counted (newCounts s others) [] ++ v))
+    behind-chain =
+        ap (λ (l : List Part). chain (bodiesOf l)) (counts-between edition-there there shape-there b q (newCounts s others) v counted)
+        ∙ parts-chain (partIf edition-there 4 b) _
+        ∙ ap₂ _++_ (chain-if edition-there 4 b ∙ choice-lent b)
+        (parts-chain (partIf there 5 q) _
+        ∙ ap₂ _++_ (chain-if there 5 q ∙ none-lent there q lent)
+        (parts-chain (partIf counted 6 (newCounts s others)) _
+        ∙ ap₂ _++_ (chain-if counted 6 (newCounts s others)) (chain-if shape-there 7 v ∙ choice-lent v)))
 
-    -- the sheet up to part 6, and with it
-    pub bare-is : bareFrom s others counted ≡ whole s n few long lentHead (editionIn b) q (b ++ q)
+    -- the sheet up to parts 6 and 7, and with them
+    pub bare-is : bareFrom s b there q v counted ≡ whole s n few long lentHead (choiceIn b) (choiceIn v) q (b ++ q)
     bare-is =
-        rw (
-          lent-codes b there q counted short,
-          lent-sizes b there q counted short lent,
-          bodies-are s n few long others false,
-          lent-edition b there q,
-          lent-popups b there q lent,
-          lent-chain b there q lent,
-        )
+        ap₂ (λ (l m : List ℕ). contentsOf l m ++ (s ++ (newSchedule s others ++ (newIndex s others ++ (b ++ q))))) lent-codes lent-sizes
+        ∙ ap (λ (l : List ℕ). lentHead ++ (s ++ l)) (sym (append-assoc (newSchedule s others) (newIndex s others) (b ++ q)))
+        ∙ rw (count-is s n few long, kept-edition-from b there q v, kept-shape-from b there q v, kept-popups-from b there q v, none-lent there q lent)
 
-    pub bare-whole : bareFrom s others counted ++ cond counted (newCounts s others) [] ≡ scheduledFrom s others counted
+    pub bare-whole : bareFrom s b there q v counted ++ (cond counted (newCounts s others) [] ++ v) ≡ scheduledFrom s others counted
     unfolding join chain
     bare-whole =
         let head = contentsOf (codesOf (newParts s others counted)) (sizesOf (bodiesOf (newParts s others counted))) in
-        let c = newCounts s others in
-        append-assoc head (chain (bodiesOf (newParts s others false))) (cond counted c [])
-        ∙ ap (λ (l : List ℕ). head ++ l)
-        (ap (λ (l : List ℕ). chain (bodiesOf (newParts s others false)) ++ l) (one counted c)
-        ∙ sym (chain-append (bodiesOf (newParts s others false)) (cond counted (c ∷ []) []))
-        ∙ ap (λ (l : List (List ℕ)). chain (s ∷ newSchedule s others ∷ newIndex s others ∷ l)) (sym (counts-last b there q c counted)))
+        let c = cond counted (newCounts s others) [] in
+        regrouped head s (newSchedule s others) (newIndex s others) b q (c ++ v)
+        ∙ ap (λ (l : List ℕ). head ++ (s ++ (newSchedule s others ++ (newIndex s others ++ l)))) (sym behind-chain)
       where
-        one : (counted : Bool) (c : List ℕ) → cond counted c [] ≡ chain (cond counted (c ∷ []) [])
-        one true c = sym (append-nil c)
-        one false c = refl
+        regrouped : (h a p t b q l : List ℕ) → (h ++ (a ++ (p ++ (t ++ (b ++ q))))) ++ l ≡ h ++ (a ++ (p ++ (t ++ (b ++ (q ++ l)))))
+        regrouped h a p t b q l = simp append-assoc
+
+    abbrev bare-size : ℕ
+    bare-size = lentBegin + 27 * n + length b + length q
+
+    bare-long : length (bareFrom s b there q v counted) ≡ bare-size
+    bare-long = ap length bare-is ∙ omega (arith, whole-long s n few long lentHead (choiceIn b) (choiceIn v) q (b ++ q), head-long, length-append b q)
+
+    pub lent-size : scheduledSize n others counted ≡ lentBegin + 27 * n + length b + length q + cond counted 170 0 + length v
+    lent-size =
+        let c = cond counted (newCounts s others) [] in
+        omega (
+          arith,
+          sheet-long s n few long others counted (kept-uncounted b there q v),
+          ap length bare-whole,
+          length-append (bareFrom s b there q v counted) (c ++ v),
+          length-append c v,
+          bare-long,
+          sized counted,
+        )
+      where
+        sized : (counted : Bool) → length (cond counted (newCounts s others) []) ≡ cond counted 170 0
+        sized true = new-counts-sized others
+        sized false = refl
 
     -- the contents, the marks, part 4 and part 5 are written, and all but the contents is lent
     pub standing : (o₀ : List ℕ) → lentBegin + 27 * n + length b + length q ≤ length o₀ → {o₁ o₂ o₃ o₄ : List ℕ} {from end : ℕ} → o₁ ≡ sets o₀ 0 lentHead
         → o₂ ≡ sets o₁ lentBegin s → o₃ ≡ sets o₂ (lentBegin + 27 * n) b → o₄ ≡ sets o₃ (lentBegin + 27 * n + length b) q → from ≡ lentBegin
-        → end ≡ lentBegin + 27 * n + length b + length q → Standing s n b there q counted o₀ o₄ from end
+        → end ≡ lentBegin + 27 * n + length b + length q → Standing s n b there q v counted o₀ o₄ from end
     standing o₀ room {o₁} {o₂} {o₃} {o₄} {from} {end} e f g h from-is end-is =
-        let edition = editionIn b in
+        let edition = choiceIn b in
+        let shape = choiceIn v in
         let body = b ++ q in
         let fits : length lentHead + 27 * n + length body ≤ length o₀ = omega (arith, head-long, length-append b q) in
         let begins : from ≡ length lentHead = from-is ∙ sym head-long in
         let ends : end ≡ length lentHead + 27 * n + length body = omega (arith, head-long, length-append b q) in
-        let stands = begun s n few long lentHead edition q body o₀ fits {o₁ = o₁} {o₂ = o₂} {o₃ = o₄} e (rw head-long f)
+        let stands = begun s n few long lentHead edition shape q body o₀ fits {o₁ = o₁} {o₂ = o₂} {o₃ = o₄} e (rw head-long f)
         (rw (head-long, sets-append o₂ (lentBegin + 27 * n) b q, ← g) h) in
         record {
-          marks = marks-first s n few long lentHead edition q body o₀ fits from end begins ends stands;
-          long = omega (arith, lent-long s n few long lentHead edition q body o₀ fits from end begins ends stands, length-append b q);
-          popups = kept-last s n few long lentHead edition q body o₀ fits from end begins ends stands (length b) ∙ drop-at b q (length b) refl;
-          put = λ t t-is. rw bare-is (results-put s n few long lentHead edition q body o₀ fits from end begins ends stands {t = t} t-is);
+          marks = marks-first s n few long lentHead edition shape q body o₀ fits from end begins ends stands;
+          long = omega (arith, lent-long s n few long lentHead edition shape q body o₀ fits from end begins ends stands, length-append b q);
+          popups = kept-last s n few long lentHead edition shape q body o₀ fits from end begins ends stands (length b) ∙ drop-at b q (length b) refl;
+          put = λ t t-is. rw bare-is (results-put s n few long lentHead edition shape q body o₀ fits from end begins ends stands {t = t} t-is);
         }
 
-    -- What is read of the sheet up to part 6, for its counts: the marks, the schedule and the popups. And once the counts are written behind it,
-    -- the buffer holds the sheet.
+    -- What is read of the sheet up to parts 6 and 7, for its counts: the marks, the schedule and the popups. And once the counts and part 7 are
+    -- written behind it, the buffer holds the sheet.
     module _ (o₀ : List ℕ) where
       abbrev held : List ℕ
-      held = over (bareFrom s others counted) o₀
+      held = over (bareFrom s b there q v counted) o₀
 
       pub popups-read : {from end : ℕ} → from ≡ lentBegin + 27 * n + length b → end ≡ from + length q → take (end - from) (drop from held) ≡ q
       popups-read {from} {end} from-is end-is =
           let behind : from ≡ length lentHead + 27 * n + length b = omega (arith, head-long) in
           let size : end - from ≡ length q = omega (arith, end-is) in
-          rw (bare-is, size, behind) (body-read s n few long lentHead (editionIn b) q (b ++ q) o₀ b q refl)
+          rw (bare-is, size, behind) (body-read s n few long lentHead (choiceIn b) (choiceIn v) q (b ++ q) o₀ b q refl)
 
       pub counts-read : {start from end : ℕ} → start ≡ lentBegin → from ≡ lentBegin + 27 * n + length b → end ≡ from + length q
           → countsOf (take (11 * n) (drop start held)) (take (14 * n) (drop (start + 11 * n) held)) (take (end - from) (drop from held)) n ≡ newCounts s others
       counts-read {start} {from} {end} start-is from-is end-is =
-          let edition = editionIn b in
+          let edition = choiceIn b in
+          let shape = choiceIn v in
           let at : start ≡ length lentHead = start-is ∙ sym head-long in
-          rw (popups-read from-is end-is, bare-is, at, marks-read s n few long lentHead edition q (b ++ q) o₀, schedule-read s n few long lentHead edition q (b ++ q) o₀)
-          (rw (count-is s n few long, lent-edition b there q, lent-popups b there q lent))
+          rw (popups-read from-is end-is, bare-is, at, marks-read s n few long lentHead edition shape q (b ++ q) o₀, schedule-read s n few long lentHead edition shape q (b ++ q) o₀)
+          (rw (count-is s n few long, kept-edition-from b there q v, kept-shape-from b there q v, kept-popups-from b there q v, none-lent there q lent))
 
-      pub counts-put : scheduledSize n others counted ≤ length o₀ → counted ≡ true → {o : List ℕ} {end : ℕ} → end ≡ lentBegin + 27 * n + length b + length q
-          → o ≡ sets held end (newCounts s others) → o ≡ over (scheduledFrom s others counted) o₀
-      counts-put room wanted {o} {end} end-is is =
-          let bare = bareFrom s others counted in
-          let c = newCounts s others in
-          let bare-long : length bare ≡ end =
-          ap length bare-is ∙ omega (arith, whole-long s n few long lentHead (editionIn b) q (b ++ q), head-long, length-append b q, end-is) in
-          let behind : end ≡ 0 + length bare = omega (arith, bare-long) in
-          let all : cond counted c [] ≡ c = rw wanted in
-          let more : _≡_ {A = ℕ} (cond counted 170 0) 170 = rw wanted in
-          let whole-is : bare ++ c ≡ scheduledFrom s others counted = ap (λ (l : List ℕ). bare ++ l) (sym all) ∙ bare-whole in
-          let fits : length (bare ++ c) ≤ length o₀ =
-          omega (arith, length-append bare c, bare-long, new-counts-sized others, room, end-is, more, lent-size) in
-          is ∙ ap (λ (l : List ℕ). sets l end c) (sym (over-sets bare o₀ (omega (arith, length-append bare c, fits))))
-          ∙ ap (λ (k : ℕ). sets (sets o₀ 0 bare) k c) behind
-          ∙ sym (sets-append o₀ 0 bare c) ∙ over-sets (bare ++ c) o₀ fits ∙ ap (λ (l : List ℕ). over l o₀) whole-is
-
-      pub counts-none : counted ≡ false → held ≡ over (scheduledFrom s others counted) o₀
-      counts-none unwanted =
-          let bare = bareFrom s others counted in
-          let none : cond counted (newCounts s others) [] ≡ [] = rw unwanted in
-          ap (λ (l : List ℕ). over l o₀) (sym (append-nil bare) ∙ ap (λ (l : List ℕ). bare ++ l) (sym none) ∙ bare-whole)
+      -- `c` is what is written of counts, none where they are not wanted, and `at` where part 7 goes
+      pub sheet-put : scheduledSize n others counted ≤ length o₀ → {c o p : List ℕ} {end at : ℕ} → c ≡ cond counted (newCounts s others) []
+          → end ≡ lentBegin + 27 * n + length b + length q → o ≡ sets held end c → at ≡ end + length c → p ≡ sets o at v
+          → p ≡ over (scheduledFrom s others counted) o₀
+      sheet-put room {c} {o} {p} {end} {at} c-is end-is o-is at-is p-is =
+          let bare = bareFrom s b there q v counted in
+          let behind : end ≡ 0 + length bare = omega (arith, bare-long, end-is) in
+          let whole-is : bare ++ (c ++ v) ≡ scheduledFrom s others counted = ap (λ (l : List ℕ). bare ++ (l ++ v)) c-is ∙ bare-whole in
+          let fits : length (bare ++ (c ++ v)) ≤ length o₀ =
+          omega (arith, ap length whole-is, sheet-long s n few long others counted (kept-uncounted b there q v), room) in
+          p-is ∙ ap (λ (l : List ℕ). sets l at v) o-is ∙ ap (λ (k : ℕ). sets (sets held end c) k v) at-is
+          ∙ sym (sets-append held end c v)
+          ∙ ap (λ (l : List ℕ). sets l end (c ++ v)) (sym (over-sets bare o₀ (omega (arith, length-append bare (c ++ v), fits))))
+          ∙ ap (λ (k : ℕ). sets (sets o₀ 0 bare) k (c ++ v)) behind
+          ∙ sym (sets-append o₀ 0 bare (c ++ v)) ∙ over-sets (bare ++ (c ++ v)) o₀ fits ∙ ap (λ (l : List ℕ). over l o₀) whole-is
 
 -- ---- the ways out
 

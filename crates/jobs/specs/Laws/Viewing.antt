@@ -13,7 +13,7 @@ use Rattle.bodies.specs.Laws.{popups-good}
 use Rattle.contents.specs.Contents.{has, split, marksPart, schedulePart, indexPart, popupsPart}
 use Rattle.contents.specs.Asking.{Question, _asks_, answer}
 use Rattle.contents.specs.Laws.{append-no}
-use Rattle.sheet.specs.Questions.{sheetCount, check, question10, indexedQuestions}
+use Rattle.sheet.specs.Questions.{sheetCount, sheetShape, check, question10, indexedQuestions}
 use Rattle.sheet.specs.Laws.{indexed-numbered, accepted-iff}
 use Rattle.bitmap.specs.Map.{mapSize, mapBytes, countShown}
 use Rattle.bitmap.specs.Laws.{map-length}
@@ -35,7 +35,7 @@ use Rattle.jobs.specs.Laws.Outcomes.{refused-gives, written-gives}
 
 module _ (s : List ℕ) (e : Window) (k : ℕ) (buffer : List ℕ) where
   abbrev show : ℕ → Bool
-  show = shown (marksPart (split s)) (schedulePart (split s)) (popupsPart (split s)) k e
+  show = shown (sheetShape s) (marksPart (split s)) (schedulePart (split s)) (popupsPart (split s)) k e
 
   pub view-no-room : {r : Answer} → length buffer < mapSize (sheetCount s) → r ≡ refusal 13 → Gives (viewAt s e k (length buffer)) buffer r buffer
   unfolding viewAt answer
@@ -53,7 +53,7 @@ module _ (s : List ℕ) (e : Window) (k : ℕ) (buffer : List ℕ) where
 
 module _ (s : List ℕ) (e : Window) (zoom : Zoom) (buffer : List ℕ) where
   abbrev later : List Question
-  later = (20 asks question20 e) ∷ (11 asks question11 e) ∷ (12 asks isTaken (scaleOf zoom)) ∷ (13 asks leb (mapSize (sheetCount s)) (length buffer)) ∷ []
+  later = (20 asks question20 (sheetShape s) e) ∷ (11 asks question11 e) ∷ (12 asks isTaken (scaleOf zoom)) ∷ (13 asks leb (mapSize (sheetCount s)) (length buffer)) ∷ []
 
   refused-at : {r : Answer} (number : ℕ) → answer (viewQuestions s e zoom (length buffer)) ≡ number → 0 < number → r ≡ refusal number
       → Gives (viewJob s e zoom (length buffer)) buffer r buffer
@@ -71,11 +71,11 @@ module _ (s : List ℕ) (e : Window) (zoom : Zoom) (buffer : List ℕ) where
     asked : answer (viewQuestions s e zoom (length buffer)) ≡ answer later
     asked = view-asked s e zoom (length buffer) ok
 
-    pub view-no-window : {r : Answer} → question20 e ≡ false → r ≡ refusal 20 → Gives (viewJob s e zoom (length buffer)) buffer r buffer
+    pub view-no-window : {r : Answer} → question20 (sheetShape s) e ≡ false → r ≡ refusal 20 → Gives (viewJob s e zoom (length buffer)) buffer r buffer
     unfolding answer
     view-no-window wrong is = refused-at 20 (asked ∙ rw wrong) (omega arith) is
 
-    module _ (taken : question20 e ≡ true) where
+    module _ (taken : question20 (sheetShape s) e ≡ true) where
       pub view-no-order : {r : Answer} → question11 e ≡ false → r ≡ refusal 11 → Gives (viewJob s e zoom (length buffer)) buffer r buffer
       unfolding answer
       view-no-order wrong is = refused-at 11 (asked ∙ rw (taken, wrong)) (omega arith) is

@@ -31,7 +31,7 @@ use Rattle.counting.specs.Laws.{counts-bytes}
 use Rattle.contents.specs.Contents.{Part, bodiesOf, find, has, split, join, marksPart, popupsPart}
 use Rattle.contents.specs.Laws.{find-bytes, join-bytes}
 use Rattle.bodies.specs.Laws.{popups-good}
-use Rattle.bodies.specs.Questions.{markCount, editionOf, namesRight, recordRight, isSchedule, reelFrom, reelOf}
+use Rattle.bodies.specs.Questions.{markCount, editionOf, shapeOf, namesRight, recordRight, isSchedule, reelFrom, reelOf}
 use Rattle.bodies.specs.Fitting.{Fitting}
 use Rattle.sheet.specs.Questions.{sheetCount, check}
 use Rattle.sheet.specs.Laws.{accepted-iff}
@@ -57,16 +57,19 @@ module _ (s : List ℕ) (kept : List Part) (good : GoodMarks s (markCount s)) (l
   abbrev edition : ℕ
   edition = editionOf kept
 
+  abbrev shape : ℕ
+  shape = shapeOf kept
+
   abbrev popups : List ℕ
   popups = popupsPart kept
 
   -- each record that scheduling writes is right: question 8
-  new-right : (m : ℕ) → m < markCount s → recordRight (reelFrom edition popups s) (newSchedule s kept) m ≡ true
+  new-right : (m : ℕ) → m < markCount s → recordRight (reelFrom edition shape popups s) (newSchedule s kept) m ≡ true
   unfolding recordRight isNever namesRight
   new-right m h = cases (process (marksOf r) m) refl
     where
       r : Reel
-      r = reelFrom edition popups s
+      r = reelFrom edition shape popups s
 
       p : List ℕ
       p = newSchedule s kept
@@ -83,17 +86,17 @@ module _ (s : List ℕ) (kept : List Part) (good : GoodMarks s (markCount s)) (l
           let w = rw e at (schedule-reads r right m h) in
           let o : outranks edition s g m ≡ true =
           outranks-key edition s g m bytes (omega (arith, x .inside, good .few)) (omega (arith, h, good .few)) (good .each g (x .inside) .used) (good .each m h .used) .1 (x .outranks) in
-          let num : f .num ≡ (pairValue s popups g m) .num = ap (λ (q : Fraction). q .num) (x .exact) in
-          let den : f .den ≡ (pairValue s popups g m) .den = ap (λ (q : Fraction). q .den) (x .exact) in
+          let num : f .num ≡ (pairValue shape s popups g m) .num = ap (λ (q : Fraction). q .num) (x .exact) in
+          let den : f .den ≡ (pairValue shape s popups g m) .den = ap (λ (q : Fraction). q .den) (x .exact) in
           let vm : valueAt p m ≡ At f = schedule-value r right m h ∙ ap when e in
           let l : later (valueAt p g) (valueAt p m) ≡ true =
           rw (schedule-value r right g (x .inside), vm) (later-iff (when (process (marksOf r) g)) f .1 (x .later)) in
           or-right (isNever (markRecord p m))
           (rw (w .eliminator, w .numerator, w .denominator, lt-ltb g (markCount s) (x .inside), o, eq-eqb _ _ num, eq-eqb _ _ den, l))
 
-  new-every : isSchedule (reelFrom edition popups s) (newSchedule s kept) ≡ true
+  new-every : isSchedule (reelFrom edition shape popups s) (newSchedule s kept) ≡ true
   unfolding isSchedule
-  new-every = every-of (recordRight (reelFrom edition popups s) (newSchedule s kept)) (markCount s) new-right
+  new-every = every-of (recordRight (reelFrom edition shape popups s) (newSchedule s kept)) (markCount s) new-right
 
   -- the counts are those of the new schedule, and the popups beside them those that are kept
   new-counts : (counted : Bool) → has (withCounts counted (newCounts s kept) kept) 6 ≡ true
@@ -107,11 +110,12 @@ module _ (s : List ℕ) (kept : List Part) (good : GoodMarks s (markCount s)) (l
       record {
         marks = good;
         marks-long = long;
-        schedule-long = λ h. schedule-length (reelFrom edition popups s);
+        schedule-long = λ h. schedule-length (reelFrom edition shape popups s);
         index-long = λ h. index-long s (newSchedule s kept) (markCount s) few;
         edition-right = λ h. rw (found 4 refl) (kept-right .edition-right (rw (there 4 refl) at h));
         popups-right = λ h. rw (found 5 refl) (kept-right .popups-right (rw (there 5 refl) at h));
-        schedule-right = λ h. rw (found 4 refl, found 5 refl) new-every;
+        shape-right = λ h. rw (found 7 refl) (kept-right .shape-right (rw (there 7 refl) at h));
+        schedule-right = λ h. rw (found 4 refl, found 5 refl, found 7 refl) new-every;
         index-right = λ h. index-iff s (newSchedule s kept) (markCount s) few (newIndex s kept) .1 refl;
         counts-right = λ h. rw (found 5 refl) (new-counts counted h);
       }
@@ -131,7 +135,7 @@ new-bytes s kept counted bytes each = join-bytes (newParts s kept counted) go
   where
     go : (i : ℕ) → Bytes (getD (bodiesOf (newParts s kept counted)) i [])
     go zero = bytes
-    go (suc zero) = schedule-bytes (reelFrom (editionOf kept) (popupsPart kept) s)
+    go (suc zero) = schedule-bytes (reelFrom (editionOf kept) (shapeOf kept) (popupsPart kept) s)
     go (suc (suc zero)) = index-bytes (indexOf s (newSchedule s kept) (markCount s))
     go (suc (suc (suc i))) =
         beside-bytes kept counted (newCounts s kept) (counts-bytes s (newSchedule s kept) (popupsPart kept) (markCount s)) each i

@@ -135,7 +135,7 @@ module _ (t : ℕ) where
   abbrev Said : lts.After-size-to-search2 claims given reads.Post → ℕ → ℕ → Bool → Type 0
   Said h lo size b =
       let a = start (rooted h) .args in
-      Searched (record { marks = now (a .marks); count = a .n; edition = a .edition; popups = now (a .popups) }) (now (a .schedule)) (now (a .index)) (a .q) lo size b
+      Searched (record { marks = now (a .marks); count = a .n; edition = a .edition; shape = a .q .shape; popups = now (a .popups) }) (now (a .schedule)) (now (a .index)) (a .q) lo size b
 
   whole : (h : lts.After-size-to-search2 claims given reads.Post) {b : Bool}
       → (let a = start (rooted h) .args in

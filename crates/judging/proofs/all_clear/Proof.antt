@@ -10,11 +10,11 @@ use Rattle.judging.proofs.all_clear.Statement.{statement}
 use Rattle.judging.proofs.all_clear.Tie as tie
 
 abbrev Inv-loop : tie.InvT-loop
-Inv-loop marks edition popups schedule index splits large n k bound m₀ m =
-    (m ≤ n) × (every (isClear (record { marks = marks; count = n; edition = edition; popups = popups }) schedule) m ≡ true)
+Inv-loop marks edition shape popups schedule index splits large n k bound m₀ m =
+    (m ≤ n) × (every (isClear (record { marks = marks; count = n; edition = edition; shape = shape; popups = popups }) schedule) m ≡ true)
 
 abbrev μ-loop : tie.MeasureT-loop
-μ-loop marks edition popups schedule index splits large n k bound m₀ m = n - m
+μ-loop marks edition shape popups schedule index splits large n k bound m₀ m = n - m
 
 loop-holds : tie.Need-loop-holds Inv-loop μ-loop
 unfolding every

@@ -143,9 +143,9 @@ outranks-requires-2 c κs =
     let a = start e in
     let marks = now (a .args .marks) in
     let popups = now (a .args .popups) in
-    let f = pairValue marks popups (a .args .g) (a .args .q .m) in
+    let f = pairValue (a .args .q .shape) marks popups (a .args .g) (a .args .q .m) in
     let told : less f (limitAt (now (a .args .schedule)) (a .args .q .m)) ≡ false = rw (← e .pair-with .ensures .0, ← a .pre .0 .1 .value-is) (sym (d .before .less-small .ensures) ∙ d .if2 .left) in
-    let l = tie-named (a .pre .0 .0) (λ i. e .before .before .before .before .before .before .shared-slice-known .given i .fits) (a .pre .0 .1 .inside) f (pairs-positive marks popups (a .args .g) (a .args .q .m)) told in
+    let l = tie-named (a .pre .0 .0) (λ i. e .before .before .before .before .before .before .shared-slice-known .given i .fits) (a .pre .0 .1 .inside) f (pairs-positive (a .args .q .shape) marks popups (a .args .g) (a .args .q .m)) told in
     (omega (arith, a .pre .0 .2, a .pre .0 .0 .marks .there), omega (arith, l, c .eliminator-at .ensures, a .pre .0 .0 .marks .there))
 
 returns-6 : tie.Need-returns-6

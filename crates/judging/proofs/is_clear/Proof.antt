@@ -1,6 +1,6 @@
 -- `judging::is_clear` meets its contract: a mark is listed, or its radius is within the bound and it is in the index. Assumes nothing.
 use borrow.Author.Tests.{not-true, not-false}
-use Rattle.judging.specs.Lemmas.Listing.{subjectable, subjected, large-found, searchable, clear-is}
+use Rattle.judging.specs.Lemmas.Listing.{subjectable, asked, subjected, large-found, searchable, clear-is}
 use Rattle.judging.proofs.is_clear.Statement.{statement}
 use Rattle.judging.proofs.is_clear.Tie as tie
 
@@ -17,7 +17,8 @@ large-clear-requires : tie.Need-large-clear-requires
 large-clear-requires c κs =
     let a = start c in
     let p = a .pre .0 in
-    (p .tabled .indexed .asked, subjected p (a .pre .1) (c .subject-of .ensures .0), (p .fits, p .listed .marks))
+    let is = c .subject-of .ensures .0 in
+    (asked p (a .pre .1) is, subjected p (a .pre .1) is, (p .fits, p .listed .marks))
 
 returns : tie.Need-returns
 returns c =

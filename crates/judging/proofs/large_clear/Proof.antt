@@ -11,7 +11,7 @@ use Rattle.judging.proofs.large_clear.Tie as tie
 
 abbrev Inv-loop : tie.InvT-loop
 Inv-loop marks edition popups schedule n q large k i₀ i =
-    (i ≤ k) × ((j : ℕ) → j < i → clash (record { marks = marks; count = n; edition = edition; popups = popups }) schedule (q .m) (getD large j 0) ≡ false)
+    (i ≤ k) × ((j : ℕ) → j < i → clash (record { marks = marks; count = n; edition = edition; shape = q .shape; popups = popups }) schedule (q .m) (getD large j 0) ≡ false)
 
 abbrev μ-loop : tie.MeasureT-loop
 μ-loop marks edition popups schedule n q large k i₀ i = k - i

@@ -2,17 +2,18 @@
 use mathlib.Core.Path.{_≡_, ap₂, _∙_}
 use borrow.Author.Needs.{needs}
 use denote.Ref.{now}
-use Rattle.marks.specs.Marks.{touchingOf, touching}
-use Rattle.marks.specs.Pairs.{larger, pairOf, pairValue}
-use Rattle.marks.specs.PairLaws.{larger-most, unpopped}
+use Rattle.marks.specs.Marks.{larger, touchingOf, touching}
+use Rattle.marks.specs.Pairs.{pairOf, pairValue}
+use Rattle.marks.specs.Laws.{larger-most}
+use Rattle.marks.specs.PairLaws.{unpopped}
 use Rattle.judging.proofs.pair_with.Statement.{statement}
 use Rattle.judging.proofs.pair_with.Tie as tie
 
-touch-is : (c : tie.After-touching-of) → let a = c .before .before .before .before in c .touching-of .result ≡ touching (now (a .args .marks)) (a .args .g) (a .args .q .m)
+touch-is : (c : tie.After-touching-of) → let a = c .before .before .before .before in c .touching-of .result ≡ touching (a .args .q .shape) (now (a .args .marks)) (a .args .g) (a .args .q .m)
 unfolding touching
 touch-is c =
     let a = c .before .before .before .before in
-    c .touching-of .ensures .0 ∙ ap₂ touchingOf (c .before .label-at .ensures) (a .pre .label-is)
+    c .touching-of .ensures .0 ∙ ap₂ (touchingOf (a .args .q .shape)) (c .before .label-at .ensures) (a .pre .label-is)
 
 label-at-requires : tie.Need-label-at-requires
 label-at-requires c κs = c .before .before .pre .marked
@@ -26,7 +27,7 @@ returns : tie.Need-returns
 returns c =
     let t = c .before in
     let a = t .before .before .before .before in
-    (touch-is t ∙ unpopped (now (a .args .marks)) (now (a .args .popups)) (a .args .g) (a .args .q .m) (c .if1 .taken), t .touching-of .ensures .1)
+    (touch-is t ∙ unpopped (a .args .q .shape) (now (a .args .marks)) (now (a .args .popups)) (a .args .g) (a .args .q .m) (c .if1 .taken), t .touching-of .ensures .1)
 
 popup-at-requires : tie.Need-popup-at-requires
 popup-at-requires c κs = c .before .before .before .before .before .pre .popup .there

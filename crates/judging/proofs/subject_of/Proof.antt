@@ -44,8 +44,8 @@ coordinate-requires c κs = search needs
 coordinate-requires-2 : tie.Need-coordinate-requires-2
 coordinate-requires-2 c κs = search needs
 
-mul-t11 : tie.Need-mul-t11
-mul-t11 c =
+mul-t12 : tie.Need-mul-t12
+mul-t12 c =
     let r = c .before .before .before .before .before .before .before in
     let a = r .before .before .before .before in
     let l : r .radius-at .result + a .args .bound ≤ 32766 = omega (arith, r .radius-at .ensures, a .pre .used, a .pre .bound-small) in
@@ -90,5 +90,5 @@ subject-of-spec =
     less-small-requires
     coordinate-requires
     coordinate-requires-2
-    mul-t11
+    mul-t12
     returns)

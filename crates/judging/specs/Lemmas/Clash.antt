@@ -66,9 +66,9 @@ limit-up v (At g) f d sw l a = less-atMost {h = g} sw l a
 pub record Clash (r : Reel) (p : List ℕ) (m g : ℕ) : Type 0 where
   pub other : g ≢ m
   pub stays : AtMost (limitAt p m) (limitAt p g)
-  pub kind : Less (pairValue (r .marks) (r .popups) g m) (limitAt p m)
-      ⊎ (AtMost (pairValue (r .marks) (r .popups) g m) (limitAt p m) × AtMost (limitAt p m) (pairValue (r .marks) (r .popups) g m)
-      × Less (pairValue (r .marks) (r .popups) g m) (limitAt p g)
+  pub kind : Less (pairValue (r .shape) (r .marks) (r .popups) g m) (limitAt p m)
+      ⊎ (AtMost (pairValue (r .shape) (r .marks) (r .popups) g m) (limitAt p m) × AtMost (limitAt p m) (pairValue (r .shape) (r .marks) (r .popups) g m)
+      × Less (pairValue (r .shape) (r .marks) (r .popups) g m) (limitAt p g)
       × (outranks (r .edition) (r .marks) g m ≡ true) × (outranks (r .edition) (r .marks) g (eliminatorAt p m) ≡ true))
 
 pub no-less : (f g : Fraction) → not (less f g) ≡ true → AtMost g f
@@ -85,7 +85,7 @@ module _ (r : Reel) (p : List ℕ) (m g : ℕ) where
   w = limitAt p g
 
   abbrev f : Fraction
-  f = pairValue (r .marks) (r .popups) g m
+  f = pairValue (r .shape) (r .marks) (r .popups) g m
 
   abbrev higher : ℕ → Bool
   higher = outranks (r .edition) (r .marks) g
@@ -133,17 +133,17 @@ module _ (r : Reel) (p : List ℕ) (m g : ℕ) where
   pub clash-later : Clash r p m g → Less f w
   clash-later c =
       elim (c .kind) [
-        | inl l ↦ limit-up (valueAt p m) (valueAt p g) f (pairs-positive (r .marks) (r .popups) g m) (value-sound p g) l (c .stays)
+        | inl l ↦ limit-up (valueAt p m) (valueAt p g) f (pairs-positive (r .shape) (r .marks) (r .popups) g m) (value-sound p g) l (c .stays)
         | inr k ↦ k .2
       ]
 
 -- ---- nobody clashes where the judge accepts, and the reverse
 
 module _ {r : Reel} {p : List ℕ} (a : Asked r p) (bytes : Bytes (r .marks)) where
-  open Reel r using (marks as s, count as n, edition, popups)
+  open Reel r using (marks as s, count as n, edition, shape, popups)
 
   abbrev value : ℕ → ℕ → Fraction
-  value = pairValue s popups
+  value = pairValue shape s popups
 
   abbrev by : ℕ → ℕ
   by = eliminatorAt p
@@ -156,7 +156,7 @@ module _ {r : Reel} {p : List ℕ} (a : Asked r p) (bytes : Bytes (r .marks)) wh
       outranks-key edition s g m bytes (omega (arith, few)) (omega (arith, few)) (a .marks .each g hg .used) (a .marks .each m hm .used)
 
   limit-iff : (g m i : ℕ) → Later (valueAt p i) (value g m) ↔ Less (value g m) (limitAt p i)
-  limit-iff g m i = later-limit (valueAt p i) (value g m) (pairs-positive s popups g m)
+  limit-iff g m i = later-limit (valueAt p i) (value g m) (pairs-positive shape s popups g m)
 
   removed : (m : ℕ) (f : Fraction) → valueAt p m ≡ At f → limitAt p m ≡ f
   unfolding limitOf
@@ -182,7 +182,7 @@ module _ {r : Reel} {p : List ℕ} (a : Asked r p) (bytes : Bytes (r .marks)) wh
         let lj = limit-iff i j j .0 y in
         elim (order (limitAt p j) (limitAt p i)) [
           | inl o ↦ seen j i hj hi d o lj
-          | inr o ↦ seen i j hi hj (λ e. d (sym e)) (record { cross = omega (arith, o .cross) }) (rw (pairs-symmetric s popups j i) li)
+          | inr o ↦ seen i j hi hj (λ e. d (sym e)) (record { cross = omega (arith, o .cross) }) (rw (pairs-symmetric shape s popups j i) li)
         ]
 
     clear-names : AllHighest (marksOf r) (valueAt p) by
@@ -206,7 +206,7 @@ module _ {r : Reel} {p : List ℕ} (a : Asked r p) (bytes : Bytes (r .marks)) wh
         -- f equals the pair value with g, and g is removed later
         at-most : (g : ℕ) → Less (value g m) (limitAt p g) → Same f (value g m) → AtMost f (limitAt p g)
         at-most g l q =
-            let d : 0 < f .den = rw is (pairs-positive s popups (by m) m) in
+            let d : 0 < f .den = rw is (pairs-positive shape s popups (by m) m) in
             let y : Less f (limitAt p g) = atMost-less {f = f} {g = value g m} d (record { cross = omega (arith, q .cross) }) l in
             record { cross = omega (arith, y .cross) }
 
@@ -234,7 +234,7 @@ module _ {r : Reel} {p : List ℕ} (a : Asked r p) (bytes : Bytes (r .marks)) wh
     tie-removed : (m g : ℕ) → AtMost (limitAt p m) (value g m) → (v : Value) → valueAt p m ≡ v → (f : Fraction) × (valueAt p m ≡ At f)
     unfolding limitOf
     tie-removed m g x Never e =
-        absurd (let y : AtMost (record { num = 1; den = 0 }) (value g m) = rw e at x in omega (arith, y .cross, pairs-positive s popups g m))
+        absurd (let y : AtMost (record { num = 1; den = 0 }) (value g m) = rw e at x in omega (arith, y .cross, pairs-positive shape s popups g m))
     tie-removed m g x (At f) e = (f, e)
 
     judged-none : (m g : ℕ) → m < n → g < n → Clash r p m g → ⊥

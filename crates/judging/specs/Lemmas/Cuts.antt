@@ -15,10 +15,10 @@ use Rattle.fractions.specs.declared.Value.{Value}
 use Rattle.fractions.specs.declared.Value.the-variants.{Never, At}
 use Rattle.fractions.specs.Order.{less, later, level, Less, AtMost, Sound}
 use Rattle.fractions.specs.Laws.{atMost-trans, less-iff, same-iff, less-atMost, atMost-less}
-use Rattle.marks.specs.Marks.{xAt, yAt, shifted, usedAt, apart, touchingOf, touching}
-use Rattle.marks.specs.Laws.{distance-x, distance-y, touching-positive}
-use Rattle.marks.specs.Pairs.{popupAt, popupValue, larger, pairValue}
-use Rattle.marks.specs.PairLaws.{larger-least, popup-grows, pairs-positive, pairs-touching, pairs-popup}
+use Rattle.marks.specs.Marks.{xAt, yAt, shifted, usedAt, apart, larger, touchingOf, touching}
+use Rattle.marks.specs.Laws.{larger-least, distance-x, distance-y, touching-positive}
+use Rattle.marks.specs.Pairs.{popupAt, popupValue, pairValue}
+use Rattle.marks.specs.PairLaws.{popup-grows, pairs-positive, pairs-touching, pairs-popup}
 use Rattle.elimination.specs.Records.{valueAt}
 use Rattle.elimination.specs.Reel.{Reel}
 use Rattle.index.specs.Index.{beats, coordinate}
@@ -96,12 +96,12 @@ module _ (r : Reel) (p : List ℕ) (m : ℕ) where
   tight-popup : isTight (r .popups) p m ≡ true → AtMost v (popupValue (popupAt (r .popups) m))
   tight-popup e = no-less (popupValue (popupAt (r .popups) m)) v e
 
-  tight-least : isTight (r .popups) p m ≡ true → (g : ℕ) → AtMost v (pairValue (r .marks) (r .popups) g m)
+  tight-least : isTight (r .popups) p m ≡ true → (g : ℕ) → AtMost v (pairValue (r .shape) (r .marks) (r .popups) g m)
   tight-least e g =
       let popups = r .popups in
       atMost-trans {g = popupValue (popupAt popups m)} (omega arith) (tight-popup e)
       (atMost-trans {g = popupValue (larger (popupAt popups g) (popupAt popups m))} (omega arith)
-      (popup-grows (larger-least (popupAt popups g) (popupAt popups m) .1)) (pairs-popup (r .marks) popups g m))
+      (popup-grows (larger-least (popupAt popups g) (popupAt popups m) .1)) (pairs-popup (r .shape) (r .marks) popups g m))
 
   tight-removed : isTight (r .popups) p m ≡ true → 0 < v .den
   tight-removed e = popup-removed (valueAt p m) (popupAt (r .popups) m) (value-sound p m) (tight-popup e)
@@ -109,7 +109,7 @@ module _ (r : Reel) (p : List ℕ) (m : ℕ) where
   -- nobody clashes that is removed at 0, or before m; nor, if m is tight, one that is removed together with m
   pub over-none : (tight : Bool) → tight ≡ isTight (r .popups) p m → (g : ℕ) → isOver tight (limitAt p g) v ≡ true → Clash r p m g → ⊥
   over-none tight is g e c =
-      let f = pairValue (r .marks) (r .popups) g m in
+      let f = pairValue (r .shape) (r .marks) (r .popups) g m in
       let w = limitAt p g in
       elim (either (eqb (w .num) 0) _ e) [
         | inl z ↦
@@ -168,21 +168,21 @@ gap-shifted (negsuc a) (pos zero) = omega (arith, sub-gap 0 (suc a))
 gap-shifted (negsuc a) (pos (suc b)) = omega arith
 gap-shifted (negsuc a) (negsuc b) = omega (arith, sub-gap (suc b) (suc a))
 
-module _ (s : List ℕ) (m g : ℕ) where
+module _ (shape : ℕ) (s : List ℕ) (m g : ℕ) where
   abbrev between : Bool → ℕ
   between axis = coordinate s axis g - coordinate s axis m + (coordinate s axis m - coordinate s axis g)
 
   -- the squared distance is at least that on one axis
-  far-square : (axis : Bool) (d : ℕ) → d ≤ between axis → d * d ≤ touching s g m .num
+  far-square : (axis : Bool) (d : ℕ) → d ≤ between axis → d * d ≤ touching shape s g m .num
   unfolding coordinate touching touchingOf
   far-square true d h =
       let x : d ≤ apart (xAt s g) (xAt s m) = omega (arith, gap-shifted (xAt s g) (xAt s m)) in
-      omega (arith, mul-le-mul x x, distance-x (apart (xAt s g) (xAt s m)) (apart (yAt s g) (yAt s m)))
+      omega (arith, mul-le-mul x x, distance-x shape (apart (xAt s g) (xAt s m)) (apart (yAt s g) (yAt s m)))
   far-square false d h =
       let x : d ≤ apart (yAt s g) (yAt s m) = omega (arith, gap-shifted (yAt s g) (yAt s m)) in
-      omega (arith, mul-le-mul x x, distance-y (apart (xAt s g) (xAt s m)) (apart (yAt s g) (yAt s m)))
+      omega (arith, mul-le-mul x x, distance-y shape (apart (xAt s g) (xAt s m)) (apart (yAt s g) (yAt s m)))
 
-  far-radii : (bound : ℕ) → usedAt s g ≤ bound → touching s g m .den ≤ (usedAt s m + bound) * (usedAt s m + bound)
+  far-radii : (bound : ℕ) → usedAt s g ≤ bound → touching shape s g m .den ≤ (usedAt s m + bound) * (usedAt s m + bound)
   unfolding touching touchingOf
   far-radii bound h = let x : usedAt s g + usedAt s m ≤ usedAt s m + bound = omega arith in mul-le-mul x x
 
@@ -195,11 +195,12 @@ pub far-none : (r : Reel) (p : List ℕ) (m g : ℕ) (axis : Bool) (d bound : �
 far-none r p m g axis d bound h k e c =
     let s = r .marks in
     let far : Fraction = record { num = d * d; den = (usedAt s m + bound) * (usedAt s m + bound) } in
-    let t = touching s g m in
-    let f = pairValue s (r .popups) g m in
-    let x : AtMost far t = record { cross = mul-le-mul (far-square s m g axis d h) (far-radii s m g bound k) } in
-    let y : AtMost far f = atMost-trans {g = t} (touching-positive s g m) x (pairs-touching s (r .popups) g m) in
-    let z : Less (limitAt p m) f = less-atMost {g = far} (pairs-positive s (r .popups) g m) (less-iff (limitAt p m) far .0 e) y in
+    let shape = r .shape in
+    let t = touching shape s g m in
+    let f = pairValue shape s (r .popups) g m in
+    let x : AtMost far t = record { cross = mul-le-mul (far-square shape s m g axis d h) (far-radii shape s m g bound k) } in
+    let y : AtMost far f = atMost-trans {g = t} (touching-positive shape s g m) x (pairs-touching shape s (r .popups) g m) in
+    let z : Less (limitAt p m) f = less-atMost {g = far} (pairs-positive shape s (r .popups) g m) (less-iff (limitAt p m) far .0 e) y in
     elim (c .kind) [
       | inl l ↦ omega (arith, l .cross, z .cross)
       | inr q ↦ omega (arith, q .0 .cross, z .cross)

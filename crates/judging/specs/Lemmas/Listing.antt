@@ -1,6 +1,6 @@
 -- The list of the large marks, and the whole search: a mark is listed, or its radius is within the bound and it is in the index. Assumes nothing.
 use Prim.Native.Nat.{ℕ, _+_, _<_, _≤_}
-use mathlib.Core.Path.{_≡_, refl, sym, ap, ap₂, _∙_}
+use mathlib.Core.Path.{_≡_, refl, sym, ap, ap₂, _∙_, subst}
 use mathlib.Core.Bool.{Bool, true, false, not}
 use mathlib.Core.List.{List}
 use native.Mathlib.Omega.{arith}
@@ -22,7 +22,7 @@ use Rattle.index.specs.Blocks.{entryAt}
 use Rattle.index.specs.Laws.{index-once, index-block, block-tree, index-entries}
 use Rattle.judging.specs.declared.Subject.{Subject}
 use Rattle.judging.specs.declared.Corner.{Corner}
-use Rattle.judging.specs.Search.{limitAt, clash, isClear, isTight, subjectOf, widestRadius, mostLarge, advanced, Judgeable, Indexed, Subjectable, Subjected, Fits, Searchable, Searched}
+use Rattle.judging.specs.Search.{limitAt, clash, isClear, isTight, subjectOf, widestRadius, mostLarge, advanced, Judgeable, Asked, Indexed, Subjectable, Subjected, Fits, Searchable, Searched}
 use Rattle.judging.specs.Search.{Listed, LargeClear, Tabled, Ready, Fillable, Filled}
 use Rattle.judging.specs.Lemmas.Clash.{limit-small}
 
@@ -68,7 +68,11 @@ advanced-most false h = omega arith
 -- ---- the whole search, for mark m
 
 module _ {r : Reel} {p t z l : List ℕ} {k bound m : ℕ} (a : Ready r p t z l k bound) (hm : m < r .count) where
-  open Reel r using (marks as s, count as n, popups)
+  open Reel r using (marks as s, count as n, edition, shape, popups)
+
+  -- the reel, by the shape that a subject brings
+  abbrev shaped : ℕ → Reel
+  shaped v = record { marks = s; count = n; edition = edition; shape = v; popups = popups }
 
   pub subjectable : Bytes s → Subjectable s popups p bound m
   subjectable bytes =
@@ -82,7 +86,14 @@ module _ {r : Reel} {p t z l : List ℕ} {k bound m : ℕ} (a : Ready r p t z l 
         bound-small = a .small;
       }
 
-  module _ {q : Subject} (is : q ≡ subjectOf s popups p bound m) where
+  module _ {q : Subject} (is : q ≡ subjectOf shape s popups p bound m) where
+    same-reel : shaped (q .shape) ≡ r
+    unfolding subjectOf
+    same-reel = ap (λ (u : Subject). shaped (u .shape)) is
+
+    pub asked : Asked (shaped (q .shape)) p
+    asked = subst (λ (x : Reel). Asked x p) (sym same-reel) (a .tabled .indexed .asked)
+
     same-m : q .m ≡ m
     unfolding subjectOf
     same-m = ap (λ (u : Subject). u .m) is
@@ -102,9 +113,10 @@ module _ {r : Reel} {p t z l : List ℕ} {k bound m : ℕ} (a : Ready r p t z l 
     pub subjected : Subjected s n p q
     subjected = record { inside = rw same-m hm; label-is = rw same-m same-label; value-is = rw same-m same-value }
 
-    pub searchable : Fits q → Searchable r p t z q 0 n true
+    pub searchable : Fits q → Searchable (shaped (q .shape)) p t z q 0 n true
     searchable f =
-        record {
+        subst (λ (x : Reel). Searchable x p t z q 0 n true) (sym same-reel)
+        (record {
           indexed = a .tabled .indexed;
           subject = subjected;
           fits = f;
@@ -112,13 +124,13 @@ module _ {r : Reel} {p t z l : List ℕ} {k bound m : ℕ} (a : Ready r p t z l 
           there = omega arith;
           room = a .tabled .room;
           splits = a .tabled .splits;
-        }
+        })
 
     -- a listed mark clashes
-    pub large-found : LargeClear r p (q .m) l k false → false ≡ isClear r p m
+    pub large-found : LargeClear (shaped (q .shape)) p (q .m) l k false → false ≡ isClear r p m
     unfolding isClear
     large-found x =
-        let (i, h, c) = x .found refl in
+        let (i, h, c) = subst (λ (y : Reel). LargeClear y p (q .m) l k false) same-reel x .found refl in
         sym (every-not (λ g. not (clash r p m g)) n (getD l i 0) (a .listed .marks i h)
         (ap not (sym (ap (λ (j : ℕ). clash r p j (getD l i 0)) same-m) ∙ c)))
 
@@ -129,9 +141,9 @@ module _ {r : Reel} {p t z l : List ℕ} {k bound m : ℕ} (a : Ready r p t z l 
         let once : times g (block (entryAt t) 0 n) ≡ 1 = rw (index-block s p n few t (a .tabled .index-right)) (index-once s p n few g h) in
         block-find (eqb g) (entryAt t) 0 n (omega (arith, once))
 
-    pub clear-is : {b : Bool} → LargeClear r p (q .m) l k true → Searched r p t q 0 n b → b ≡ isClear r p m
+    clear-of : {b : Bool} → LargeClear r p (q .m) l k true → Searched r p t q 0 n b → b ≡ isClear r p m
     unfolding isClear
-    clear-is {b = true} w x = sym (every-of (λ g. not (clash r p m g)) n each)
+    clear-of {b = true} w x = sym (every-of (λ g. not (clash r p m g)) n each)
       where
         each : (g : ℕ) → g < n → not (clash r p m g) ≡ true
         each g h =
@@ -141,13 +153,17 @@ module _ {r : Reel} {p t z l : List ℕ} {k bound m : ℕ} (a : Ready r p t z l 
                   (let (i, lo, hi, hit) = place-of g h in
                   let e : entryAt t i ≡ g = sym (eqb-true g (entryAt t i) hit) in
                   let near : usedAt s (entryAt t i) ≤ bound = rw e (omega arith) in
-                  let none = x .clear refl bound (is ∙ ap (subjectOf s popups p bound) (sym same-m)) i lo hi near in
+                  let none = x .clear refl bound (is ∙ ap (subjectOf shape s popups p bound) (sym same-m)) i lo hi near in
                   ap not (sym (ap₂ (clash r p) same-m e) ∙ none))
             ]
-    clear-is {b = false} w x =
+    clear-of {b = false} w x =
         let (i, lo, hi, c) = x .found refl in
         sym (every-not (λ g. not (clash r p m g)) n (entryAt t i) (a .tabled .indexed .below i (omega arith))
         (ap not (sym (ap (λ (j : ℕ). clash r p j (entryAt t i)) same-m) ∙ c)))
+
+    pub clear-is : {b : Bool} → LargeClear (shaped (q .shape)) p (q .m) l k true → Searched (shaped (q .shape)) p t q 0 n b → b ≡ isClear r p m
+    clear-is {b} w x =
+        clear-of (subst (λ (y : Reel). LargeClear y p (q .m) l k true) same-reel w) (subst (λ (y : Reel). Searched y p t q 0 n b) same-reel x)
 
 -- ---- what is judged
 

@@ -23,8 +23,8 @@ use Rattle.bodies.specs.Questions.{exactly, namesRight, recordRight, isSchedule
 pub record Named (r : Reel) (p : List ℕ) (m : ℕ) : Type 0 where
   pub below : eliminatorAt p m < r .count
   pub higher : outranks (r .edition) (r .marks) (eliminatorAt p m) m ≡ true
-  pub num-is : numAt p m ≡ (pairValue (r .marks) (r .popups) (eliminatorAt p m) m) .num
-  pub den-is : denAt p m ≡ (pairValue (r .marks) (r .popups) (eliminatorAt p m) m) .den
+  pub num-is : numAt p m ≡ (pairValue (r .shape) (r .marks) (r .popups) (eliminatorAt p m) m) .num
+  pub den-is : denAt p m ≡ (pairValue (r .shape) (r .marks) (r .popups) (eliminatorAt p m) m) .den
   pub stays : later (valueAt p (eliminatorAt p m)) (valueAt p m) ≡ true
 
 -- or it is the 'never' record
@@ -36,7 +36,7 @@ pub right-of : (r : Reel) (p : List ℕ) (m : ℕ) → isSchedule r p ≡ true �
 unfolding isSchedule recordRight isNever namesRight
 right-of r p m q l =
     let by = eliminatorAt p m in
-    let f = pairValue (r .marks) (r .popups) by m in
+    let f = pairValue (r .shape) (r .marks) (r .popups) by m in
     elim (either (isNever (markRecord p m)) _ (every-at (recordRight r p) (r .count) q m l)) [
       | inl e ↦
           (let a = both-iff (eqb by 65535) _ .0 e in
@@ -53,7 +53,7 @@ right-of r p m q l =
           let d = both-iff (eqb (numAt p m) (f .num)) (eqb (denAt p m) (f .den)) .0 (b .1) in
           let den : denAt p m ≡ f .den = eqb-true (denAt p m) (f .den) (d .1) in
           record {
-            never = λ z. absurd (omega (arith, pairs-positive (r .marks) (r .popups) by m));
+            never = λ z. absurd (omega (arith, pairs-positive (r .shape) (r .marks) (r .popups) by m));
             names = λ z. record {
               below = ltb-true by (r .count) (c .0);
               higher = c .1;
@@ -75,7 +75,7 @@ removed-den p m f e =
 
 -- and its value is the pair's, "as its two unreduced numbers"
 pub exact : (r : Reel) (p : List ℕ) → isSchedule r p ≡ true → (m : ℕ) (f : Fraction) → m < r .count → valueAt p m ≡ At f
-    → f ≡ pairValue (r .marks) (r .popups) (eliminatorAt p m) m
+    → f ≡ pairValue (r .shape) (r .marks) (r .popups) (eliminatorAt p m) m
 unfolding valueAt
 exact r p q m f l e =
     let d = removed-den p m f e in

@@ -65,7 +65,7 @@ place-small f false = f .y-small
 
 -- ---- what a subject has
 
-module _ (s popups p : List ℕ) (q : Subject) (bound : ℕ) (is : q ≡ subjectOf s popups p bound (q .m)) where
+module _ (shape : ℕ) (s popups p : List ℕ) (q : Subject) (bound : ℕ) (is : q ≡ subjectOf shape s popups p bound (q .m)) where
   subject-place : (axis : Bool) → cond axis (q .x) (q .y) ≡ coordinate s axis (q .m)
   unfolding subjectOf
   subject-place true = ap (λ (u : Subject). u .x) is
@@ -78,7 +78,7 @@ module _ (s popups p : List ℕ) (q : Subject) (bound : ℕ) (is : q ≡ subject
 -- ---- a block
 
 module _ {r : Reel} {p t z : List ℕ} {q : Subject} {lo size : ℕ} {axis : Bool} (a : Searchable r p t z q lo size axis) (some : size ≢ 0) where
-  open Reel r using (marks as s, count as n, popups)
+  open Reel r using (marks as s, count as n, shape, popups)
 
   at : Node s p (entryAt t) (λ i. getD z i 0) lo size axis
   at = node-of some (a .splits)
@@ -150,7 +150,7 @@ module _ {r : Reel} {p t z : List ℕ} {q : Subject} {lo size : ℕ} {axis : Boo
         whole true = at .left
         whole false = at .right
 
-    half-clear : Searched r p t q (startOf left lo size) m true → (bound : ℕ) → q ≡ subjectOf s popups p bound (q .m)
+    half-clear : Searched r p t q (startOf left lo size) m true → (bound : ℕ) → q ≡ subjectOf shape s popups p bound (q .m)
         → (i : ℕ) → startOf left lo size ≤ i → i < startOf left lo size + sizeOf left size → usedAt s (entryAt t i) ≤ bound
         → clash r p (q .m) (entryAt t i) ≡ false
     half-clear x bound qi i h k u =
@@ -167,7 +167,7 @@ module _ {r : Reel} {p t z : List ℕ} {q : Subject} {lo size : ℕ} {axis : Boo
 
         told : (l : Bool) → isFar q axis l split ≡ true
             → less (limitAt p (q .m)) (record { num = gapTo l place split * gapTo l place split; den = (usedAt s (q .m) + bound) * (usedAt s (q .m) + bound) }) ≡ true
-        told l f = rw (subject-place s popups p q bound qi axis, subject-reach s popups p q bound qi, a .subject .value-is) at f
+        told l f = rw (subject-place shape s popups p q bound qi axis, subject-reach shape s popups p q bound qi, a .subject .value-is) at f
 
         far : (l : Bool) → startOf l lo size ≤ i → i < startOf l lo size + sizeOf l size → isFar q axis l split ≡ true → Clash r p (q .m) (entryAt t i) → ⊥
         far true h k f =

@@ -3,8 +3,10 @@
 use mathlib.Core.Path.{ap₂, _∙_}
 use borrow.Author.Needs.{needs}
 use denote.Ref.{now}
-use Rattle.marks.specs.Pairs.{larger, pairOf, pairValue}
-use Rattle.marks.specs.PairLaws.{larger-most, unpopped}
+use Rattle.marks.specs.Marks.{larger}
+use Rattle.marks.specs.Pairs.{pairOf, pairValue}
+use Rattle.marks.specs.Laws.{larger-most}
+use Rattle.marks.specs.PairLaws.{unpopped}
 use Rattle.marks.proofs.pair.Statement.{statement}
 use Rattle.marks.proofs.pair.Tie as tie
 
@@ -14,7 +16,7 @@ touching-requires c κs = search needs
 returns : tie.Need-returns
 returns c =
     let a = c .before .before .before .before .args in
-    c .before .touching .ensures .0 ∙ unpopped (now (a .s)) (now (a .popups)) (a .a) (a .b) (c .if1 .taken)
+    c .before .touching .ensures .0 ∙ unpopped (a .shape) (now (a .s)) (now (a .popups)) (a .a) (a .b) (c .if1 .taken)
 
 popup-at-requires : tie.Need-popup-at-requires
 popup-at-requires c κs = search needs

@@ -45,10 +45,11 @@ returns c =
     let x = y .before .before .before in
     let p = placed-a x in
     let q = placed-b x in
-    let r = x .before .before .before .before .before .pre in
-    let e = c .distance .ensures ∙ ap₂ (λ u v. distance (natAbs u) (natAbs v))
+    let a = x .before .before .before .before .before in
+    let r = a .pre in
+    let e = c .distance .ensures ∙ ap₂ (λ u v. distance (a .args .shape) (natAbs u) (natAbs v))
     (told (p .x-fits) (q .x-fits) (x .difference .ensures)) (told (p .y-fits) (q .y-fits) (y .difference2 .ensures)) in
-    (rw e, rw e (touchingOf-small _ _ p q (r .0) (r .1)))
+    (rw e, rw e (touchingOf-small _ _ _ p q (r .0) (r .1)))
 
 mul-den : tie.Need-mul-den
 mul-den c = omega (arith, returns c .1)

@@ -6,10 +6,10 @@ use native.Mathlib.Omega.{arith}
 use denote.Ref.{now}
 use borrow.Author.Needs.{needs}
 use Rattle.numbers.specs.Little.{Bytes}
-use Rattle.contents.specs.Contents.{split, marksPart, editionPart, popupsPart}
+use Rattle.contents.specs.Contents.{split, marksPart, editionPart, popupsPart, shapePart}
 use Rattle.contents.specs.Asking.{answer}
 use Rattle.contents.specs.Laws.{layout-part}
-use Rattle.bodies.specs.Questions.{markCount, editionIn, editionOf}
+use Rattle.bodies.specs.Questions.{markCount, choiceIn, editionOf, shapeOf}
 use Rattle.report.specs.Text.{mostMarks, printQuestions}
 use Rattle.report.specs.Lemmas.Printed.{prints-refusal, taken-laid, part1-few, part1-good, popups-good, taken-printable, prints-listing}
 use Rattle.report.proofs.print.Statement.{statement}
@@ -31,19 +31,27 @@ marks-few : (c : tie.After-part) → markCount (now (c .part .result)) ≤ mostM
 marks-few c = part1-few _ (input-bytes (c .before .before)) (yes (c .before .before)) (part1 c)
 
 -- part 4 names the edition
-ranked : (c : tie.After-edition-of)
-    → c .edition-of .result ≡ editionOf (split (now (c .before .before .before .before .before .before .before .before .before .before .args .input)))
+ranked : (c : tie.After-choice-of)
+    → c .choice-of .result ≡ editionOf (split (now (c .before .before .before .before .before .before .before .before .before .before .args .input)))
 ranked c =
     let k = c .before .before .before in
     let part4 : now (c .before .part2 .result) ≡ editionPart (split (now (k .before .before .before .before .before .before .before .args .input))) =
     c .before .part2 .ensures ∙ rw (k .layout-of .ensures) (layout-part _ (taken-laid _ (yes (k .before))) 4) in
-    c .edition-of .ensures ∙ ap editionIn part4
+    c .choice-of .ensures ∙ ap choiceIn part4
 
--- and part 5 has the popups
+-- part 5 has the popups
 popped : (c : tie.After-part3) → now (c .part3 .result) ≡ popupsPart (split (now (c .before .before .before .before .before .before .before .before .before .before .before .args .input)))
 popped c =
     let k = c .before .before .before .before in
     c .part3 .ensures ∙ rw (k .layout-of .ensures) (layout-part _ (taken-laid _ (yes (k .before))) 5)
+
+-- and part 7 names the shape
+shaped : (c : tie.After-choice-of2) → c .choice-of2 .result ≡ shapeOf (split (now (c .before .before .before .before .before .before .before .before .before .before .before .before .before .args .input)))
+shaped c =
+    let k = c .before .before .before .before .before .before in
+    let part7 : now (c .before .part4 .result) ≡ shapePart (split (now (k .before .before .before .before .before .before .before .args .input))) =
+    c .before .part4 .ensures ∙ rw (k .layout-of .ensures) (layout-part _ (taken-laid _ (yes (k .before))) 7) in
+    c .choice-of2 .ensures ∙ ap choiceIn part7
 
 print-answer-requires : tie.Need-print-answer-requires
 print-answer-requires c κs = search needs
@@ -75,28 +83,34 @@ part-requires c κs = search needs
 part-requires-2 : tie.Need-part-requires-2
 part-requires-2 c κs = search needs
 
-edition-of-requires : tie.Need-edition-of-requires
-edition-of-requires c κs = search needs
+choice-of-requires : tie.Need-choice-of-requires
+choice-of-requires c κs = search needs
 
 part-requires-3 : tie.Need-part-requires-3
 part-requires-3 c κs = search needs
 
+part-requires-4 : tie.Need-part-requires-4
+part-requires-4 c κs = search needs
+
+choice-of-requires-2 : tie.Need-choice-of-requires-2
+choice-of-requires-2 c κs = search needs
+
 schedule-requires : tie.Need-schedule-requires
 schedule-requires c κs =
-    let k = c .before .before .before .before .before in
-    let p = c .before .before .before .before .before .before .before .before .before .before .before .before .before .pre in
+    let k = c .before .before .before .before .before .before .before in
+    let p = c .before .before .before .before .before .before .before .before .before .before .before .before .before .before .before .pre in
     record {
-      good = part1-good _ (input-bytes (c .before .before .before .before .before .before .before)) (yes (c .before .before .before .before .before .before .before)) (part1 k);
-      popped = popups-good _ (input-bytes (c .before .before .before .before .before .before .before)) (yes (c .before .before .before .before .before .before .before)) (part1 k) (popped (c .before .before)) (ranked (c .before .before .before));
+      good = part1-good _ (input-bytes (c .before .before .before .before .before .before .before .before .before)) (yes (c .before .before .before .before .before .before .before .before .before)) (part1 k);
+      popped = popups-good _ (input-bytes (c .before .before .before .before .before .before .before .before .before)) (yes (c .before .before .before .before .before .before .before .before .before)) (part1 k) (popped (c .before .before .before .before)) (ranked (c .before .before .before .before .before)) (shaped (c .before .before));
       work-room = omega (arith, p .work-room, marks-few k);
       out-room = omega (arith, p .schedule-room, marks-few k);
     }
 
 put-listing-requires : tie.Need-put-listing-requires
 put-listing-requires c κs =
-    let k = c .before .before .before .before .before .before .before .before .before .before .before .before in
-    let p = c .before .before .before .before .before .before .before .before .before .before .before .before .before .before .before .before .before .before .before .before .pre in (
-      taken-printable _ (input-bytes (c .before .before .before .before .before .before .before .before .before .before .before .before .before .before)) (yes (c .before .before .before .before .before .before .before .before .before .before .before .before .before .before)) (part1 k) (popped (c .before .before .before .before .before .before .before .before .before)) (ranked (c .before .before .before .before .before .before .before .before .before .before)) _ (c .before .before .before .before .before .before .schedule .ensures),
+    let k = c .before .before .before .before .before .before .before .before .before .before .before .before .before .before in
+    let p = c .before .before .before .before .before .before .before .before .before .before .before .before .before .before .before .before .before .before .before .before .before .before .pre in (
+      taken-printable _ (input-bytes (c .before .before .before .before .before .before .before .before .before .before .before .before .before .before .before .before)) (yes (c .before .before .before .before .before .before .before .before .before .before .before .before .before .before .before .before)) (part1 k) (popped (c .before .before .before .before .before .before .before .before .before .before .before)) (ranked (c .before .before .before .before .before .before .before .before .before .before .before .before)) (shaped (c .before .before .before .before .before .before .before .before .before)) _ (c .before .before .before .before .before .before .schedule .ensures),
       omega (arith, p .out-room, marks-few k),
     )
 
@@ -111,8 +125,8 @@ same-length-4 c = search needs
 
 returns-2 : tie.Need-returns-2
 returns-2 c =
-    let p = c .before .before .before .before .before .before .before .before .before .before .before .before .before .before .before .before .before .before .before .before .before .before .before .pre in
-    prints-listing _ (input-bytes (c .before .before .before .before .before .before .before .before .before .before .before .before .before .before .before .before .before)) (yes (c .before .before .before .before .before .before .before .before .before .before .before .before .before .before .before .before .before)) (part1 (c .before .before .before .before .before .before .before .before .before .before .before .before .before .before .before)) (popped (c .before .before .before .before .before .before .before .before .before .before .before .before)) (ranked (c .before .before .before .before .before .before .before .before .before .before .before .before .before)) _ (c .before .before .before .before .before .before .before .before .before .schedule .ensures) _ _ (search needs) (p .out-room) (c .before .before .put-listing .ensures)
+    let p = c .before .before .before .before .before .before .before .before .before .before .before .before .before .before .before .before .before .before .before .before .before .before .before .before .before .pre in
+    prints-listing _ (input-bytes (c .before .before .before .before .before .before .before .before .before .before .before .before .before .before .before .before .before .before .before)) (yes (c .before .before .before .before .before .before .before .before .before .before .before .before .before .before .before .before .before .before .before)) (part1 (c .before .before .before .before .before .before .before .before .before .before .before .before .before .before .before .before .before)) (popped (c .before .before .before .before .before .before .before .before .before .before .before .before .before .before)) (ranked (c .before .before .before .before .before .before .before .before .before .before .before .before .before .before .before)) (shaped (c .before .before .before .before .before .before .before .before .before .before .before .before)) _ (c .before .before .before .before .before .before .before .before .before .schedule .ensures) _ _ (search needs) (p .out-room) (c .before .before .put-listing .ensures)
 
 pub print-spec : {M : Type 1} → statement M
 print-spec =
@@ -127,8 +141,10 @@ print-spec =
     layout-of-requires
     part-requires
     part-requires-2
-    edition-of-requires
+    choice-of-requires
     part-requires-3
+    part-requires-4
+    choice-of-requires-2
     schedule-requires
     put-listing-requires
     same-length-2

@@ -24,7 +24,7 @@ use Rattle.contents.specs.Asking.{Question, _asks_, answer}
 use Rattle.contents.specs.Laid.{Laid}
 use Rattle.contents.specs.Laws.{none-asked, asked-yes, asked-no, asked-iff}
 use Rattle.contents.specs.Laws.{append-yes, append-no, append-iff}
-use Rattle.bodies.specs.Questions.{markCount, editionOf, reelFrom, reelOf}
+use Rattle.bodies.specs.Questions.{markCount, editionOf, shapeOf, reelFrom, reelOf}
 use Rattle.sheet.specs.Questions.{sheetCount, checkQuestions, check}
 use Rattle.sheet.specs.Laws.{check-numbered, accepted-iff}
 use Rattle.jobs.specs.Theorems.{good, good-reel}
@@ -136,13 +136,14 @@ module _ (s : List ℕ) where
     pub part1-good : GoodMarks part (markCount part)
     part1-good = rw is (good s bytes (asked yes .0))
 
-    -- these the popups, and this the edition that ranks them
-    module _ {popups : List ℕ} (popped : popups ≡ popupsPart (split s)) {edition : ℕ} (ranked : edition ≡ editionOf (split s)) where
+    -- these the popups, this the edition that ranks them, and this their shape
+    module _ {popups : List ℕ} (popped : popups ≡ popupsPart (split s)) {edition : ℕ} (ranked : edition ≡ editionOf (split s)) {shape : ℕ}
+        (shaped : shape ≡ shapeOf (split s)) where
       abbrev reel : Reel
-      reel = reelFrom edition popups part
+      reel = reelFrom edition shape popups part
 
       part1-reel : GoodReel reel
-      part1-reel = rw (is, popped, ranked) (good-reel s bytes (asked yes .0))
+      part1-reel = rw (is, popped, ranked, shaped) (good-reel s bytes (asked yes .0))
 
       pub popups-good : GoodPopups popups (markCount part)
       popups-good = part1-reel .popped
@@ -159,11 +160,11 @@ module _ (s : List ℕ) where
         unfolding printed rest
         same =
             let e = listing-same (removalAt p) (process (marksOf reel)) (markCount part) (rw schedule (removal-process reel rest part1-reel)) in
-            rw (yes, ← is, ← popped, ← ranked) e
+            rw (yes, ← is, ← popped, ← ranked, ← shaped) e
 
         worked-out : p ≡ over (workedOut s) before
         unfolding workedOut over
-        worked-out = rw (yes, ← is, ← popped, ← ranked, schedule-length reel) schedule
+        worked-out = rw (yes, ← is, ← popped, ← ranked, ← shaped, schedule-length reel) schedule
 
         pub prints-listing : (work work-after : List ℕ) {out out-after : List ℕ} {r : ℕ} → length work-after ≡ length work → textRoom mostMarks ≤ length out
             → Wrote out out-after 0 (listing (removalAt p) (markCount part)) r → Prints s work before out r work-after p out-after

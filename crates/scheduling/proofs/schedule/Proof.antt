@@ -33,7 +33,7 @@ returns c =
     let r = s .before .before .before .before .before in
     let a = r .before .before .before .before .before .before in
     let p = a .pre in
-    s .schedule-rows .ensures .records-are _ _ (ordered (r .put-ranked .ensures .in-rank) (p .good .few))
+    s .schedule-rows .ensures .records-are _ _ (ordered (r .put-ranked .ensures .in-rank) (a .args .shape) (p .good .few))
 
 pub schedule-spec : {M : Type 1} → statement M
 schedule-spec =

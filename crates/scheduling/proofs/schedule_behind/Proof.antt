@@ -50,8 +50,8 @@ returns c =
     let r = s .before .before .before .before .before in
     let a = r .before .before .before .before .before in
     let held = now (a .args .all) in
-    behind (a .args .edition) (drop (a .args .at) held) held (a .args .n) (markSize * a .args .n) (length held - markSize * a .args .n) refl refl
-    (s .schedule-rows .ensures .records-are _ _ (ordered (r .put-ranked-in .ensures .in-rank) (a .pre .0 .few)))
+    behind (a .args .edition) (a .args .shape) (drop (a .args .at) held) held (a .args .n) (markSize * a .args .n) (length held - markSize * a .args .n) refl refl
+    (s .schedule-rows .ensures .records-are _ _ (ordered (r .put-ranked-in .ensures .in-rank) (a .args .shape) (a .pre .0 .few)))
 
 pub schedule-behind-spec : {M : Type 1} → statement M
 schedule-behind-spec =

@@ -13,10 +13,10 @@ use Rattle.scheduling.proofs.settle_by_cells.Statement.{statement}
 use Rattle.scheduling.proofs.settle_by_cells.Tie as tie
 
 abbrev Inv-loop : tie.InvT-loop
-Inv-loop w₀ n popped plan p₀ w p = (p ≤ n) × Progress n p w₀ w × Gridded w (rowSize * n) p × Divides plan
+Inv-loop w₀ n shape popped plan p₀ w p = (p ≤ n) × Progress shape n p w₀ w × Gridded w (rowSize * n) p × Divides plan
 
 abbrev μ-loop : tie.MeasureT-loop
-μ-loop w₀ n popped plan p₀ w p = n - p
+μ-loop w₀ n shape popped plan p₀ w p = n - p
 
 plan-grid-requires : tie.Need-plan-grid-requires Inv-loop μ-loop
 plan-grid-requires c κs = search needs
@@ -32,7 +32,7 @@ loop-holds c =
     let k = c .before .before in
     let g = k .before .before in
     let a = g .before .before .before in
-    (omega arith, start _ _, gridded-none (omega (arith, a .pre)) (k .clear .ensures), g .plan-grid .ensures)
+    (omega arith, start _ _ _, gridded-none (omega (arith, a .pre)) (k .clear .ensures), g .plan-grid .ensures)
 
 settle-in-grid-requires : tie.Need-settle-in-grid-requires Inv-loop μ-loop
 settle-in-grid-requires c κs =

@@ -7,13 +7,13 @@ use Rattle.scheduling.proofs.settle_rows.Statement.{statement}
 use Rattle.scheduling.proofs.settle_rows.Tie as tie
 
 abbrev Inv-loop : tie.InvT-loop
-Inv-loop w₀ n popped p₀ w p = (p ≤ n) × Progress n p w₀ w
+Inv-loop w₀ n shape popped p₀ w p = (p ≤ n) × Progress shape n p w₀ w
 
 abbrev μ-loop : tie.MeasureT-loop
-μ-loop w₀ n popped p₀ w p = n - p
+μ-loop w₀ n shape popped p₀ w p = n - p
 
 loop-holds : tie.Need-loop-holds Inv-loop μ-loop
-loop-holds c = (omega arith, start _ _)
+loop-holds c = (omega arith, start _ _ _)
 
 settle-requires : tie.Need-settle-requires Inv-loop μ-loop
 settle-requires c κs =

@@ -2,18 +2,19 @@
 use native.Mathlib.Omega.{arith}
 use mathlib.Core.Path.{_≡_, sym, ap, ap₂, _∙_}
 use borrow.Author.Needs.{needs}
-use Rattle.marks.specs.Marks.{touchingOf}
-use Rattle.marks.specs.Pairs.{larger, pairOf}
-use Rattle.marks.specs.PairLaws.{larger-most, pair-none}
+use Rattle.marks.specs.Marks.{larger, touchingOf}
+use Rattle.marks.specs.Pairs.{pairOf}
+use Rattle.marks.specs.Laws.{larger-most}
+use Rattle.marks.specs.PairLaws.{pair-none}
 use Rattle.searching.specs.Rows.{rowLabel, rowPopup, rowsTouch}
 use Rattle.searching.proofs.better.Statement.{statement}
 use Rattle.searching.proofs.better.Tie as tie
 
 -- the touching value of rows q and p, and the larger of their popups
-touch-is : (c : tie.After-touching-row) → let a = c .before .before .args in c .touching-row .result ≡ rowsTouch (a .w .now) (a .q) (a .p)
+touch-is : (c : tie.After-touching-row) → let a = c .before .before .args in c .touching-row .result ≡ rowsTouch (a .shape) (a .w .now) (a .q) (a .p)
 touch-is c =
     let a = c .before .before in
-    c .touching-row .ensures .0 ∙ ap (touchingOf (rowLabel (a .args .w .now) (a .args .q))) (a .pre .0 .label-is)
+    c .touching-row .ensures .0 ∙ ap (touchingOf (a .args .shape) (rowLabel (a .args .w .now) (a .args .q))) (a .pre .0 .label-is)
 
 popup-is : (c : tie.After-larger) → let a = c .before .before .before .before .before .before .args in c .larger .result ≡ larger (rowPopup (a .w .now) (a .q)) (rowPopup (a .w .now) (a .p))
 popup-is c = c .larger .ensures ∙ ap₂ larger (c .before .before .row-popup .ensures) (c .before .row-popup2 .ensures)
@@ -45,7 +46,6 @@ better-pair-requires c κs =
       record {
         room = omega (arith, a .pre .0 .room, a .pre .1);
         few = a .pre .0 .few;
-        value-is = c .pair-of .ensures .0 ∙ ap₂ pairOf (touch-is t) (popup-is (c .before));
         small = c .pair-of .ensures .1;
         removal-small = a .pre .0 .above (a .args .q) (a .pre .1) .value;
       },
@@ -55,20 +55,18 @@ better-pair-requires c κs =
     )
 
 returns : tie.Need-returns
-returns c = c .better-pair .ensures
+returns c =
+    let k = c .before in
+    let e = c .better-pair .ensures in
+    (e .0, e .1 .adds _ (k .pair-of .ensures .0 ∙ ap₂ pairOf (touch-is (k .before .before .before .before .before)) (popup-is (k .before))), e .2)
 
 better-pair-requires-2 : tie.Need-better-pair-requires-2
 better-pair-requires-2 c κs =
     let t = c .before in
-    let a = t .before .before in
-    let w = a .args .w .now in
-    let none = a .pre .0 .plain (c .if1 .left) in
-    let q-none : rowPopup w (a .args .q) ≡ 0 = none (a .args .q) (omega (arith, a .pre .1)) in
-    let p-none : rowPopup w (a .args .p) ≡ 0 = none (a .args .p) (omega arith) in (
+    let a = t .before .before in (
       record {
         room = omega (arith, a .pre .0 .room, a .pre .1);
         few = a .pre .0 .few;
-        value-is = touch-is t ∙ rw (q-none, p-none) (sym (pair-none (rowsTouch w (a .args .q) (a .args .p))));
         small = t .touching-row .ensures .1;
         removal-small = a .pre .0 .above (a .args .q) (a .pre .1) .value;
       },
@@ -78,7 +76,15 @@ better-pair-requires-2 c κs =
     )
 
 returns-2 : tie.Need-returns-2
-returns-2 c = c .better-pair2 .ensures
+returns-2 c =
+    let t = c .before .before in
+    let a = t .before .before in
+    let w = a .args .w .now in
+    let none = a .pre .0 .plain (c .before .if1 .left) in
+    let q-none : rowPopup w (a .args .q) ≡ 0 = none (a .args .q) (omega (arith, a .pre .1)) in
+    let p-none : rowPopup w (a .args .p) ≡ 0 = none (a .args .p) (omega arith) in
+    let e = c .better-pair2 .ensures in
+    (e .0, e .1 .adds _ (touch-is t ∙ rw (q-none, p-none) (sym (pair-none (rowsTouch (a .args .shape) w (a .args .q) (a .args .p))))), e .2)
 
 pub better-spec : {M : Type 1} → statement M
 better-spec =

@@ -38,8 +38,10 @@ returns c =
     let b = one .before in
     let a = start-of b in (
       record { small = a .pre .0 .small; inside = omega (arith, a .pre .1) },
-      take (a .pre .1) (a .pre .0 .value-is) (rw (b .leader-value .ensures, a .pre .3) at (sym (one .precedes .ensures) ∙ e .before .if1 .taken))
-          (rw (e .row-value .ensures) at (less-iff _ _ .0 (sym (two .less-small .ensures) ∙ c .if2 .taken))),
+      record {
+        adds = λ shape v-is. take (a .pre .1) v-is (rw (b .leader-value .ensures, a .pre .3) at (sym (one .precedes .ensures) ∙ e .before .if1 .taken))
+            (rw (e .row-value .ensures) at (less-iff _ _ .0 (sym (two .less-small .ensures) ∙ c .if2 .taken)));
+      },
       inl refl,
     )
 
@@ -49,7 +51,7 @@ returns-2 c =
     let e = two .before in
     let a = start-of (e .before .before .before) in (
       a .pre .2,
-      keep-gone (a .pre .1) (a .pre .0 .value-is) (λ l. not-less (sym (two .less-small .ensures) ∙ c .if2 .left) (rw (e .row-value .ensures) l)),
+      record { adds = λ shape v-is. keep-gone (a .pre .1) v-is (λ l. not-less (sym (two .less-small .ensures) ∙ c .if2 .left) (rw (e .row-value .ensures) l)) },
       inr refl,
     )
 
@@ -59,7 +61,7 @@ returns-3 c =
     let b = one .before in
     let a = start-of b in (
       a .pre .2,
-      keep-behind (a .pre .1) (a .pre .0 .value-is) (rw (b .leader-value .ensures, a .pre .3) at (sym (one .precedes .ensures) ∙ c .if1 .left)),
+      record { adds = λ shape v-is. keep-behind (a .pre .1) v-is (rw (b .leader-value .ensures, a .pre .3) at (sym (one .precedes .ensures) ∙ c .if1 .left)) },
       inr refl,
     )
 

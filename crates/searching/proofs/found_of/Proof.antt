@@ -21,7 +21,7 @@ cast-number c = search needs
 returns : tie.Need-returns
 returns c =
     let a = c .before .before .before in
-    searched _ refl (c .read-u16 .ensures) (omega arith) (a .pre .1) (a .pre .2)
+    record { found = λ shape adds. searched _ refl (c .read-u16 .ensures) (omega arith) (a .pre .1) adds }
 
 pub found-of-spec : {M : Type 1} → statement M
 found-of-spec = tie.close (tie.spec cast-row mul-read-u16 read-u16-requires cast-number returns)

@@ -10,10 +10,10 @@ use Rattle.searching.proofs.scan_cell.Statement.{statement}
 use Rattle.searching.proofs.scan_cell.Tie as tie
 
 abbrev Inv-loop : tie.InvT-loop
-Inv-loop w at p c label popped best₀ h₀ best h = (h ≤ p) × Admitted p best × Walked w at p c h best₀ best
+Inv-loop w at p c shape label popped best₀ h₀ best h = (h ≤ p) × Admitted p best × Walked shape w at p c h best₀ best
 
 abbrev μ-loop : tie.MeasureT-loop
-μ-loop w at p c label popped best₀ h₀ best h = h
+μ-loop w at p c shape label popped best₀ h₀ best h = h
 
 last-row-requires : tie.Need-last-row-requires Inv-loop μ-loop
 last-row-requires c κs = let a = c .before in (a .pre .2, omega (arith, a .pre .1 .room))

@@ -9,10 +9,10 @@ use Rattle.searching.proofs.scan_cells.Statement.{statement}
 use Rattle.searching.proofs.scan_cells.Tie as tie
 
 abbrev Inv-loop : tie.InvT-loop
-Inv-loop w at p lo hi skip label popped best₀ c₀ best c = (c ≤ hi) × Admitted p best × CellAdded w at p (Range c hi skip) best₀ best
+Inv-loop w at p lo hi skip shape label popped best₀ c₀ best c = (c ≤ hi) × Admitted p best × CellAdded shape w at p (Range c hi skip) best₀ best
 
 abbrev μ-loop : tie.MeasureT-loop
-μ-loop w at p lo hi skip label popped best₀ c₀ best c = c
+μ-loop w at p lo hi skip shape label popped best₀ c₀ best c = c
 
 loop-holds : tie.Need-loop-holds Inv-loop μ-loop
 loop-holds c = (omega arith, c .before .pre .3, range-none _ _)

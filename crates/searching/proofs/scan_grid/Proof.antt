@@ -11,11 +11,11 @@ use Rattle.searching.proofs.scan_grid.Statement.{statement}
 use Rattle.searching.proofs.scan_grid.Tie as tie
 
 abbrev Inv-loop : tie.InvT-loop
-Inv-loop w at p own label popped best₀ lo₀ hi₀ skip₀ pass₀ best lo hi skip pass =
-    (pass ≤ 2) × Passing own pass lo hi skip × Admitted p best × CellAdded w at p (Passed own pass) none best
+Inv-loop w at p own shape label popped best₀ lo₀ hi₀ skip₀ pass₀ best lo hi skip pass =
+    (pass ≤ 2) × Passing own pass lo hi skip × Admitted p best × CellAdded shape w at p (Passed own pass) none best
 
 abbrev μ-loop : tie.MeasureT-loop
-μ-loop w at p own label popped best₀ lo₀ hi₀ skip₀ pass₀ best lo hi skip pass = 2 - pass
+μ-loop w at p own shape label popped best₀ lo₀ hi₀ skip₀ pass₀ best lo hi skip pass = 2 - pass
 
 add-hi : tie.Need-add-hi Inv-loop μ-loop
 add-hi c = search needs

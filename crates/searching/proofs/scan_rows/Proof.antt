@@ -13,12 +13,12 @@ use Rattle.searching.proofs.scan_rows.Statement.{statement}
 use Rattle.searching.proofs.scan_rows.Tie as tie
 
 -- the best of the first q rows
-pub record Best (w : List ℕ) (p q : ℕ) (c : Leader) : Type 0 where
+pub record Best (shape : ℕ) (w : List ℕ) (p q : ℕ) (c : Leader) : Type 0 where
   pub admitted : Admitted p c
-  pub adds : Adds w p (Higher q) none c
+  pub adds : Adds shape w p (Higher q) none c
   pub low : c .row ≤ q
 
-one-more : {w : List ℕ} {p q : ℕ} {c d : Leader} → Best w p q c → Admitted p d × Adds w p (Only q) c d × OneOf q c d → Best w p (q + 1) d
+one-more : {shape : ℕ} {w : List ℕ} {p q : ℕ} {c d : Leader} → Best shape w p q c → Admitted p d × Adds shape w p (Only q) c d × OneOf q c d → Best shape w p (q + 1) d
 one-more b e =
     record {
       admitted = e .0;
@@ -27,10 +27,10 @@ one-more b e =
     }
 
 abbrev Inv-loop : tie.InvT-loop
-Inv-loop w p label popped best₀ q₀ best q = (q ≤ p) × Best w p q best
+Inv-loop w p shape label popped best₀ q₀ best q = (q ≤ p) × Best shape w p q best
 
 abbrev μ-loop : tie.MeasureT-loop
-μ-loop w p label popped best₀ q₀ best q = p - q
+μ-loop w p shape label popped best₀ q₀ best q = p - q
 
 loop-holds : tie.Need-loop-holds Inv-loop μ-loop
 loop-holds c = (

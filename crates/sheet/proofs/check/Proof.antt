@@ -31,18 +31,19 @@ read : (c : tie.After-codes-of) → length (take (c .before .count-at .result) (
 read c = length-take-le (c .before .count-at .result) (c .codes-of .result) (omega (arith, c .codes-of .ensures .0, few (c .before)))
 
 -- with the bodies of the sheet, one for each code
-lent : (c : tie.After-body6) → let b = c .before .before .before .before .before in
-    map now (b .body .result ∷ c .before .before .before .before .body2 .result ∷ c .before .before .before .body3 .result ∷ c .before .before .body4 .result ∷ c .before .body5 .result ∷ c .body6 .result ∷ [])
+lent : (c : tie.After-body7) → let b = c .before .before .before .before .before .before in
+    map now (b .body .result ∷ c .before .before .before .before .before .body2 .result ∷ c .before .before .before .before .body3 .result ∷ c .before .before .before .body4 .result ∷ c .before .before .body5 .result ∷ c .before .body6 .result ∷ c .body7 .result ∷ [])
     ≡ firstOf (λ i. getD (bodiesOf (split (now (b .before .before .before .before .before .before .args .s)))) i []) topCode
 lent c =
-    let b = c .before .before .before .before .before in
+    let b = c .before .before .before .before .before .before in
     rw (
       b .body .ensures,
-      c .before .before .before .before .body2 .ensures,
-      c .before .before .before .body3 .ensures,
-      c .before .before .body4 .ensures,
-      c .before .body5 .ensures,
-      c .body6 .ensures,
+      c .before .before .before .before .before .body2 .ensures,
+      c .before .before .before .before .body3 .ensures,
+      c .before .before .before .body4 .ensures,
+      c .before .before .body5 .ensures,
+      c .before .body6 .ensures,
+      c .body7 .ensures,
     )
 
 contents-answer-requires : tie.Need-contents-answer-requires
@@ -75,36 +76,39 @@ body-requires-5 c κs = laid (c .before .before .before .before .before .before)
 body-requires-6 : tie.Need-body-requires-6
 body-requires-6 c κs = laid (c .before .before .before .before .before .before .before)
 
+body-requires-7 : tie.Need-body-requires-7
+body-requires-7 c κs = laid (c .before .before .before .before .before .before .before .before)
+
 array-share-prefix-codes : tie.Need-array-share-prefix-codes
 array-share-prefix-codes c =
-    let codes = c .before .before .before .before .before .before in
+    let codes = c .before .before .before .before .before .before .before in
     omega (arith, codes .codes-of .ensures .0, few (codes .before))
 
 slice-aggregate-bodies-answer : tie.Need-slice-aggregate-bodies-answer
-slice-aggregate-bodies-answer c = sym (read (c .before .before .before .before .before .before .before))
+slice-aggregate-bodies-answer c = sym (read (c .before .before .before .before .before .before .before .before))
 
 array-share-prefix-lent : tie.Need-array-share-prefix-lent
-array-share-prefix-lent c = few (c .before .before .before .before .before .before .before .before)
+array-share-prefix-lent c = few (c .before .before .before .before .before .before .before .before .before)
 
 slice-aggregate-bodies-answer-2 : tie.Need-slice-aggregate-bodies-answer-2
 slice-aggregate-bodies-answer-2 c =
-    let k = c .before .before .before .before .before .before .before .before .before in
+    let k = c .before .before .before .before .before .before .before .before .before .before in
     sym (length-take-le (k .count-at .result) _ (few k))
 
 bodies-answer-requires : tie.Need-bodies-answer-requires
 bodies-answer-requires c κs =
     let b = c .before .before in
-    let codes = b .before .before .before .before .before .before in
+    let codes = b .before .before .before .before .before .before .before in
     let k = codes .before in
     let l = laid (k .before) in
-    let bodies = length-take-le (k .count-at .result) (b .before .before .before .before .before .body .result ∷ b .before .before .before .before .body2 .result ∷ b .before .before .before .body3 .result ∷ b .before .before .body4 .result ∷ b .before .body5 .result ∷ b .body6 .result ∷ []) (few k) in
+    let bodies = length-take-le (k .count-at .result) (b .before .before .before .before .before .before .body .result ∷ b .before .before .before .before .before .body2 .result ∷ b .before .before .before .before .body3 .result ∷ b .before .before .before .body4 .result ∷ b .before .before .body5 .result ∷ b .before .body6 .result ∷ b .body7 .result ∷ []) (few k) in
     let same : take (k .count-at .result) (codes .codes-of .result) ≡ codesOf (split (now (k .before .before .before .before .args .s))) = rw (k .count-at .ensures) (codes .codes-of .ensures .1) in
     (read codes ∙ sym bodies, omega (arith, bodies, k .count-at .ensures, l .whole .some), ap codesRight same ∙ l .codes)
 
 returns-2 : tie.Need-returns-2
 returns-2 c =
     let b = c .before .before .before in
-    let codes = b .before .before .before .before .before .before in
+    let codes = b .before .before .before .before .before .before .before in
     let k = codes .before in
     let s = now (k .before .before .before .before .args .s) in
     let l = laid (k .before) in
@@ -126,6 +130,7 @@ check-spec =
     body-requires-4
     body-requires-5
     body-requires-6
+    body-requires-7
     array-share-prefix-codes
     slice-aggregate-bodies-answer
     array-share-prefix-lent

@@ -11,16 +11,13 @@ mul-if1 c = search needs
 add-if1 : tie.Need-add-if1
 add-if1 c = search needs
 
-scheduled-size-requires : tie.Need-scheduled-size-requires
-scheduled-size-requires c κs = search needs
-
 returns : tie.Need-returns
 returns c =
-    let a = c .before .before .args in
-    rw (le-leb (32 * a .n + 1024) (a .work) (c .before .if1 .taken), c .scheduled-size .ensures)
+    let a = c .before .args in
+    rw (le-leb (32 * a .n + 1024) (a .work) (c .if1 .taken))
 
 returns-2 : tie.Need-returns-2
 returns-2 c = let a = c .before .args in rw (lt-leb (32 * a .n + 1024) (a .work) (c .if1 .left))
 
 pub has-room-spec : {M : Type 1} → statement M
-has-room-spec = tie.close (tie.spec mul-if1 add-if1 scheduled-size-requires returns returns-2)
+has-room-spec = tie.close (tie.spec mul-if1 add-if1 returns returns-2)

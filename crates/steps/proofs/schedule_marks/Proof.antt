@@ -20,32 +20,39 @@ use Rattle.steps.proofs.schedule_marks.Tie as tie
 
 -- what is kept beside the marks
 abbrev kept : tie.Start → List Part
-kept b = keptFrom (now (b .args .edition)) (b .args .there) (now (b .args .popups) ++ now (b .args .last))
+kept b = keptFrom (now (b .args .edition)) (b .args .there) (now (b .args .popups) ++ now (b .args .last)) (now (b .args .shape))
 
 -- the size that is asked for, and told
 abbrev size : tie.Start → ℕ
-size b = 27 * b .args .n + 32 + (11 * length (now (b .args .edition)) + cond (b .args .there) (10 + 4 * b .args .n) 0) + cond (b .args .counted) 180 0
+size b =
+    27 * b .args .n + 32 + (11 * length (now (b .args .edition)) + cond (b .args .there) (10 + 4 * b .args .n) 0 + 11 * length (now (b .args .shape)))
+    + cond (b .args .counted) 180 0
 
 size-is : (b : tie.Start) → scheduledSize (b .args .n) (kept b) (b .args .counted) ≡ size b
 size-is b =
     ap (λ (k : ℕ). 27 * b .args .n + 32 + k + cond (b .args .counted) 180 0)
-    (lent-kept-size (now (b .args .edition)) (b .args .there) (now (b .args .popups) ++ now (b .args .last)) (b .pre .2) (b .pre .3))
+    (lent-kept-size (now (b .args .edition)) (b .args .there) (now (b .args .popups) ++ now (b .args .last)) (now (b .args .shape)) (b .pre .2) (b .pre .3) (b .pre .4))
 
-most : (b : tie.Start) → size b ≤ 31 * b .args .n + 233
-most b = bound (b .args .there) (b .args .counted)
+most : (b : tie.Start) → size b ≤ 31 * b .args .n + 244
+most b = omega (arith, b .pre .2, b .pre .3, rows (b .args .there), counts (b .args .counted))
   where
-    bound : (there counted : Bool)
-        → 27 * b .args .n + 32 + (11 * length (now (b .args .edition)) + cond there (10 + 4 * b .args .n) 0) + cond counted 180 0 ≤ 31 * b .args .n + 233
-    bound true true = omega (arith, b .pre .2)
-    bound true false = omega (arith, b .pre .2)
-    bound false true = omega (arith, b .pre .2)
-    bound false false = omega (arith, b .pre .2)
+    rows : (there : Bool) → cond there (10 + 4 * b .args .n) 0 ≤ 10 + 4 * b .args .n
+    rows true = omega arith
+    rows false = omega arith
+
+    counts : (counted : Bool) → cond counted 180 0 ≤ 180
+    counts true = omega arith
+    counts false = omega arith
 
 uncounted : (b : tie.Start) → has (kept b) 6 ≡ false
-uncounted b = kept-uncounted (now (b .args .edition)) (b .args .there) (now (b .args .popups) ++ now (b .args .last))
+uncounted b = kept-uncounted (now (b .args .edition)) (b .args .there) (now (b .args .popups) ++ now (b .args .last)) (now (b .args .shape))
 
-room-is : (b : tie.Start) (work out : ℕ) {r : Bool} → r ≡ (leb (32 * b .args .n + 1024) work && leb (size b) out) → r ≡ hasRoom (b .args .n) (kept b) (b .args .counted) work out
-room-is b work out e = rw (size-is b) e
+room-is : (b : tie.Start) (work out : ℕ) {s : ℕ} {r : Bool} → s ≡ size b → r ≡ (leb (32 * b .args .n + 1024) work && leb s out)
+    → r ≡ hasRoom (b .args .n) (kept b) (b .args .counted) work out
+room-is b work out s-is e = rw (size-is b, ← s-is) e
+
+scheduled-size-requires : tie.Need-scheduled-size-requires
+scheduled-size-requires c κs = search needs
 
 has-room-requires : tie.Need-has-room-requires
 has-room-requires c κs = search needs
@@ -55,22 +62,21 @@ refused-requires c κs = search needs
 
 returns : tie.Need-returns
 returns c =
-    let b = c .before .before .before .before .before .before .before .before .before .before in (
-      no-room _ (b .args .n) (b .pre .0 .few) (b .pre .1) _ _ (uncounted b) _ _ (said-no (room-is b _ _ (c .before .before .has-room .ensures)) (c .before .if1 .taken)) (c .refused .ensures),
+    let b = c .before .before .before .before .before .before .before .before .before .before .before .before in
+    let h = c .before .before in (
+      no-room _ (b .args .n) (b .pre .0 .few) (b .pre .1) _ _ (uncounted b) _ _ (said-no (room-is b _ _ (h .before .scheduled-size .ensures) (h .has-room .ensures)) (c .before .if1 .taken)) (c .refused .ensures),
       record { long = refl; refused = λ h. refl },
     )
 
 put-sheet-requires : tie.Need-put-sheet-requires
 put-sheet-requires c κs =
-    let b = c .before .before .before .before .before .before .before .before .before .before .before in
-    let room = room-there (b .args .n) (kept b) (b .args .counted) _ _ (said-yes (room-is b _ _ (c .before .before .before .has-room .ensures)) (c .before .before .if1 .left)) in
+    let b = c .before .before .before .before .before .before .before .before .before .before .before .before .before in
+    let h = c .before .before .before in
+    let room = room-there (b .args .n) (kept b) (b .args .counted) _ _ (said-yes (room-is b _ _ (h .before .scheduled-size .ensures) (h .has-room .ensures)) (c .before .before .if1 .left)) in
     (b .pre, room)
 
-scheduled-size-requires : tie.Need-scheduled-size-requires
-scheduled-size-requires c κs = search needs
-
-cast-t21 : tie.Need-cast-t21
-cast-t21 c = let b = c .before .before .before .before .before .before .before .before .before .before .before .before .before .before .before .before .before in omega (arith, c .scheduled-size .ensures, most b, b .pre .0 .few)
+cast-t22 : tie.Need-cast-t22
+cast-t22 c = let b = c .before .before .before .before .before .before .before .before .before .before .before .before .before .before .before .before .before .before in omega (arith, c .before .before .before .before .before .before .before .before .before .scheduled-size .ensures, most b, b .pre .0 .few)
 
 same-length : tie.Need-same-length
 same-length c = search needs
@@ -80,9 +86,11 @@ same-length-2 c = search needs
 
 returns-2 : tie.Need-returns-2
 returns-2 c =
-    let b = c .before .before .before .before .before .before .before .before .before .before .before .before .before .before .before .before .before in (
-      sheet-written _ (b .args .n) (b .pre .0 .few) (b .pre .1) _ _ (uncounted b) _ _ (said-yes (room-is b _ _ (c .before .before .before .before .before .before .before .before .before .has-room .ensures)) (c .before .before .before .before .before .before .before .before .if1 .left))
-          (ap {B = Answer} (λ (v : ℕ). record { number = 0; value = v }) (c .scheduled-size .ensures ∙ sym (size-is b))) (c .before .before .before .before .before .put-sheet .ensures),
+    let b = c .before .before .before .before .before .before .before .before .before .before .before .before .before .before .before .before .before .before in
+    let h = c .before .before .before .before .before .before .before .before in
+    let size = h .before .scheduled-size .ensures in (
+      sheet-written _ (b .args .n) (b .pre .0 .few) (b .pre .1) _ _ (uncounted b) _ _ (said-yes (room-is b _ _ size (h .has-room .ensures)) (c .before .before .before .before .before .before .before .if1 .left))
+          (ap {B = Answer} (λ (v : ℕ). record { number = 0; value = v }) (size ∙ sym (size-is b))) (c .before .before .before .before .put-sheet .ensures),
       record { long = search needs; refused = λ z. absurd (omega (arith, z)) },
     )
 
@@ -90,12 +98,12 @@ pub schedule-marks-spec : {M : Type 1} → statement M
 schedule-marks-spec =
     tie.close
     (tie.spec
+    scheduled-size-requires
     has-room-requires
     refused-requires
     returns
     put-sheet-requires
-    scheduled-size-requires
-    cast-t21
+    cast-t22
     same-length
     same-length-2
     returns-2)

@@ -25,7 +25,7 @@ use Rattle.view.proofs.+search.{statement}
 use Rattle.view.proofs.+search.Tie.{close}
 
 abbrev size-of : Measures 5 kinds.ps ℕ
-size-of κs a = a .1 .1 .1 .1 .1 .1 .1 .1 .1 .0
+size-of κs a = a .1 .1 .1 .1 .1 .1 .1 .1 .1 .1 .0
 
 -- what a call with the size t is given, and what it asks of the calls that it makes
 module _ (t : ℕ) where
@@ -138,7 +138,7 @@ module _ (t : ℕ) where
       let a = start e .args in
       let l = v .before .before .before in
       let alive = sym (rw (l .before .value-at .ensures) at (l .lives .ensures)) ∙ not-false _ (v .before .before .if2 .left) in
-      let same = living-shown (now (a .marks)) (now (a .schedule)) (now (a .popups)) (a .k) (a .edges) _ alive in
+      let same = living-shown (a .shape) (now (a .marks)) (now (a .schedule)) (now (a .popups)) (a .k) (a .edges) _ alive in
       block-set (start e .pre .1 .0) (some e) (e .entry .ensures .0) (set-same _ same (v .visit .ensures))
       (w .before .before .size-to-search .ensures) (w .search .ensures)
       (c .before .before .before .before .size-to-search2 .ensures) (c .before .before .search2 .ensures)

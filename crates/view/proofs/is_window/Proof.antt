@@ -1,7 +1,7 @@
--- `view::is_window` meets its contract: the tests of question 20. Assumes nothing.
+-- `view::is_window` meets its contract: the tests of a window. Assumes nothing.
 use borrow.Author.Needs.{needs, sfits-of}
 use mir.Facts.{toZ-ofZ}
-use Rattle.view.specs.Questions.{question20}
+use Rattle.view.specs.Questions.{isWindow}
 use Rattle.view.proofs.is_window.Statement.{statement}
 use Rattle.view.proofs.is_window.Tie as tie
 
@@ -18,7 +18,7 @@ is-edge-requires-4 : tie.Need-is-edge-requires-4
 is-edge-requires-4 c κs = search needs
 
 returns : tie.Need-returns
-unfolding question20
+unfolding isWindow
 returns c =
     let first = c .before .before .before .before .before .before .before in
     let e = first .before .before .args .window in

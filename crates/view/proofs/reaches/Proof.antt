@@ -49,14 +49,14 @@ module _ (d : tie.After-distance) where
       subst (λ (z : ℕ). let g = gapHere (start .args .edges .y0) (start .args .edges .y1) z in (d .before .gap2 .result ≡ pos g) × (g ≤ 131072))
       (y-read .coordinate2 .ensures .0) (d .before .gap2 .ensures)
 
-  distance-is : d .distance .result ≡ distance x-gap y-gap
+  distance-is : d .distance .result ≡ distance (start .args .shape) x-gap y-gap
   distance-is =
       rw (
         toZ-ofZ {w = w32} {z = y-read .before .gap .result} (sfits-of (y-read .before .gap .ok)) ∙ x-is .0,
         toZ-ofZ {w = w32} {z = d .before .gap2 .result} (sfits-of (d .before .gap2 .ok)) ∙ y-is .0,
       ) at (d .distance .ensures)
 
-  squared-is : d .distance .result ≡ distanceHere marks-bytes (start .args .edges) (start .args .m)
+  squared-is : d .distance .result ≡ distanceHere (start .args .shape) marks-bytes (start .args .edges) (start .args .m)
   unfolding distanceHere
   squared-is = distance-is
 
@@ -64,7 +64,7 @@ module _ (d : tie.After-distance) where
   squared-most =
       let x = x-is .1 in
       let y = y-is .1 in
-      omega (arith, distance-is, distance-most x-gap y-gap, mul-le-mul x x, mul-le-mul y y)
+      omega (arith, distance-is, distance-most (start .args .shape) x-gap y-gap, mul-le-mul x x, mul-le-mul y y)
 
 -- ---- the needs
 
@@ -93,7 +93,7 @@ returns : tie.Need-returns
 returns c =
     let d = c .before in
     let a = start d .args in
-    reached-inside (marks-bytes d) (a .k) (a .edges) (a .m) (squared-is d) (c .if1 .taken)
+    reached-inside (a .shape) (marks-bytes d) (a .k) (a .edges) (a .m) (squared-is d) (c .if1 .taken)
 
 radius-at-requires : tie.Need-radius-at-requires
 radius-at-requires c κs = search needs
@@ -124,7 +124,7 @@ returns-2 : tie.Need-returns-2
 returns-2 c =
     let d = c .before .before in
     let a = start d .args in
-    reached (marks-bytes d) (a .k) (a .edges) (a .m) (squared-is d) (c .radius-at .ensures)
+    reached (a .shape) (marks-bytes d) (a .k) (a .edges) (a .m) (squared-is d) (c .radius-at .ensures)
 
 pub reaches-spec : {M : Type 1} → statement M
 reaches-spec =

@@ -36,7 +36,7 @@ search-requires c κs =
     let d = w .before .before .before in
     let t = d .before .before in
     let a = start t in (
-      whole-searchable (a .pre .0 .0) (a .args .k) (t .turned-back .result) (d .clear .ensures .long) (a .pre .0 .1)
+      whole-searchable (a .pre .0 .0) (a .args .shape) (a .args .k) (t .turned-back .result) (d .clear .ensures .long) (a .pre .0 .1)
           (rw (w .widest-living .ensures) at (c .before .bounds-of .ensures)),
       edged t,
     )
@@ -48,7 +48,7 @@ count-requires c κs =
 
 cast-result : tie.Need-cast-result
 cast-result c =
-    let after = c .before .before .before .before .search .last .1 .1 .1 .1 .1 .1 .1 .0 in
+    let after = c .before .before .before .before .search .last .1 .1 .1 .1 .1 .1 .1 .1 .0 in
     let a = c .before .before .before .before .before .before .before .before .before .before .before .before .before .before .before .before .before .before in
     record { fits = count-fits after (a .pre .0 .0 .whole .few) (c .count .ensures) }
 
@@ -62,8 +62,8 @@ returns c =
     let t = d .before .before in
     let a = start t in
     let v = a .args in
-    viewed-back (now (v .marks)) (now (v .schedule)) (now (v .popups)) (λ i. t .before .before .before .before .before .shared-slice-known .given i .fits) (v .k) (v .window) (a .pre .1 .0) (a .pre .1 .1) (t .turned-back .ensures)
-    (viewed (a .pre .0 .0) {shown = shownHere (now (v .marks)) (now (v .schedule)) (now (v .popups)) (v .k) (t .turned-back .result)} (d .clear .ensures) (f .search .ensures)
+    viewed-back (v .shape) (now (v .marks)) (now (v .schedule)) (now (v .popups)) (λ i. t .before .before .before .before .before .shared-slice-known .given i .fits) (v .k) (v .window) (a .pre .1 .0) (a .pre .1 .1) (t .turned-back .ensures)
+    (viewed (a .pre .0 .0) {shown = shownHere (v .shape) (now (v .marks)) (now (v .schedule)) (now (v .popups)) (v .k) (t .turned-back .result)} (d .clear .ensures) (f .search .ensures)
     (λ i. c .before .before .slice-known3 .given i .fits) (c .count .ensures))
 
 pub show-spec : {M : Type 1} → statement M

@@ -1,4 +1,4 @@
--- Who is shown lies in the bounds: the disk of a mark that lives is no wider than what the rectangle is widened by.
+-- Who is shown lies in the bounds: the label of a mark that lives is no wider than what the rectangle is widened by.
 use Prim.Native.Nat.{ℕ, zero, suc, _+_, _-_, _*_, _/_, _<_, _≤_}
 use native.Mathlib.Omega.{arith}
 use native.Mathlib.Decide.{decLt, ℕ-discrete}
@@ -20,7 +20,7 @@ use Rattle.view.specs.Turning.{gapHere, distanceHere, reachesHere, visib
 use Rattle.counting.specs.Lives.{poppedUp}
 use Rattle.view.specs.Search.{wider, widestLiving, moved, boundsOf, Within}
 
--- ---- a gap is no wider than a disk that reaches over it
+-- ---- a gap is no wider than a label that reaches over it
 
 root-le : (a b : ℕ) → a * a ≤ b * b → a ≤ b
 root-le a b h =
@@ -69,49 +69,49 @@ module _ (s p : List ℕ) (k : ℕ) where
 
 -- ---- who is shown lives, and lies in the bounds
 
-module _ (s p q : List ℕ) (k : ℕ) (e : Bounds) (m : ℕ) where
-  pub shown-lives : shownHere s p q k e m ≡ true → livesAt k (valueAt p m) ≡ true
+module _ (shape : ℕ) (s p q : List ℕ) (k : ℕ) (e : Bounds) (m : ℕ) where
+  pub shown-lives : shownHere shape s p q k e m ≡ true → livesAt k (valueAt p m) ≡ true
   unfolding shownHere
-  shown-lives h = and-left (livesAt k (valueAt p m)) (visibleHere s q k e m) h
+  shown-lives h = and-left (livesAt k (valueAt p m)) (visibleHere shape s q k e m) h
 
-  shown-reaches : shownHere s p q k e m ≡ true → 4096 * distanceHere s e m ≤ k * k * (usedAt s m * usedAt s m)
+  shown-reaches : shownHere shape s p q k e m ≡ true → 4096 * distanceHere shape s e m ≤ k * k * (usedAt s m * usedAt s m)
   unfolding shownHere visibleHere reachesHere
   shown-reaches h =
-      leb-true (4096 * distanceHere s e m) (k * k * (usedAt s m * usedAt s m))
-      (and-right (poppedUp q k m) (reachesHere s k e m) (and-right (livesAt k (valueAt p m)) (visibleHere s q k e m) h))
+      leb-true (4096 * distanceHere shape s e m) (k * k * (usedAt s m * usedAt s m))
+      (and-right (poppedUp q k m) (reachesHere shape s k e m) (and-right (livesAt k (valueAt p m)) (visibleHere shape s q k e m) h))
 
-  pub living-shown : livesAt k (valueAt p m) ≡ true → visibleHere s q k e m ≡ shownHere s p q k e m
+  pub living-shown : livesAt k (valueAt p m) ≡ true → visibleHere shape s q k e m ≡ shownHere shape s p q k e m
   unfolding shownHere
   living-shown h = rw h
 
   -- on an axis with the edges `low` and `high`
-  within-edges : (n : ℕ) → m < n → shownHere s p q k e m ≡ true
-      → (low high c : ℕ) → gapHere low high c * gapHere low high c ≤ distanceHere s e m
+  within-edges : (n : ℕ) → m < n → shownHere shape s p q k e m ≡ true
+      → (low high c : ℕ) → gapHere low high c * gapHere low high c ≤ distanceHere shape s e m
       → (low - k * widestLiving s p k n / 64 ≤ c) × (c ≤ high + k * widestLiving s p k n / 64)
   within-edges n l h low high c axis =
       let wide = widest-has s p k n m l (shown-lives h) in
-      let most = gap-most k (usedAt s m) (widestLiving s p k n) (gapHere low high c) (distanceHere s e m) wide axis (shown-reaches h) in
+      let most = gap-most k (usedAt s m) (widestLiving s p k n) (gapHere low high c) (distanceHere shape s e m) wide axis (shown-reaches h) in
       (omega (arith, most), omega (arith, most))
 
-  pub shown-within : (n : ℕ) → m < n → shownHere s p q k e m ≡ true
+  pub shown-within : (n : ℕ) → m < n → shownHere shape s p q k e m ≡ true
       → (axis : Bool) → Within s (boundsOf e k (widestLiving s p k n)) m axis
   unfolding distanceHere boundsOf moved
   shown-within n l h true =
-      let w = within-edges n l h (e .x0) (e .x1) (coordinate s true m) (distance-x _ _) in
+      let w = within-edges n l h (e .x0) (e .x1) (coordinate s true m) (distance-x shape _ _) in
       record { low = w .0; high = w .1 }
   shown-within n l h false =
-      let w = within-edges n l h (e .y0) (e .y1) (coordinate s false m) (distance-y _ _) in
+      let w = within-edges n l h (e .y0) (e .y1) (coordinate s false m) (distance-y shape _ _) in
       record { low = w .0; high = w .1 }
 
 -- ---- the test as the code makes it
 
-module _ (s : List ℕ) (k : ℕ) (e : Bounds) (m : ℕ) {d : ℕ} (d-is : d ≡ distanceHere s e m) where
-  pub reached : {r : ℕ} → r ≡ usedAt s m → leb (4096 * d) (k * k * (r * r)) ≡ reachesHere s k e m
+module _ (shape : ℕ) (s : List ℕ) (k : ℕ) (e : Bounds) (m : ℕ) {d : ℕ} (d-is : d ≡ distanceHere shape s e m) where
+  pub reached : {r : ℕ} → r ≡ usedAt s m → leb (4096 * d) (k * k * (r * r)) ≡ reachesHere shape s k e m
   unfolding reachesHere
   reached is = rw (d-is, is)
 
   -- a point inside
-  pub reached-inside : d ≡ 0 → true ≡ reachesHere s k e m
+  pub reached-inside : d ≡ 0 → true ≡ reachesHere shape s k e m
   unfolding reachesHere
   reached-inside none =
-      sym (le-leb (4096 * distanceHere s e m) (k * k * (usedAt s m * usedAt s m)) (omega (arith, d-is, none)))
+      sym (le-leb (4096 * distanceHere shape s e m) (k * k * (usedAt s m * usedAt s m)) (omega (arith, d-is, none)))

@@ -20,9 +20,9 @@ use Rattle.turns.specs.Turns.{turnedPlace}
 use Rattle.turns.specs.Small.{UpTo, Within}
 use Rattle.turns.specs.Laws.{turned-0, turned-1, turned-2, turned-3, turned-four, turned-within}
 use Rattle.view.specs.declared.Window.{Window}
-use Rattle.view.specs.Shown.{above, gap, distanceSquared, diskReaches, placeAt, edgesOf, reaches, shown}
+use Rattle.view.specs.Shown.{above, gap, distanceSquared, labelReaches, placeAt, edgesOf, reaches, shown}
 use Rattle.counting.specs.Lives.{poppedUp, lives}
-use Rattle.view.specs.Questions.{isEdge, IsEdge, question20, question11}
+use Rattle.view.specs.Questions.{isEdge, IsEdge, isWindow, question11}
 use Rattle.view.specs.Turning.{cornerOf, lower, higher, lacking, turnedBack, Edged, gapHere, distanceHere, reachesHere, visibleHere, shownHere}
 use Rattle.view.specs.Lemmas.Edges.{edge-abs, abs-edge, edge-shifted, shifted-le, gap-here, neg-edge, place-edge}
 
@@ -95,7 +95,7 @@ corner-most t p q = let u = corner-within t p q in (up-to-shifted (u .x-within),
 
 -- ---- the window
 
-module _ (w : Window) (taken : question20 w ≡ true) where
+module _ (w : Window) (taken : isWindow w ≡ true) where
   abbrev xs : Bool
   xs = isEdge (w .x0) && isEdge (w .x1)
 
@@ -103,7 +103,7 @@ module _ (w : Window) (taken : question20 w ≡ true) where
   ys = isEdge (w .y0) && isEdge (w .y1)
 
   asked : ((leb (w .turn) 3 && xs) ≡ true) × (ys ≡ true)
-  unfolding question20
+  unfolding isWindow
   asked = (and-left (leb (w .turn) 3 && xs) ys taken, and-right (leb (w .turn) 3 && xs) ys taken)
 
   pub turn-most : w .turn ≤ 3
@@ -135,7 +135,7 @@ module _ (w : Window) (taken : question20 w ≡ true) where
     unfolding question11
     ordered = (and-left (leZ (w .x0) (w .x1)) (leZ (w .y0) (w .y1)) order, and-right (leZ (w .x0) (w .x1)) (leZ (w .y0) (w .y1)) order)
 
-    module _ (q : Place) (x-edge : IsEdge (q .x)) (y-edge : IsEdge (q .y)) where
+    module _ (shape : ℕ) (q : Place) (x-edge : IsEdge (q .x)) (y-edge : IsEdge (q .y)) where
       abbrev first : Place
       first = record { x = w .x0; y = w .y0 }
 
@@ -147,9 +147,9 @@ module _ (w : Window) (taken : question20 w ≡ true) where
       farBack t =
           let a = cornerOf (4 - t) (w .x0) (w .y0) in
           let b = cornerOf (4 - t) (w .x1) (w .y1) in
-          distance (gapHere (lower (a .x) (b .x)) (higher (a .x) (b .x)) (shifted (q .x))) (gapHere (lower (a .y) (b .y)) (higher (a .y) (b .y)) (shifted (q .y)))
+          distance shape (gapHere (lower (a .x) (b .x)) (higher (a .x) (b .x)) (shifted (q .x))) (gapHere (lower (a .y) (b .y)) (higher (a .y) (b .y)) (shifted (q .y)))
 
-      distance-back : (t : ℕ) → t ≤ 3 → distanceSquared (edgesOf w) (turnedPlace t q) ≡ farBack t
+      distance-back : (t : ℕ) → t ≤ 3 → distanceSquared shape (edgesOf w) (turnedPlace t q) ≡ farBack t
       unfolding distanceSquared cornerOf
       distance-back zero h =
           let x = in-order (w .x0) (w .x1) (ordered .0) in
@@ -160,7 +160,7 @@ module _ (w : Window) (taken : question20 w ≡ true) where
           let x = turned-order (w .x0) (w .x1) (ordered .0) in
           let y = in-order (w .y0) (w .y1) (ordered .1) in
           rw (turned-1 q, turned-3 first, turned-3 last, x .low-is, x .high-is, y .low-is, y .high-is)
-          (rw (across x0-edge x1-edge y-edge, straight y0-edge y1-edge x-edge) (distance-symmetric _ _))
+          (rw (across x0-edge x1-edge y-edge, straight y0-edge y1-edge x-edge) (distance-symmetric shape _ _))
       distance-back (suc (suc zero)) h =
           let x = turned-order (w .x0) (w .x1) (ordered .0) in
           let y = turned-order (w .y0) (w .y1) (ordered .1) in
@@ -170,17 +170,17 @@ module _ (w : Window) (taken : question20 w ≡ true) where
           let x = in-order (w .x0) (w .x1) (ordered .0) in
           let y = turned-order (w .y0) (w .y1) (ordered .1) in
           rw (turned-3 q, turned-1 first, turned-1 last, x .low-is, x .high-is, y .low-is, y .high-is)
-          (rw (straight x0-edge x1-edge y-edge, across y0-edge y1-edge x-edge) (distance-symmetric _ _))
+          (rw (straight x0-edge x1-edge y-edge, across y0-edge y1-edge x-edge) (distance-symmetric shape _ _))
       distance-back (suc (suc (suc (suc t)))) h = absurd (omega arith)
 
-    module _ (s : List ℕ) (bytes : Bytes s) (k m : ℕ) where
-      reaches-back : reaches s k w m ≡ reachesHere s k (turnedBack w) m
-      unfolding reaches reachesHere diskReaches turnedBack distanceHere coordinate
+    module _ (shape : ℕ) (s : List ℕ) (bytes : Bytes s) (k m : ℕ) where
+      reaches-back : reaches shape s k w m ≡ reachesHere shape s k (turnedBack w) m
+      unfolding reaches reachesHere labelReaches turnedBack distanceHere coordinate
       reaches-back =
           ap (λ (d : ℕ). leb (4096 * d) (k * k * (usedAt s m * usedAt s m)))
-          (distance-back (placeAt s m) (place-edge (xAt s m) (place-fits s (markSize * m) bytes)) (place-edge (yAt s m) (place-fits s (markSize * m + yOffset) bytes)) (w .turn) turn-most)
+          (distance-back shape (placeAt s m) (place-edge (xAt s m) (place-fits s (markSize * m) bytes)) (place-edge (yAt s m) (place-fits s (markSize * m + yOffset) bytes)) (w .turn) turn-most)
 
       -- Who is shown in the window is who is shown in the window turned back.
-      pub shown-back : (p q : List ℕ) → shown s p q k w m ≡ shownHere s p q k (turnedBack w) m
+      pub shown-back : (p q : List ℕ) → shown shape s p q k w m ≡ shownHere shape s p q k (turnedBack w) m
       unfolding shown lives shownHere visibleHere
-      shown-back p q = rw reaches-back (and-assoc (livesAt k (valueAt p m)) (poppedUp q k m) (reachesHere s k (turnedBack w) m))
+      shown-back p q = rw reaches-back (and-assoc (livesAt k (valueAt p m)) (poppedUp q k m) (reachesHere shape s k (turnedBack w) m))

@@ -25,7 +25,7 @@ use Rattle.view.specs.declared.Bounds.{Bounds}
 use Rattle.marks.specs.PairLaws.{good-popup}
 use Rattle.view.specs.declared.Window.{Window}
 use Rattle.view.specs.Shown.{shown}
-use Rattle.view.specs.Questions.{question20, question11}
+use Rattle.view.specs.Questions.{isWindow, question11}
 use Rattle.view.specs.Turning.{turnedBack, shownHere}
 use Rattle.view.specs.Lemmas.Turned.{shown-back}
 use Rattle.view.specs.Search.{widestLiving, boundsOf, inByte, BitsSet, Searchable}
@@ -36,9 +36,9 @@ module _ {s p q t map : List ℕ} {n : ℕ} (v : Viewable s p q t map n) where
   few = omega arith
 
   -- `b` is what the code has worked out
-  pub whole-searchable : {cleared : List ℕ} (k : ℕ) (e : Bounds) {b : Bounds} → length cleared ≡ length map → k ≤ largestScale
-      → b ≡ boundsOf e k (widestLiving s p k n) → Searchable (shownHere s p q k e) s p q t cleared b k 0 n true
-  whole-searchable k e long taken is =
+  pub whole-searchable : {cleared : List ℕ} (shape k : ℕ) (e : Bounds) {b : Bounds} → length cleared ≡ length map → k ≤ largestScale
+      → b ≡ boundsOf e k (widestLiving s p k n) → Searchable (shownHere shape s p q k e) s p q t cleared b k 0 n true
+  whole-searchable shape k e long taken is =
       record {
         n = n;
         whole = v .whole;
@@ -48,8 +48,8 @@ module _ {s p q t map : List ℕ} {n : ℕ} (v : Viewable s p q t map n) where
         tree = block-tree s p n few t (v .index-right);
         taken = taken;
         popups = λ m h. good-popup (v .popups) h;
-        lives = shown-lives s p q k e;
-        held = λ m h x axis. rw is (shown-within s p q k e m n h x axis);
+        lives = shown-lives shape s p q k e;
+        held = λ m h x axis. rw is (shown-within shape s p q k e m n h x axis);
       }
 
   -- ---- the map
@@ -98,9 +98,9 @@ viewed-same {p} {q} {n} h v =
     record { map-is = rw (← map-same p q n h) (v .map-is); count-is = v .count-is ∙ count-same p q n h }
 
 -- What is found in the window turned back is what is shown in the window.
-pub viewed-back : (s p q : List ℕ) → Bytes s → (k : ℕ) {n : ℕ} (w : Window) {e : Bounds} → question20 w ≡ true → question11 w ≡ true → e ≡ turnedBack w
-    → {before after : List ℕ} {r : ℕ} → Viewed (shownHere s p q k e) n before after r → Viewed (shown s p q k w) n before after r
-viewed-back s p q bytes k w taken order is v = viewed-same (λ m h. rw is (sym (shown-back w taken order s bytes k m p q))) v
+pub viewed-back : (shape : ℕ) (s p q : List ℕ) → Bytes s → (k : ℕ) {n : ℕ} (w : Window) {e : Bounds} → isWindow w ≡ true → question11 w ≡ true → e ≡ turnedBack w
+    → {before after : List ℕ} {r : ℕ} → Viewed (shownHere shape s p q k e) n before after r → Viewed (shown shape s p q k w) n before after r
+viewed-back shape s p q bytes k w taken order is v = viewed-same (λ m h. rw is (sym (shown-back w taken order shape s bytes k m p q))) v
 
 -- the count of a map fits 32 bits
 pub count-fits : (map : List ℕ) {n r : ℕ} → n ≤ 4096 → r ≡ countBits (bitAt map) (8 * mapSize n) → r < 4294967296

@@ -47,7 +47,7 @@ show-requires c κs =
     let s = b .before .before .before in (
       rw (marks-are b, is s 2 (c .before .before .before .part2 .ensures), is s 3 (c .before .before .part3 .ensures), is s 5 (c .before .part4 .ensures))
           (viewable (now (s .args .sheet)) _ (s .pre .0 .0) (s .pre .0 .2) (rw (marks-are b) at (c .before .before .before .before .if1 .left)), s .pre .0 .3),
-      s .pre .1,
+      (s .pre .1 .1, s .pre .1 .2),
     )
 
 same-length : tie.Need-same-length
@@ -59,7 +59,7 @@ returns-2 c =
     let b = h .before .before .before .before .before .before in
     let s = b .before .before .before in
     view-written _ _ _ _ (rw (marks-are b) at (h .before .before .before .before .before .if1 .left))
-    (rw (marks-are b, is s 2 (h .before .before .before .before .part2 .ensures), is s 5 (h .before .before .part4 .ensures)) at (h .show .ensures)) refl
+    (rw (s .pre .1 .0, marks-are b, is s 2 (h .before .before .before .before .part2 .ensures), is s 5 (h .before .before .part4 .ensures)) at (h .show .ensures)) refl
 
 pub view-at-spec : {M : Type 1} → statement M
 view-at-spec =

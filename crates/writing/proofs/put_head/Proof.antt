@@ -1,41 +1,22 @@
 -- `writing::put_head`: the codes and the sizes are listed, and the contents written of them. Assumes nothing.
 use Prim.Native.Nat.{ℕ, zero, suc, _+_, _*_, _<_, _≤_}
-use mathlib.Core.Path.{_≡_, refl, sym, ap, _∙_}
+use mathlib.Core.Path.{_≡_, sym, ap, _∙_}
 use mathlib.Core.Bool.{Bool, true, false, cond}
 use mathlib.Core.List.{List, [], _∷_, _++_}
 use native.Mathlib.Omega.{arith}
 use borrow.Author.Needs.{needs}
-use lib.ListN.{length, getD, take, length-append}
+use lib.ListN.{length, getD, take}
+use lib.Seq.{length-take-le}
 use Rattle.jobs.specs.Steps.{ifAny, codesFrom, sizesFrom}
 use Rattle.writing.proofs.put_head.Statement.{statement}
 use Rattle.writing.proofs.put_head.Tie as tie
 
+-- one more, or none
 one : (t : Bool) → cond t 1 0 ≤ 1
 one true = omega arith
 one false = omega arith
 
-any-long : (t : Bool) (x : ℕ) → length (ifAny t x) ≡ cond t 1 0
-any-long true x = refl
-any-long false x = refl
-
--- one more, or none, behind a list
-more-long : (l : List ℕ) (t : Bool) (x : ℕ) {k : ℕ} → length l ≡ k → length (l ++ ifAny t x) ≡ k + cond t 1 0
-more-long l t x e = omega (arith, length-append l (ifAny t x), any-long t x, e)
-
--- how many are listed
-abbrev listed : Bool → Bool → Bool → Bool → ℕ
-listed i e p c = 2 + cond i 1 0 + cond e 1 0 + cond p 1 0 + cond c 1 0
-
-listed-long : (i e p c : Bool) (n : ℕ) → (length (codesFrom i e p c) ≡ listed i e p c) × (length (sizesFrom n i e p c) ≡ listed i e p c)
-listed-long i e p c n =
-    let codes : List ℕ = (1 ∷ 2 ∷ []) ++ ifAny i 3 in
-    let sizes : List ℕ = (11 * n ∷ 14 * n ∷ []) ++ ifAny i (2 * n) in (
-      more-long ((codes ++ ifAny e 4) ++ ifAny p 5) c 6 (more-long (codes ++ ifAny e 4) p 5 (more-long codes e 4 (more-long (1 ∷ 2 ∷ []) i 3 refl))),
-      more-long ((sizes ++ ifAny e 1) ++ ifAny p (4 * n)) c 170
-          (more-long (sizes ++ ifAny e 1) p (4 * n) (more-long sizes e 1 (more-long (11 * n ∷ 14 * n ∷ []) i (2 * n) refl))),
-    )
-
--- and none of the sizes is too large
+-- none of the sizes is too large
 small-more : (l : List ℕ) (t : Bool) (x : ℕ) → x < 4294967296 → ((i : ℕ) → getD l i 0 < 4294967296) → (i : ℕ) → getD (l ++ ifAny t x) i 0 < 4294967296
 small-more [] true x h each zero = h
 small-more [] true x h each (suc i) = omega arith
@@ -43,61 +24,83 @@ small-more [] false x h each i = omega arith
 small-more (y ∷ l) t x h each zero = each 0
 small-more (y ∷ l) t x h each (suc i) = small-more l t x h (λ j. each (suc j)) i
 
-size-small : (i e p c : Bool) (n : ℕ) → n ≤ 4096 → (j : ℕ) → getD (sizesFrom n i e p c) j 0 < 4294967296
-size-small i e p c n h =
+size-small : (i e p c v : Bool) (n : ℕ) → n ≤ 4096 → (j : ℕ) → getD (sizesFrom n i e p c v) j 0 < 4294967296
+size-small i e p c v n h =
     let sizes : List ℕ = (11 * n ∷ 14 * n ∷ []) ++ ifAny i (2 * n) in
-    small-more ((sizes ++ ifAny e 1) ++ ifAny p (4 * n)) c 170 (omega arith)
+    let kept : List ℕ = (sizes ++ ifAny e 1) ++ ifAny p (4 * n) in
+    small-more (kept ++ ifAny c 170) v 1 (omega arith)
+    (small-more kept c 170 (omega arith)
     (small-more (sizes ++ ifAny e 1) p (4 * n) (omega (arith, h))
-    (small-more sizes e 1 (omega arith) (small-more (11 * n ∷ 14 * n ∷ []) i (2 * n) (omega (arith, h)) first)))
+    (small-more sizes e 1 (omega arith) (small-more (11 * n ∷ 14 * n ∷ []) i (2 * n) (omega (arith, h)) first))))
   where
     first : (j : ℕ) → getD (11 * n ∷ 14 * n ∷ []) j 0 < 4294967296
     first zero = omega (arith, h)
     first (suc zero) = omega (arith, h)
     first (suc (suc j)) = omega arith
 
-abbrev start : tie.After-list-part4 → tie.Start
-start l = l .before .before .before .before .before .before .before .before .before .before .before .before .before .before .before .before .before .before .before
+-- each call before the last, and the start
+abbrev fourth : tie.After-list-part5 → tie.After-list-part4
+fourth l = l .before .before .before .before .before
 
-abbrev first : tie.After-list-part4 → tie.After-list-part
-first l = l .before .before .before .before .before .before .before .before .before .before .before .before .before .before .before
+abbrev third : tie.After-list-part5 → tie.After-list-part3
+third l = fourth l .before .before .before .before .before
 
-abbrev second : tie.After-list-part4 → tie.After-list-part2
-second l = l .before .before .before .before .before .before .before .before .before .before
+abbrev second : tie.After-list-part5 → tie.After-list-part2
+second l = third l .before .before .before .before .before
 
-abbrev third : tie.After-list-part4 → tie.After-list-part3
-third l = l .before .before .before .before .before
+abbrev first : tie.After-list-part5 → tie.After-list-part
+first l = second l .before .before .before .before .before
+
+abbrev start : tie.After-list-part5 → tie.Start
+start l = first l .before .before .before .before
 
 -- what is listed
-named : (l : tie.After-list-part4) → take (l .list-part4 .result) (l .list-part4 .last .0) ≡ codesFrom (start l .args .index) (start l .args .edition) (start l .args .popups) (start l .args .counts)
+named : (l : tie.After-list-part5)
+    → take (l .list-part5 .result) (l .list-part5 .last .0)
+    ≡ codesFrom (start l .args .index) (start l .args .edition) (start l .args .popups) (start l .args .counts) (start l .args .shape)
 named l =
-    l .list-part4 .ensures .1
+    l .list-part5 .ensures .1
+    ∙ ap (λ (k : List ℕ). k ++ ifAny (start l .args .shape) 7)
+    (fourth l .list-part4 .ensures .1
     ∙ ap (λ (k : List ℕ). k ++ ifAny (start l .args .counts) 6)
     (third l .list-part3 .ensures .1
     ∙ ap (λ (k : List ℕ). k ++ ifAny (start l .args .popups) 5)
-    (second l .list-part2 .ensures .1 ∙ ap (λ (k : List ℕ). k ++ ifAny (start l .args .edition) 4) (first l .list-part .ensures .1)))
+    (second l .list-part2 .ensures .1 ∙ ap (λ (k : List ℕ). k ++ ifAny (start l .args .edition) 4) (first l .list-part .ensures .1))))
 
-sized : (l : tie.After-list-part4)
-    → take (l .list-part4 .result) (l .list-part4 .last .1 .0)
-    ≡ sizesFrom (start l .args .n) (start l .args .index) (start l .args .edition) (start l .args .popups) (start l .args .counts)
+sized : (l : tie.After-list-part5)
+    → take (l .list-part5 .result) (l .list-part5 .last .1 .0)
+    ≡ sizesFrom (start l .args .n) (start l .args .index) (start l .args .edition) (start l .args .popups) (start l .args .counts) (start l .args .shape)
 sized l =
-    l .list-part4 .ensures .2
+    l .list-part5 .ensures .2
+    ∙ ap (λ (k : List ℕ). k ++ ifAny (start l .args .shape) 1)
+    (fourth l .list-part4 .ensures .2
     ∙ ap (λ (k : List ℕ). k ++ ifAny (start l .args .counts) 170)
     (third l .list-part3 .ensures .2
     ∙ ap (λ (k : List ℕ). k ++ ifAny (start l .args .popups) (4 * start l .args .n))
-    (second l .list-part2 .ensures .2 ∙ ap (λ (k : List ℕ). k ++ ifAny (start l .args .edition) 1) (first l .list-part .ensures .2)))
+    (second l .list-part2 .ensures .2 ∙ ap (λ (k : List ℕ). k ++ ifAny (start l .args .edition) 1) (first l .list-part .ensures .2))))
 
-count : (l : tie.After-list-part4) → l .list-part4 .result ≡ listed (start l .args .index) (start l .args .edition) (start l .args .popups) (start l .args .counts)
-count l = omega (arith, l .list-part4 .ensures .0, third l .list-part3 .ensures .0, second l .list-part2 .ensures .0, first l .list-part .ensures .0)
+few : (l : tie.After-list-part5) → l .list-part5 .result ≤ 7
+few l =
+    omega (
+      arith,
+      l .list-part5 .ensures .0,
+      fourth l .list-part4 .ensures .0,
+      third l .list-part3 .ensures .0,
+      second l .list-part2 .ensures .0,
+      first l .list-part .ensures .0,
+      one (start l .args .index),
+      one (start l .args .edition),
+      one (start l .args .popups),
+      one (start l .args .counts),
+      one (start l .args .shape),
+    )
 
-few : (l : tie.After-list-part4) → l .list-part4 .result ≤ 6
-few l = omega (arith, count l, one (start l .args .index), one (start l .args .edition), one (start l .args .popups), one (start l .args .counts))
+-- and it is as many as are counted
+named-long : (l : tie.After-list-part5) → length (l .list-part5 .last .0) ≡ 7 → length (take (l .list-part5 .result) (l .list-part5 .last .0)) ≡ l .list-part5 .result
+named-long l long = length-take-le (l .list-part5 .result) (l .list-part5 .last .0) (omega (arith, few l, long))
 
-named-long : (l : tie.After-list-part4) → length (take (l .list-part4 .result) (l .list-part4 .last .0)) ≡ l .list-part4 .result
-named-long l = ap length (named l) ∙ listed-long (start l .args .index) (start l .args .edition) (start l .args .popups) (start l .args .counts) 0 .0 ∙ sym (count l)
-
-sized-long : (l : tie.After-list-part4) → length (take (l .list-part4 .result) (l .list-part4 .last .1 .0)) ≡ l .list-part4 .result
-sized-long l =
-    ap length (sized l) ∙ listed-long (start l .args .index) (start l .args .edition) (start l .args .popups) (start l .args .counts) (start l .args .n) .1 ∙ sym (count l)
+sized-long : (l : tie.After-list-part5) → length (l .list-part5 .last .1 .0) ≡ 7 → length (take (l .list-part5 .result) (l .list-part5 .last .1 .0)) ≡ l .list-part5 .result
+sized-long l long = length-take-le (l .list-part5 .result) (l .list-part5 .last .1 .0) (omega (arith, few l, long))
 
 mul-list-part : tie.Need-mul-list-part
 mul-list-part c = search needs
@@ -163,24 +166,55 @@ list-part-requires-4 c κs =
       omega (arith, few, more, most, l .list-part3 .ensures .0, c .before .before .before .before .before .before .before .before .before .list-part2 .ensures .0, c .before .before .before .before .before .before .before .before .before .before .before .before .before .before .list-part .ensures .0, c .before .before .sizes6 .given, c .before .before .before .before .before .before .before .sizes4 .given, c .before .before .before .before .before .before .before .before .before .before .before .before .sizes2 .given),
     )
 
+slice-aggregate-list-part-9 : tie.Need-slice-aggregate-list-part-9
+slice-aggregate-list-part-9 c = search needs
+
+slice-aggregate-list-part-10 : tie.Need-slice-aggregate-list-part-10
+slice-aggregate-list-part-10 c = search needs
+
+list-part-requires-5 : tie.Need-list-part-requires-5
+list-part-requires-5 c κs =
+    let fourth = c .before .before .before .before in
+    let third = fourth .before .before .before .before .before in
+    let second = third .before .before .before .before .before in
+    let first = second .before .before .before .before .before in
+    let b = first .before .before .before .before in
+    let most : fourth .list-part4 .result ≤ 6 =
+    omega (
+      arith,
+      fourth .list-part4 .ensures .0,
+      third .list-part3 .ensures .0,
+      second .list-part2 .ensures .0,
+      first .list-part .ensures .0,
+      one (b .args .index),
+      one (b .args .edition),
+      one (b .args .popups),
+      one (b .args .counts),
+    ) in (
+      omega (arith, most, c .before .before .before .codes8 .given, c .before .before .before .before .before .before .before .before .codes6 .given, c .before .before .before .before .before .before .before .before .before .before .before .before .before .codes4 .given, c .before .before .before .before .before .before .before .before .before .before .before .before .before .before .before .before .before .before .codes2 .given),
+      omega (arith, most, c .before .before .sizes8 .given, c .before .before .before .before .before .before .before .sizes6 .given, c .before .before .before .before .before .before .before .before .before .before .before .before .sizes4 .given, c .before .before .before .before .before .before .before .before .before .before .before .before .before .before .before .before .before .sizes2 .given),
+    )
+
 array-share-prefix-codes : tie.Need-array-share-prefix-codes
-array-share-prefix-codes c = omega (arith, few (c .before .before .before), c .before .before .codes8 .given)
+array-share-prefix-codes c = omega (arith, few (c .before .before .before), c .before .before .codes10 .given)
 
 slice-aggregate-put-contents : tie.Need-slice-aggregate-put-contents
-slice-aggregate-put-contents c = sym (named-long (c .before .before .before .before))
+slice-aggregate-put-contents c = sym (named-long (c .before .before .before .before) (omega (arith, c .before .before .before .codes10 .given)))
 
 array-share-prefix-sizes : tie.Need-array-share-prefix-sizes
-array-share-prefix-sizes c = omega (arith, few (c .before .before .before .before), c .before .before .sizes8 .given)
+array-share-prefix-sizes c = omega (arith, few (c .before .before .before .before), c .before .before .sizes10 .given)
 
 slice-aggregate-put-contents-2 : tie.Need-slice-aggregate-put-contents-2
-slice-aggregate-put-contents-2 c = sym (sized-long (c .before .before .before .before .before))
+slice-aggregate-put-contents-2 c = sym (sized-long (c .before .before .before .before .before) (omega (arith, c .before .before .before .sizes10 .given)))
 
 put-contents-requires : tie.Need-put-contents-requires
 put-contents-requires c κs =
     let l = c .before .before .before .before .before in
-    let b = start l in (
-      (omega (arith, named-long l, few l), sized-long l ∙ sym (named-long l), rw (named l) (b .pre .1)),
-      rw (sized l) (size-small (b .args .index) (b .args .edition) (b .args .popups) (b .args .counts) (b .args .n) (b .pre .0)),
+    let b = start l in
+    let codes = named-long l (omega (arith, c .before .before .before .before .codes10 .given)) in
+    let sizes = sized-long l (omega (arith, c .before .before .before .sizes10 .given)) in (
+      (omega (arith, codes, few l), sizes ∙ sym codes, rw (named l) (b .pre .1)),
+      rw (sized l) (size-small (b .args .index) (b .args .edition) (b .args .popups) (b .args .counts) (b .args .shape) (b .args .n) (b .pre .0)),
     )
 
 same-length : tie.Need-same-length
@@ -209,6 +243,9 @@ put-head-spec =
     slice-aggregate-list-part-7
     slice-aggregate-list-part-8
     list-part-requires-4
+    slice-aggregate-list-part-9
+    slice-aggregate-list-part-10
+    list-part-requires-5
     array-share-prefix-codes
     slice-aggregate-put-contents
     array-share-prefix-sizes

@@ -29,7 +29,7 @@ returns c =
     let a = w .before .before .before .before .before in
     let n = a .args .n in
     let held = now (a .args .all) in
-    results-are (reelIn (a .args .edition) (drop (a .args .at) held) held n) held (length-take-le (11 * n) held (omega (arith, a .pre .2, a .pre .3)))
+    results-are (reelIn (a .args .edition) (a .args .shape) (drop (a .args .at) held) held n) held (length-take-le (11 * n) held (omega (arith, a .pre .2, a .pre .3)))
     (w .schedule-behind .ensures) (b .build .ensures)
 
 pub put-results-spec : {M : Type 1} → statement M

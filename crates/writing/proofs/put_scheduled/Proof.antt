@@ -1,7 +1,7 @@
--- `writing::put_scheduled`: the contents, the marks and the parts that are kept are written, and parts 2 and 3 between them. Assumes nothing.
+-- `writing::put_scheduled`: the contents, the marks and parts 4 and 5 are written, and parts 2 and 3 between them. Assumes nothing.
 use Prim.Native.Nat.{ℕ, _+_, _-_, _*_, _≤_}
 use mathlib.Core.Path.{_≡_}
-use mathlib.Core.Bool.{Bool, true, false, cond}
+use mathlib.Core.Bool.{true, cond}
 use mathlib.Core.List.{List, _++_}
 use native.Mathlib.Omega.{arith}
 use borrow.Author.Needs.{needs}
@@ -11,6 +11,7 @@ use lib.ListN.{length}
 use Rattle.contents.specs.Contents.{contentsSize}
 use Rattle.jobs.specs.Jobs.{scheduledSize}
 use Rattle.jobs.specs.Steps.{keptFrom, codesFrom}
+use Rattle.jobs.specs.Laws.Listed.{few-listed}
 use Rattle.jobs.specs.Laws.Scheduling.{lent-good, lent-size, Standing, standing}
 use Rattle.writing.proofs.put_scheduled.Statement.{statement}
 use Rattle.writing.proofs.put_scheduled.Tie as tie
@@ -25,30 +26,23 @@ popups b = now (b .args .popups) ++ now (b .args .last)
 abbrev edition : tie.Start → List ℕ
 edition b = now (b .args .edition)
 
+abbrev shape : tie.Start → List ℕ
+shape b = now (b .args .shape)
+
 -- where the marks begin
 abbrev begin : tie.Start → ℕ
-begin b = contentsSize (length (codesFrom true (ltb 0 (length (edition b))) (b .args .there) (b .args .counted)))
+begin b = contentsSize (length (codesFrom true (ltb 0 (length (edition b))) (b .args .there) (b .args .counted) (ltb 0 (length (shape b)))))
 
 sized : (b : tie.Start)
-    → scheduledSize (b .args .n) (keptFrom (edition b) (b .args .there) (popups b)) (b .args .counted)
-    ≡ begin b + 27 * b .args .n + length (edition b) + length (popups b) + cond (b .args .counted) 170 0
-sized b = lent-size (marks b) (b .args .n) (b .pre .0 .0 .few) (b .pre .0 .1) (edition b) (b .args .there) (popups b) (b .args .counted) (b .pre .0 .2) (b .pre .0 .3)
+    → scheduledSize (b .args .n) (keptFrom (edition b) (b .args .there) (popups b) (shape b)) (b .args .counted)
+    ≡ begin b + 27 * b .args .n + length (edition b) + length (popups b) + cond (b .args .counted) 170 0 + length (shape b)
+sized b = lent-size (marks b) (b .args .n) (b .pre .0 .0 .few) (b .pre .0 .1) (edition b) (b .args .there) (popups b) (shape b) (b .args .counted) (b .pre .0 .2) (b .pre .0 .3) (b .pre .0 .4)
 
-few-parts : (b : tie.Start) → begin b ≤ 62
-few-parts b = few (ltb 0 (length (edition b))) (b .args .there) (b .args .counted)
-  where
-    few : (e p c : Bool) → contentsSize (length (codesFrom true e p c)) ≤ 62
-    few true true true = omega arith
-    few true true false = omega arith
-    few true false true = omega arith
-    few true false false = omega arith
-    few false true true = omega arith
-    few false true false = omega arith
-    few false false true = omega arith
-    few false false false = omega arith
+few-parts : (b : tie.Start) → begin b ≤ 72
+few-parts b = omega (arith, few-listed true (ltb 0 (length (edition b))) (b .args .there) (b .args .counted) (ltb 0 (length (shape b))))
 
 abbrev start : tie.After-put-pieces2 → tie.Start
-start p = p .before .before .before .before .before .before .before .before .before .before .before .before .before .before .before .before .before .before .before .before .before
+start p = p .before .before .before .before .before .before .before .before .before .before .before .before .before .before .before .before .before .before .before .before .before .before
 
 -- where what is kept begins and ends
 from-start : (p : tie.After-put-pieces2) → p .before .before .before .before .put .result - p .before .before .before .before .before .before .before .before .before .before .before .before .put-head .result ≡ 27 * start p .args .n + length (edition (start p))
@@ -58,23 +52,23 @@ ended : (p : tie.After-put-pieces2) → p .put-pieces2 .result ≡ begin (start 
 ended p = omega (arith, p .put-pieces2 .ensures .0, p .before .before .before .before .put .ensures .0, p .before .before .before .before .before .before .before .before .before .before .before .before .put-head .ensures .0)
 
 stands : (p : tie.After-put-pieces2)
-    → Standing (marks (start p)) (start p .args .n) (edition (start p)) (start p .args .there) (popups (start p)) (start p .args .counted) (now (start p .args .out)) (p .put-pieces2 .last .0)
+    → Standing (marks (start p)) (start p .args .n) (edition (start p)) (start p .args .there) (popups (start p)) (shape (start p)) (start p .args .counted) (now (start p .args .out)) (p .put-pieces2 .last .0)
     (p .before .before .before .before .before .before .before .before .before .before .before .before .put-head .result) (p .put-pieces2 .result)
 stands p =
     let b = start p in
     let h = p .before .before .before .before .before .before .before .before .before .before .before .before in
     let q = p .before .before .before .before in
-    standing (marks b) (b .args .n) (b .pre .0 .0 .few) (b .pre .0 .1) (edition b) (b .args .there) (popups b) (b .args .counted) (b .pre .0 .2) (b .pre .0 .3) (now (b .args .out)) (omega (arith, sized b, b .pre .1 .1))
+    standing (marks b) (b .args .n) (b .pre .0 .0 .few) (b .pre .0 .1) (edition b) (b .args .there) (popups b) (shape b) (b .args .counted) (b .pre .0 .2) (b .pre .0 .3) (b .pre .0 .4) (now (b .args .out)) (omega (arith, sized b, b .pre .1 .1))
     (h .put-head .ensures .1) (rw (h .put-head .ensures .0) at (p .before .before .before .before .before .before .before .before .put-pieces .ensures .1)) (rw (h .put-head .ensures .0) at (q .put .ensures .1))
     (rw (q .put .ensures .0, h .put-head .ensures .0) at (p .put-pieces2 .ensures .1)) (h .put-head .ensures .0) (ended p)
 
 put-head-requires : tie.Need-put-head-requires
 put-head-requires c κs =
-    let b = c .before .before .before .before .before .before .before .before in (b .pre .0 .0 .few, omega (arith, sized b, b .pre .1 .1))
+    let b = c .before .before .before .before .before .before .before .before .before in (b .pre .0 .0 .few, omega (arith, sized b, b .pre .1 .1))
 
 put-pieces-requires : tie.Need-put-pieces-requires
 put-pieces-requires c κs =
-    let b = c .before .before .before .before .before .before .before .before .before .before .before .before in
+    let b = c .before .before .before .before .before .before .before .before .before .before .before .before .before in
     omega (arith, sized b, b .pre .1 .1, b .pre .0 .1, c .before .before .before .put-head .ensures .0, c .before .before .out .given)
 
 mul-put : tie.Need-mul-put
@@ -82,17 +76,17 @@ mul-put c = search needs
 
 add-put : tie.Need-add-put
 add-put c =
-    let b = c .before .before .before .before .before .before .before .before .before .before .before .before .before .before .before .before in
+    let b = c .before .before .before .before .before .before .before .before .before .before .before .before .before .before .before .before .before in
     omega (arith, few-parts b, b .pre .0 .0 .few, c .before .before .before .before .before .before .before .put-head .ensures .0)
 
 put-requires : tie.Need-put-requires
 put-requires c κs =
-    let b = c .before .before .before .before .before .before .before .before .before .before .before .before .before .before .before .before in
+    let b = c .before .before .before .before .before .before .before .before .before .before .before .before .before .before .before .before .before in
     omega (arith, sized b, b .pre .1 .1, c .before .before .before .before .before .before .before .put-head .ensures .0, c .before .before .before .before .before .before .out .given, c .before .before .out2 .given)
 
 put-pieces-requires-2 : tie.Need-put-pieces-requires-2
 put-pieces-requires-2 c κs =
-    let b = c .before .before .before .before .before .before .before .before .before .before .before .before .before .before .before .before .before .before .before .before in
+    let b = c .before .before .before .before .before .before .before .before .before .before .before .before .before .before .before .before .before .before .before .before .before in
     omega (arith, sized b, b .pre .1 .1, c .before .before .before .before .before .before .before .before .before .before .before .put-head .ensures .0, c .before .before .before .put .ensures .0, c .before .before .before .before .before .before .before .before .before .before .out .given, c .before .before .before .before .before .before .out2 .given, c .before .before .out3 .given)
 
 sub-put-results : tie.Need-sub-put-results
@@ -103,19 +97,22 @@ part-put-results-start c = search needs
 
 part-put-results-end : tie.Need-part-put-results-end
 part-put-results-end c =
-    let b = c .before .before .before .before .before .before .before .before .before .before .before .before .before .before .before .before .before .before .before .before .before .before .before in
+    let b = c .before .before .before .before .before .before .before .before .before .before .before .before .before .before .before .before .before .before .before .before .before .before .before .before in
     let p = c .before .before in
     omega (arith, sized b, b .pre .1 .1, ended p, c .before .before .before .before .before .before .before .before .before .before .before .before .before .out .given, c .before .before .before .before .before .before .before .before .before .out2 .given, c .before .before .before .before .before .out3 .given, c .before .out4 .given)
 
-edition-of-requires : tie.Need-edition-of-requires
-edition-of-requires c κs = search needs
+choice-of-requires : tie.Need-choice-of-requires
+choice-of-requires c κs = search needs
+
+choice-of-requires-2 : tie.Need-choice-of-requires-2
+choice-of-requires-2 c κs = search needs
 
 sub-put-results-2 : tie.Need-sub-put-results-2
 sub-put-results-2 c = search needs
 
 put-results-requires : tie.Need-put-results-requires
 put-results-requires c κs =
-    let p = c .before .before .before .before .before in
+    let p = c .before .before .before .before .before .before in
     let b = start p in
     let st = stands p in
     let at : p .before .before .before .before .put .result - p .before .before .before .before .before .before .before .before .before .before .before .before .put-head .result ≡ 27 * b .args .n + length (now (b .args .edition)) = from-start p in (
@@ -123,7 +120,7 @@ put-results-requires c κs =
       omega (arith, b .pre .1 .0),
       omega (arith, at),
       omega (arith, at, st .long),
-      rw (at, st .popups) (lent-good (b .args .there) (b .pre .0 .3)),
+      rw (at, st .popups) (lent-good (b .args .there) (b .pre .0 .4)),
     )
 
 same-length : tie.Need-same-length
@@ -134,10 +131,10 @@ same-length-2 c = search needs
 
 returns : tie.Need-returns
 returns c =
-    let p = c .before .before .before .before .before .before .before .before .before .before in
+    let p = c .before .before .before .before .before .before .before .before .before .before .before in
     let st = stands p in (
-      c .before .before .before .before .before .before .before .before .before .before .before .before .before .before .before .before .before .before .before .before .before .before .put-head .ensures .0,
-      st .put _ (rw (st .marks, from-start p, st .popups, c .before .before .before .before .before .before .edition-of .ensures) at (c .before .before .before .before .put-results .ensures)),
+      c .before .before .before .before .before .before .before .before .before .before .before .before .before .before .before .before .before .before .before .before .before .before .before .put-head .ensures .0,
+      st .put _ (rw (st .marks, from-start p, st .popups, c .before .before .before .before .before .before .before .choice-of .ensures, c .before .before .before .before .before .before .choice-of2 .ensures) at (c .before .before .before .before .put-results .ensures)),
     )
 
 pub put-scheduled-spec : {M : Type 1} → statement M
@@ -153,7 +150,8 @@ put-scheduled-spec =
     sub-put-results
     part-put-results-start
     part-put-results-end
-    edition-of-requires
+    choice-of-requires
+    choice-of-requires-2
     sub-put-results-2
     put-results-requires
     same-length

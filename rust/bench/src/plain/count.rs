@@ -1,7 +1,7 @@
 //! Counts of the living marks by stop and kind group: for each mark the stops from which and
 //! before which it lives are found, and both ends are noted in a table that is added up.
 
-use oracle::contents::{contents_bytes, split, write_contents};
+use oracle::contents::{contents_bytes, split, write_contents, MOST_PARTS};
 use oracle::count::{COUNTS_BYTES, STOPS};
 use oracle::fraction::Removal;
 use oracle::mark::{Group, Mark};
@@ -75,19 +75,27 @@ pub fn count(sheet: &[u8], out: &mut [u8]) -> Result<usize, Refusal> {
         out.copy_from_slice(sheet);
         return Ok(written);
     }
-    let mut parts = [(6, COUNTS_BYTES); 6];
-    let mut count = 0;
     let bodies = split(sheet)?;
-    for (code, body) in (1..6).filter_map(|code| Some((code, bodies.get(code.into())?))) {
-        parts[count] = (code, body.len());
+    let length = |code| match code {
+        6 => Some(COUNTS_BYTES),
+        _ => bodies.get(code).map(<[u8]>::len),
+    };
+    let mut parts = [(0, 0); MOST_PARTS];
+    let mut count = 0;
+    for (code, length) in (1..=MOST_PARTS).filter_map(|code| Some((code, length(code)?))) {
+        parts[count] = (code as u16, length);
         count += 1;
     }
-    // All parts that are there stand before part 6, one behind the other.
-    let joined = &sheet[contents_bytes(count)..];
-    write_contents(&parts[..=count], out);
-    let bodies = &mut out[contents_bytes(count + 1)..];
-    let (others, counts) = bodies.split_at_mut(joined.len());
-    others.copy_from_slice(joined);
+    let parts = &parts[..count];
+    // The bodies before part 6 stand one behind the other, and so do those behind it.
+    let before = parts.iter().take_while(|&&(code, _)| code < 6);
+    let before = before.map(|&(_, length)| length).sum();
+    let (others_before, others_behind) = sheet[contents_bytes(count - 1)..].split_at(before);
+    write_contents(parts, out);
+    let (first, rest) = out[contents_bytes(count)..].split_at_mut(before);
+    let (counts, last) = rest.split_at_mut(COUNTS_BYTES);
+    first.copy_from_slice(others_before);
     counts.copy_from_slice(&part_6(&rows, records));
+    last.copy_from_slice(others_behind);
     Ok(written)
 }

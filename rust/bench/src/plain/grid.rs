@@ -3,6 +3,7 @@
 //! rows, the box around their places and their largest radius.
 
 use oracle::label::Label;
+use oracle::shape::Shape;
 
 use super::value::Value;
 
@@ -29,16 +30,16 @@ impl Cell {
         radius: 0,
     };
 
-    /// The touching value of a label and the nearest place of the box, with the largest
-    /// radius of the cell.
+    /// The touching value of a label of a shape and the nearest place of the box, with the
+    /// largest radius of the cell.
     #[inline]
-    fn bound(&self, label: Label) -> Value {
+    fn bound(&self, label: Label, shape: Shape) -> Value {
         let nearest = Label {
             x: label.x.clamp(self.low[0], self.high[0]),
             y: label.y.clamp(self.low[1], self.high[1]),
             radius: self.radius,
         };
-        nearest.touching_value(label).into()
+        nearest.touching_value(label, shape).into()
     }
 }
 
@@ -155,12 +156,12 @@ impl Grid {
         std::iter::successors(row(self.cells[cell].last), before)
     }
 
-    /// Whether a cell has rows, and may have one that touches a label no later than at a
-    /// value.
+    /// Whether a cell has rows, and may have one that touches a label of a shape no later than
+    /// at a value.
     #[inline]
-    pub fn may_hold(&self, cell: usize, label: Label, best: Value) -> bool {
+    pub fn may_hold(&self, cell: usize, label: Label, shape: Shape, best: Value) -> bool {
         let cell = &self.cells[cell];
-        cell.last > 0 && !cell.bound(label).later_than(best)
+        cell.last > 0 && !cell.bound(label, shape).later_than(best)
     }
 
     /// The cells, those of the large marks first.

@@ -46,7 +46,7 @@ impl Desk {
         let row = self.rows[p];
         let mut named = row.value == Value::NEVER;
         for (q, other) in self.rows[..p].iter().enumerate() {
-            let touching = row.label.touching_value(other.label);
+            let touching = row.label.touching_value(other.label, self.shape);
             if Value::from(touching).later_than(row.value) {
                 continue;
             }
@@ -72,7 +72,7 @@ impl Desk {
             if q == p {
                 continue;
             }
-            let touching = row.label.touching_value(other.label);
+            let touching = row.label.touching_value(other.label, self.shape);
             let value = Value::from(self.popups.pair_value(p, q, touching));
             if !other.value.later_than(value) {
                 continue;

@@ -8,6 +8,7 @@ use oracle::mark::{Mark, MARK_BYTES};
 use oracle::popup::pair_value;
 use oracle::rank::{Edition, RankKey};
 use oracle::record::{Record, RECORD_BYTES};
+use oracle::shape::Shape;
 use oracle::sheet::{part_lengths, Rows};
 use oracle::tree::{write_number, Axis, INDEX_BYTES};
 use oracle::{ask, Refusal};
@@ -84,12 +85,16 @@ impl Candidate {
         (sooner || level && q < self.row) && rows[q].value.later_than(value)
     }
 
-    /// This one, or row q, if it takes its place with its pair value with a label, which
-    /// `pair` gives for their touching value. Most rows do not even with the touching value,
-    /// which is no greater.
+    /// This one, or row q, if it takes its place with its pair value, which `pair` gives for
+    /// this touching value. Most rows do not even with the touching value, which is no greater.
     #[inline]
-    fn or(self, rows: &[Row], q: usize, label: Label, pair: impl Fn(Fraction) -> Fraction) -> Self {
-        let touching = label.touching_value(rows[q].label);
+    fn or(
+        self,
+        rows: &[Row],
+        q: usize,
+        touching: Fraction,
+        pair: impl Fn(Fraction) -> Fraction,
+    ) -> Self {
         if !self.gives_way(rows, q, touching.into()) {
             return self;
         }
@@ -112,6 +117,7 @@ pub struct Desk {
     pub(super) order: Vec<RankKey>,
     pub(super) rows: Vec<Row>,
     pub(super) popups: RowPopups,
+    pub(super) shape: Shape,
     grid: Grid,
     pairs: Vec<Pair>,
     ordered: Vec<Ordered>,
@@ -147,11 +153,13 @@ impl Desk {
         let part_4 = rows.named.map(Edition::write);
         let part_4 = part_4.as_ref().map(|part_4| part_4.as_slice());
         let part_5 = rows.popups.map(|popups| popups.as_flattened());
+        let part_7 = rows.shaped.map(Shape::write);
+        let part_7 = part_7.as_ref().map(|part_7| part_7.as_slice());
         let mut parts = [(0, 0); MOST_PARTS];
         parts[..3].copy_from_slice(&[(1, length_1), (2, length_2), (3, length_3)]);
         let mut count = 3;
         // The counts are renewed in the same length.
-        for (code, body) in [(4, part_4), (5, part_5), (6, rows.counts)] {
+        for (code, body) in [(4, part_4), (5, part_5), (6, rows.counts), (7, part_7)] {
             if let Some(body) = body {
                 parts[count] = (code, body.len());
                 count += 1;
@@ -172,9 +180,11 @@ impl Desk {
         self.write_records(marks, part_2.as_chunks_mut().0);
         self.write_index(part_3.as_chunks_mut().0);
         let (named, rest) = kept.split_at_mut(part_4.map_or(0, <[u8]>::len));
-        let (popups, counts) = rest.split_at_mut(part_5.map_or(0, <[u8]>::len));
+        let (popups, rest) = rest.split_at_mut(part_5.map_or(0, <[u8]>::len));
+        let (counts, shaped) = rest.split_at_mut(rows.counts.map_or(0, <[u8]>::len));
         named.copy_from_slice(part_4.unwrap_or_default());
         popups.copy_from_slice(part_5.unwrap_or_default());
+        shaped.copy_from_slice(part_7.unwrap_or_default());
         if rows.counts.is_some() {
             counts.copy_from_slice(&part_6(&rows, part_2.as_chunks().0));
         }
@@ -200,17 +210,27 @@ impl Desk {
         if rows.popups.is_some() {
             popups.extend(self.order.iter().map(|rank| rows.popup(rank.number())));
         }
+        self.shape = rows.shape();
     }
 
     /// The rank-order core: each row goes at the least pair value with an earlier one that
     /// is removed later; of equal values the earliest is taken.
     fn settle(&mut self) {
+        match self.shape {
+            Shape::Disk => self.settle_as(Shape::Disk),
+            Shape::Square => self.settle_as(Shape::Square),
+        }
+    }
+
+    /// The same for labels of a shape, once for each.
+    #[inline(always)]
+    fn settle_as(&mut self, shape: Shape) {
         for p in 0..self.rows.len() {
             let (earlier, rest) = self.rows.split_at_mut(p);
             let row = &mut rest[0];
             let mut best = Value::NEVER;
             for (q, other) in earlier.iter().enumerate() {
-                let touching = row.label.touching_value(other.label);
+                let touching = row.label.touching_value(other.label, shape);
                 let goes = |value| best.later_than(value) && other.value.later_than(value);
                 if goes(touching.into()) {
                     let value = self.popups.pair_value(p, q, touching).into();
@@ -229,11 +249,20 @@ impl Desk {
         if self.rows.len() < MANY {
             return self.settle();
         }
+        match self.shape {
+            Shape::Disk => self.settle_by_cells_as(Shape::Disk),
+            Shape::Square => self.settle_by_cells_as(Shape::Square),
+        }
+    }
+
+    /// The same for labels of a shape, once for each.
+    #[inline(always)]
+    fn settle_by_cells_as(&mut self, shape: Shape) {
         self.grid.lay_over(self.rows.iter().map(|row| row.label));
         for p in 0..self.rows.len() {
             let label = self.rows[p].label;
             let cell = self.grid.cell_of(label);
-            let best = self.search(p, label, cell);
+            let best = self.search(p, label, cell, shape);
             self.grid.add(cell, label);
             self.rows[p].value = best.value;
             self.rows[p].eliminator = best.row as u32;
@@ -242,10 +271,12 @@ impl Desk {
 
     /// The best of all rows above p, whose own cell is searched first, so that the others
     /// are soon too far.
-    fn search(&self, p: usize, label: Label, own: usize) -> Candidate {
+    #[inline(always)]
+    fn search(&self, p: usize, label: Label, own: usize, shape: Shape) -> Candidate {
         let (grid, rows) = (&self.grid, self.rows.as_slice());
-        let or = |best: Candidate, q| {
-            best.or(rows, q, label, |touching| {
+        let or = |best: Candidate, q: usize| {
+            let touching = label.touching_value(rows[q].label, shape);
+            best.or(rows, q, touching, |touching| {
                 self.popups.pair_value(p, q, touching)
             })
         };
@@ -255,7 +286,7 @@ impl Desk {
         let scan = |best, cell| grid.rows(cell).fold(best, or);
         let others = Grid::cells().filter(|&cell| cell != own);
         others.fold(scan(Candidate::NONE, own), |best, cell| {
-            if grid.may_hold(cell, label, best.value) {
+            if grid.may_hold(cell, label, shape, best.value) {
                 scan(best, cell)
             } else {
                 best
@@ -269,7 +300,9 @@ impl Desk {
         self.pairs.clear();
         for (lower, row) in self.rows.iter().enumerate() {
             self.pairs.extend((0..lower).map(|higher| {
-                let touching = row.label.touching_value(self.rows[higher].label);
+                let touching = row
+                    .label
+                    .touching_value(self.rows[higher].label, self.shape);
                 let value = self.popups.pair_value(lower, higher, touching);
                 Pair {
                     numerator: value.numerator,

@@ -1,4 +1,4 @@
-//! Questions 1 to 9, 19, 21 and 23.
+//! Questions 1 to 9, 19, 21, 24 and 23.
 
 use oracle::contents::split;
 use oracle::mark::{touching_value, Mark};
@@ -15,11 +15,11 @@ use super::index::Indexed;
 pub fn open(sheet: &[u8]) -> Result<Rows<'_>, Refusal> {
     let rows = Rows::of(&split(sheet)?)?;
     if let Some(records) = rows.records {
-        let (n, edition) = (rows.marks.len(), rows.edition());
+        let (n, edition, shape) = (rows.marks.len(), rows.edition(), rows.shape());
         let mark = |m: usize| Mark::read(&rows.marks[m]);
         let rank = |m| RankKey::of(edition, &mark(m), m);
         let pair = |a, b| {
-            let touching = touching_value(&mark(a), &mark(b));
+            let touching = touching_value(shape, &mark(a), &mark(b));
             match rows.popups {
                 Some(_) => pair_value(touching, rows.popup(a).max(rows.popup(b))),
                 None => touching,

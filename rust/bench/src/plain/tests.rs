@@ -10,7 +10,8 @@ use oracle::process::schedule_in_rank_order;
 use oracle::rank::Edition;
 use oracle::record::{write_records, Record};
 use oracle::reel::Reel;
-use oracle::sample::{each_schedule, fitting_records, marks, popups, Generator, Popups, Shape};
+use oracle::sample::{each_schedule, fitting_records, marks, popups, Generator, Layout, Popups};
+use oracle::shape::Shape;
 use oracle::sheet::{check, join, join_parts, split};
 use oracle::tree;
 use oracle::view::{Edges, Window};
@@ -41,17 +42,23 @@ fn three_parts(marks: &[Mark], records: &[Record]) -> Vec<u8> {
     join(&[&write_marks(marks), &write_records(records), &part_3])
 }
 
-/// The same with a part 4 that names the edition, and a part 5 where the reel has popups.
+/// The same with a part 4 that names the edition, a part 5 where the reel has popups, and a
+/// part 7 where its labels are squares.
 fn whole_sheets(reel: Reel) -> [Vec<u8>; 2] {
     sheets_of(reel).map(|sheet| with_kept(&sheet, reel))
 }
 
-/// The sheet with a part 4 that names the reel's edition, and a part 5 where it has popups.
+/// The sheet with a part 4 that names the reel's edition, a part 5 where it has popups, and a
+/// part 7 where its labels are squares.
 fn with_kept(sheet: &[u8], reel: Reel) -> Vec<u8> {
     let (part_4, part_5) = (reel.edition.write(), reel.popups.map(write_popups));
+    let part_7 = reel.shape.write();
     let mut parts = split(sheet).unwrap().present();
     parts.push((4, &part_4));
     parts.extend(part_5.as_ref().map(|part_5| (5, part_5.as_slice())));
+    if reel.shape == Shape::Square {
+        parts.push((7, &part_7));
+    }
     join_parts(&parts)
 }
 
@@ -76,9 +83,9 @@ fn every_core_writes_the_scheduled_sheet() {
         Desk::schedule_by_pairs,
     ];
     let mut desk = Desk::default();
-    for shape in Shape::ALL {
+    for layout in Layout::ALL {
         for n in [0, 1, 2, 9, 64, 255, 256, 500] {
-            let mut sample = marks(shape, n, n as u64);
+            let mut sample = marks(layout, n, n as u64);
             let mut all = vec![sheets(&sample)];
             sample.iter_mut().for_each(|mark| mark.priority &= 1);
             all.extend(Edition::ALL.map(|edition| whole_sheets(edition.reel(&sample))));
@@ -86,14 +93,18 @@ fn every_core_writes_the_scheduled_sheet() {
                 let popups = popups(how, &sample, 1);
                 let reel = Edition::Second.reel(&sample).with_popups(&popups);
                 all.extend([whole_sheets(reel), counted_sheets(reel)]);
+                let squares = reel.with_shape(Shape::Square);
+                all.push(counted_sheets(squares));
             }
+            let squares = Edition::First.reel(&sample).with_shape(Shape::Square);
+            all.push(whole_sheets(squares));
             for ([sheet, expected], core) in all
                 .iter()
                 .flat_map(|sheets| cores.map(|core| (sheets, core)))
             {
                 let mut out = vec![0xee; expected.len() + 1];
                 assert_eq!(core(&mut desk, sheet, &mut out), Ok(expected.len()));
-                assert!(out[..expected.len()] == *expected, "{shape:?} {n}");
+                assert!(out[..expected.len()] == *expected, "{layout:?} {n}");
                 assert_eq!(out.last(), Some(&0xee));
                 assert_eq!(core(&mut desk, sheet, &mut out[2..]), Err(13));
             }
@@ -110,13 +121,14 @@ fn opened(sheet: &[u8]) -> u32 {
 
 #[test]
 fn sheets_with_a_byte_changed_or_cut_short_are_refused_by_the_same_question() {
-    for shape in Shape::ALL {
-        let sample = marks(shape, 6, 3);
+    for layout in Layout::ALL {
+        let sample = marks(layout, 6, 3);
         let popups = popups(Popups::Touching, &sample, 3);
         let named = Edition::ALL.map(|edition| whole_sheets(edition.reel(&sample)));
         let reel = Edition::First.reel(&sample).with_popups(&popups);
         let popping_up = whole_sheets(reel).into_iter().chain(counted_sheets(reel));
-        let others = named.concat().into_iter().chain(popping_up);
+        let squares = counted_sheets(reel.with_shape(Shape::Square));
+        let others = named.concat().into_iter().chain(popping_up).chain(squares);
         for mut sheet in sheets(&sample).into_iter().chain(others) {
             assert_eq!(opened(&sheet), 0);
             for at in 0..sheet.len() {
@@ -137,8 +149,8 @@ fn sheets_with_a_byte_changed_or_cut_short_are_refused_by_the_same_question() {
 #[test]
 fn trees_with_two_numbers_exchanged_are_refused() {
     let n = 40;
-    for shape in Shape::ALL {
-        let [_, mut sheet] = sheets(&marks(shape, n, 4));
+    for layout in Layout::ALL {
+        let [_, mut sheet] = sheets(&marks(layout, n, 4));
         let start = sheet.len() - 2 * n;
         for a in 0..n {
             for b in 0..a {
@@ -164,15 +176,16 @@ fn assert_counted(sheet: &[u8], room: usize) {
 
 #[test]
 fn counts_are_the_oracles() {
-    for (shape, n) in Shape::ALL
+    for (layout, n) in Layout::ALL
         .into_iter()
-        .flat_map(|shape| [0, 1, 2, 60, 300].map(|n| (shape, n)))
+        .flat_map(|layout| [0, 1, 2, 60, 300].map(|n| (layout, n)))
     {
-        let sample = marks(shape, n, 5);
+        let sample = marks(layout, n, 5);
         let drawn = Popups::ALL.map(|how| popups(how, &sample, 5));
         let bare = Edition::First.reel(&sample);
         let popping_up = drawn.iter().map(|popups| bare.with_popups(popups));
-        for reel in std::iter::once(bare).chain(popping_up) {
+        let squares = bare.with_shape(Shape::Square);
+        for reel in [bare, squares].into_iter().chain(popping_up) {
             let [foreign, scheduled] = counted_sheets(reel);
             let [alone, uncounted] = whole_sheets(reel);
             for sheet in [foreign, scheduled, alone, uncounted] {
@@ -219,14 +232,18 @@ fn judged(desk: &mut Desk, sheet: &[u8]) -> u32 {
 fn the_judges_are_the_oracles() {
     let mut desk = Desk::default();
     let mut numbers = [0; 23];
-    for (shape, n) in Shape::ALL
+    for (layout, n) in Layout::ALL
         .into_iter()
-        .flat_map(|shape| [0, 1, 2, 3, 4].map(|n| (shape, n)))
+        .flat_map(|layout| [0, 1, 2, 3, 4].map(|n| (layout, n)))
     {
-        let mut sample = marks(shape, n, 7);
+        let mut sample = marks(layout, n, 7);
         sample.iter_mut().for_each(|mark| mark.priority &= 1);
         let drawn = Popups::ALL.map(|how| popups(how, &sample, 7));
-        for reel in Edition::ALL.map(|edition| edition.reel(&sample)) {
+        for (edition, shape) in Edition::ALL
+            .into_iter()
+            .flat_map(|edition| Shape::ALL.map(|shape| (edition, shape)))
+        {
+            let reel = edition.reel(&sample).with_shape(shape);
             let popping_up = drawn.iter().map(|popups| reel.with_popups(popups));
             for reel in std::iter::once(reel).chain(popping_up) {
                 each_schedule(reel, &mut |records| {
@@ -245,11 +262,12 @@ fn the_judges_are_the_oracles() {
 fn the_judges_see_one_record_that_is_not_ours() {
     let mut desk = Desk::default();
     let mut generator = Generator::new(8);
-    for shape in Shape::ALL {
-        let sample = marks(shape, 90, 9);
+    for layout in Layout::ALL {
+        let sample = marks(layout, 90, 9);
         let drawn = popups(generator.choose(&Popups::ALL), &sample, 9);
         let bare = Edition::Second.reel(&sample);
-        for reel in [bare, bare.with_popups(&drawn)] {
+        let squares = bare.with_shape(Shape::Square);
+        for reel in [bare, bare.with_popups(&drawn), squares] {
             let ours = schedule_in_rank_order(reel);
             for _ in 0..20 {
                 let m = generator.below(90) as usize;
@@ -257,7 +275,7 @@ fn the_judges_see_one_record_that_is_not_ours() {
                 records[m] = generator.choose(&fitting_records(reel, &ours, m));
                 let sheet = with_kept(&three_parts(&sample, &records), reel);
                 let accepted = judged(&mut desk, &sheet) == 0;
-                assert_eq!(accepted, records == ours, "{shape:?} {m}");
+                assert_eq!(accepted, records == ours, "{layout:?} {m}");
             }
         }
     }
@@ -284,11 +302,11 @@ fn some_window(generator: &mut Generator, marks: &[Mark], stop: u8) -> Window {
 fn views_show_what_looking_at_every_mark_shows() {
     let mut generator = Generator::new(5);
     let numbers = [1, 9, 100, 300];
-    for (shape, n) in Shape::ALL
+    for (layout, n) in Layout::ALL
         .into_iter()
-        .flat_map(|shape| numbers.map(|n| (shape, n)))
+        .flat_map(|layout| numbers.map(|n| (layout, n)))
     {
-        let sample = marks(shape, n, 6);
+        let sample = marks(layout, n, 6);
         let [bare, sheet] = sheets(&sample);
         let drawn = [Popups::Any, Popups::Few].map(|how| popups(how, &sample, 6));
         let popping_up = drawn.map(|popups| {
@@ -303,12 +321,14 @@ fn views_show_what_looking_at_every_mark_shows() {
             assert_eq!(
                 answer.map(|count| (map, count)),
                 expected,
-                "{shape:?} {window:?} {stop}"
+                "{layout:?} {window:?} {stop}"
             );
         };
+        let squares = Edition::First.reel(&sample).with_shape(Shape::Square);
+        let [_, squares] = whole_sheets(squares);
         for stop in 0..=17 {
             compare(&bare, Window::WHOLE, stop);
-            for sheet in [&sheet].into_iter().chain(&popping_up) {
+            for sheet in [&sheet, &squares].into_iter().chain(&popping_up) {
                 compare(sheet, Window::WHOLE, stop);
                 for _ in 0..30 {
                     compare(sheet, some_window(&mut generator, &sample, stop), stop);
@@ -334,7 +354,7 @@ fn a_window_is_turned_back_to_the_places_that_it_shows() {
         let unturned = turned_back(window).unturned();
         for (x, y) in (-9..=9).flat_map(|x| (-9..=9).map(move |y| (x, y))) {
             let mark = Mark::plain(x, y, 1, 0);
-            let reaches = |window| oracle::view::reaches(&mark, window, 1);
+            let reaches = |window| oracle::view::reaches(Shape::Disk, &mark, window, 1);
             assert_eq!(reaches(unturned), reaches(window));
         }
     }

@@ -1,9 +1,10 @@
 //! Views by a search down the tree, and walking a map.
 
 use oracle::map::{map_bytes, set_bit};
+use oracle::shape::Shape;
 use oracle::tree::{branches, Axis};
 use oracle::turn::turned;
-use oracle::view::{ask_view, disk_reaches, Edges, Window};
+use oracle::view::{ask_view, label_reaches, Edges, Window};
 use oracle::zoom::{lives, remains, Zoom};
 use oracle::{ask, Refusal};
 
@@ -28,7 +29,7 @@ pub fn visited(sheet: &[u8], window: Window, zoom: Zoom) -> Result<usize, Refusa
 /// The search of a view. Asks 1 to 12.
 fn search(sheet: &[u8], window: Window, zoom: Zoom) -> Result<Search<'_>, Refusal> {
     let indexed = Indexed::of(&open(sheet)?).ok_or(10_u32)?;
-    let k = ask_view(window, zoom)?;
+    let k = ask_view(indexed.shape(), window, zoom)?;
     Ok(Search::new(indexed, turned_back(window), k))
 }
 
@@ -51,6 +52,7 @@ pub fn turned_back(window: Window) -> Edges {
 /// searched.
 struct Search<'a> {
     indexed: Indexed<'a>,
+    shape: Shape,
     edges: Edges,
     k: u32,
     low: [i32; 2],
@@ -58,11 +60,12 @@ struct Search<'a> {
 }
 
 impl<'a> Search<'a> {
-    /// The search with the rectangle widened by the widest disk that is not removed.
+    /// The search with the rectangle widened by the widest label that is not removed.
     fn new(indexed: Indexed<'a>, edges: Edges, k: u32) -> Self {
         let by = (u64::from(k) * u64::from(widest_remaining(&indexed, k)) / 64) as i32;
         Self {
             indexed,
+            shape: indexed.shape(),
             edges,
             k,
             low: [edges.x0, edges.y0].map(|edge| edge - by),
@@ -81,8 +84,9 @@ impl<'a> Search<'a> {
         if !remains(removal, self.k) {
             return 0;
         }
+        let label = || self.indexed.mark(root).label();
         let shown = lives(self.indexed.popup(root), removal, self.k)
-            && disk_reaches(self.indexed.mark(root).label(), self.edges, self.k);
+            && label_reaches(self.shape, label(), self.edges, self.k);
         set_bit(map, root, shown);
         let mut count = u32::from(shown);
         for half in self.halves(left, right, axis) {

@@ -10,12 +10,13 @@ use oracle::process::schedule_in_rank_order;
 use oracle::rank::Edition;
 use oracle::record::{write_records, Record};
 use oracle::reel::Reel;
-use oracle::sample::{marks, popups, Popups, Shape};
+use oracle::sample::{marks, popups, Layout, Popups};
+use oracle::shape::Shape;
 use oracle::sheet::{join, join_parts, open, schedule, split};
 use oracle::tree;
 
-/// The largest work and written buffers that scheduling asks for, the latter without
-/// parts 4, 5 and 6.
+/// The largest work and written buffers that scheduling asks for, the latter without the
+/// parts beyond 3.
 pub const WORK: usize = 32 * 4_096 + 1_024;
 pub const OUT: usize = 32 + 27 * 4_096;
 
@@ -30,8 +31,11 @@ pub const fn popup_bytes(n: usize) -> usize {
 /// What part 6 adds to a sheet.
 pub const COUNTS: usize = 180;
 
+/// What part 7 adds to a sheet.
+pub const SHAPE: usize = 11;
+
 /// The largest written buffer that scheduling asks for.
-pub const LONGEST: usize = OUT + EDITION + popup_bytes(4_096) + COUNTS;
+pub const LONGEST: usize = OUT + EDITION + popup_bytes(4_096) + COUNTS + SHAPE;
 
 /// The sheet of one part with these marks.
 pub fn one_part(marks: &[Mark]) -> Vec<u8> {
@@ -75,6 +79,16 @@ pub fn with_popups(sheet: &[u8], popups: &[u32]) -> Vec<u8> {
     with_part(sheet, 5, &write_popups(popups))
 }
 
+/// The sheet with this part 7.
+pub fn with_part_7(sheet: &[u8], part_7: &[u8]) -> Vec<u8> {
+    with_part(sheet, 7, part_7)
+}
+
+/// The sheet with a shape named in part 7.
+pub fn with_shape(sheet: &[u8], shape: Shape) -> Vec<u8> {
+    with_part_7(sheet, &shape.write())
+}
+
 /// The accepted sheet with the counts of its own schedule in part 6, of which it has none.
 pub fn with_counts(sheet: &[u8]) -> Vec<u8> {
     let opened = open(sheet).unwrap();
@@ -102,6 +116,11 @@ pub fn scheduled_popping_up(marks: &[Mark], popups: &[u32]) -> Vec<u8> {
     schedule_large(&with_popups(&one_part(marks), popups)).unwrap()
 }
 
+/// The sheet of four parts that scheduling these marks with labels of a shape writes.
+pub fn scheduled_as(shape: Shape, marks: &[Mark]) -> Vec<u8> {
+    schedule_large(&with_shape(&one_part(marks), shape)).unwrap()
+}
+
 /// The sheet of five parts that a reel with popups and its edition give, in the order of
 /// rank.
 pub fn five_parts(reel: Reel) -> Vec<u8> {
@@ -110,12 +129,12 @@ pub fn five_parts(reel: Reel) -> Vec<u8> {
     with_popups(&named, reel.popups.expect("the reel has popups"))
 }
 
-/// Calls `visit` with samples of every shape and of these numbers of marks, which pop up in
+/// Calls `visit` with samples of every layout and of these numbers of marks, which pop up in
 /// every way.
 pub fn each_popping_up(numbers: &[usize], mut visit: impl FnMut(&[Mark], &[u32])) {
-    for shape in Shape::ALL {
+    for layout in Layout::ALL {
         for (seed, &n) in (1..).zip(numbers) {
-            let sample = marks(shape, n, seed);
+            let sample = marks(layout, n, seed);
             for how in Popups::ALL {
                 visit(&sample, &popups(how, &sample, seed));
             }

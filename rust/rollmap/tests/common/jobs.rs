@@ -3,11 +3,13 @@
 use oracle::mark::Mark;
 use oracle::record::{read_records, Record};
 use oracle::sample::P1;
+use oracle::sheet::split;
 use rollmap::{Code, Refusal, View, Work, Zoom, MARK_BYTES, NO_POPUP};
 
 use super::views::{assert_view, OUTSIDE};
 use super::{
-    add, bound, longest, number, schedule_in, take_out, write_in, Beyond, Expected, Written,
+    add, bound, longest, named_parts, number, schedule_in, take_out, write_in, Beyond, Expected,
+    Lent, Written,
 };
 
 /// The number of the first question that is answered with no, or 0 where none is: the
@@ -140,6 +142,20 @@ pub fn come_in_buffers_of_its_own(beyond: &Beyond, two: &[Mark; 2]) -> Vec<u8> {
 
 // ---- damaged sheets
 
+/// Sees that putting the parts of a sheet together, which questions 1 to 3 take, is refused by
+/// this number, in a buffer of any length, and writes nothing.
+fn not_put_together(sheet: &[u8], refused: u32) {
+    let Ok(bodies) = split(sheet) else {
+        return;
+    };
+    let named = named_parts(&bodies.present());
+    for length in [0, sheet.len()] {
+        let mut out = Lent::new(length, 3);
+        let answer = rollmap::assemble(&named, out.slice());
+        out.assert_answered(&answer, &Err::<Vec<u8>, _>(refused));
+    }
+}
+
 /// Sees that every job refuses a sheet by this number, in buffers of any length and whatever
 /// else is asked, and writes nothing.
 pub fn refused_by_every_job(sheet: &[u8], refused: u32) {
@@ -158,8 +174,10 @@ pub fn refused_by_every_job(sheet: &[u8], refused: u32) {
     for asked in [View::whole(Zoom::Stop(17)), OUTSIDE] {
         assert_view(sheet, asked, 2, &Err(refused));
     }
+    not_put_together(sheet, refused);
     let part = |&code| rollmap::part(sheet, code);
     assert!(Code::ALL.iter().all(|code| part(code).is_none()));
     assert!(rollmap::popups(sheet).is_none());
     assert!(rollmap::counts(sheet).is_none());
+    assert!(rollmap::shape(sheet).is_none());
 }

@@ -17,12 +17,13 @@ use oracle::process::schedule_in_rank_order;
 use oracle::rank::Edition;
 use oracle::record::{read_records, write_records, Record};
 use oracle::reel::Reel;
-use oracle::sample::{marks, popups, Generator, Popups, Shape, CODES_TAKEN};
+use oracle::sample::{marks, popups, Generator, Layout, Popups, CODES_TAKEN};
+use oracle::shape::Shape;
 use oracle::sheet::{join, join_parts, split, Opened};
 use oracle::tree;
 use rollmap::{
     popups_bytes, scheduled_bytes, work_bytes, Code, Refusal, Work, COUNTED_BYTES, EDITION_BYTES,
-    MARK_BYTES, NO_POPUP, POPUP_BYTES,
+    MARK_BYTES, NO_POPUP, POPUP_BYTES, SHAPE_BYTES,
 };
 
 /// The program, as `rt check schedule` builds it.
@@ -207,7 +208,8 @@ pub fn lengths(n: usize) -> [usize; 2] {
 pub fn longest() -> [usize; 2] {
     let n = rollmap::MOST_MARKS;
     let [work, out] = lengths(n);
-    [work, out + EDITION_BYTES + popups_bytes(n) + COUNTED_BYTES]
+    let beyond = EDITION_BYTES + popups_bytes(n) + COUNTED_BYTES + SHAPE_BYTES;
+    [work, out + beyond]
 }
 
 /// A length near the one that is needed.
@@ -301,6 +303,14 @@ pub fn with_popups(sheet: &[u8], popups: &[u32]) -> Vec<u8> {
     with_part(sheet, 5, &write_popups(popups))
 }
 
+/// The sheet with this part 7.
+pub fn with_part_7(sheet: &[u8], part_7: &[u8]) -> Vec<u8> {
+    with_part(sheet, 7, part_7)
+}
+
+/// What a part 7 may say: nothing, where it is not there, or a shape.
+pub const SHAPED: [Option<Shape>; 3] = [None, Some(Shape::Disk), Some(Shape::Square)];
+
 /// What a part 4 may say: nothing, where it is not there, or an edition.
 pub const NAMED: [Option<Edition>; 3] = [None, Some(Edition::First), Some(Edition::Second)];
 
@@ -315,40 +325,53 @@ pub fn scheduled_with(named: Option<Edition>, marks: &[Mark]) -> Vec<u8> {
 }
 
 /// What a sheet has beyond part 3: an edition, where part 4 names one, popups, where there
-/// is a part 5, and whether it has the counts of its schedule in a part 6.
+/// is a part 5, whether it has the counts of its schedule in a part 6, and a shape, where part
+/// 7 names one.
 #[derive(Clone, Debug, Default, PartialEq, Eq)]
 pub struct Beyond {
     pub named: Option<Edition>,
     pub popups: Option<Vec<u32>>,
     pub counted: bool,
+    pub shaped: Option<Shape>,
 }
 
 impl Beyond {
-    /// Such a part 4 and such popups, and no part 6.
+    /// Such a part 4 and such popups, and no part 6 or 7.
     pub fn uncounted(named: Option<Edition>, popups: Option<Vec<u32>>) -> Self {
         Self {
             named,
             popups,
             counted: false,
+            shaped: None,
         }
     }
 
-    /// Such a part 4, and no part 5 or 6.
+    /// Such a part 4, and no other part beyond 3.
     pub fn named(named: Option<Edition>) -> Self {
         Self::uncounted(named, None)
     }
 
-    /// These popups, and no part 4 or 6.
+    /// These popups, and no other part beyond 3.
     pub fn popping_up(popups: Vec<u32>) -> Self {
         Self::uncounted(None, Some(popups))
     }
 
-    /// The same parts 4 and 5, and a part 6.
+    /// Such a part 7, and no other part beyond 3.
+    pub fn shaped(shaped: Option<Shape>) -> Self {
+        Self::default().with_shape(shaped)
+    }
+
+    /// The same other parts, and a part 6.
     pub fn counted(self) -> Self {
         Self {
             counted: true,
             ..self
         }
+    }
+
+    /// The same other parts, and such a part 7.
+    pub fn with_shape(self, shaped: Option<Shape>) -> Self {
+        Self { shaped, ..self }
     }
 
     /// What an accepted sheet has.
@@ -357,6 +380,7 @@ impl Beyond {
             named: opened.bodies.get(4).map(|_| opened.edition),
             popups: opened.popups.clone(),
             counted: opened.bodies.get(6).is_some(),
+            shaped: opened.bodies.get(7).map(|_| opened.shape),
         }
     }
 
@@ -367,7 +391,20 @@ impl Beyond {
             named: generator.choose(&NAMED),
             popups: (generator.below(3) > 0).then_some(drawn),
             counted: generator.below(3) == 0,
+            shaped: generator.choose(&SHAPED),
         }
+    }
+
+    /// Some parts for these marks with which their labels are disks, so that they are viewed
+    /// with any turn.
+    pub fn draw_disks(generator: &mut Generator, marks: &[Mark]) -> Self {
+        let drawn = Self::draw(generator, marks);
+        drawn.with_shape(generator.choose(&SHAPED[..2]))
+    }
+
+    /// The shape of the labels.
+    pub fn shape(&self) -> Shape {
+        self.shaped.unwrap_or_default()
     }
 
     /// The same without mark m.
@@ -390,6 +427,7 @@ impl Beyond {
             marks,
             edition: self.named.unwrap_or_default(),
             popups: self.popups.as_deref(),
+            shape: self.shape(),
         }
     }
 
@@ -399,9 +437,13 @@ impl Beyond {
             Some(edition) => with_part_4(&sheet, &edition.write()),
             None => sheet,
         };
-        let whole = match &self.popups {
+        let popping_up = match &self.popups {
             Some(popups) => with_popups(&named, popups),
             None => named,
+        };
+        let whole = match self.shaped {
+            Some(shape) => with_part_7(&popping_up, &shape.write()),
+            None => popping_up,
         };
         if self.counted {
             self.count(&whole)
@@ -445,18 +487,20 @@ impl Beyond {
         out += self.named.map_or(0, |_| EDITION_BYTES);
         out += self.popups.as_ref().map_or(0, |_| popups_bytes(n));
         out += if self.counted { COUNTED_BYTES } else { 0 };
+        out += self.shaped.map_or(0, |_| SHAPE_BYTES);
         [work, out]
     }
 }
 
 /// The sheet of these codes, which question 2 takes, that scheduling these marks gives: by
-/// the first edition and these popups, where the sheet has part 4 and part 5, and counted,
-/// where it has part 6.
+/// the first edition and these popups, where the sheet has part 4 and part 5, counted, where it
+/// has part 6, and of squares, where it has part 7.
 pub fn scheduled_of(codes: &[u16], marks: &[Mark], popups: &[u32]) -> Vec<u8> {
     let beyond = Beyond {
         named: codes.contains(&4).then_some(Edition::First),
         popups: codes.contains(&5).then(|| popups.to_vec()),
         counted: codes.contains(&6),
+        shaped: codes.contains(&7).then_some(Shape::Square),
     };
     let whole = beyond.scheduled(marks);
     let mut parts = split(&whole).expect("its parts are joined").present();
@@ -498,14 +542,14 @@ pub fn some_records(generator: &mut Generator, reel: Reel) -> Vec<Record> {
     }
 }
 
-/// A few marks of some shape: most often under 8, at most 40.
+/// A few marks of some layout: most often under 8, at most 40.
 pub fn some_marks(generator: &mut Generator) -> Vec<Mark> {
-    let shape = generator.choose(&Shape::ALL);
+    let layout = generator.choose(&Layout::ALL);
     let n = match generator.below(8) {
         0 => generator.below(41),
         _ => generator.below(8),
     };
-    marks(shape, n as usize, generator.draw())
+    marks(layout, n as usize, generator.draw())
 }
 
 /// Marks on a few points with few radii and priorities, so that most pairs have the
@@ -552,7 +596,9 @@ pub fn another_record(generator: &mut Generator, reel: Reel, own: Record) -> Rec
             changed = Record::removed(other, reel.pair_value(other, mark));
         }
         2 if other < marks.len() => {
-            changed = Record::removed(other, touching_value(&marks[other], &marks[mark]));
+            let shape = generator.choose(&Shape::ALL);
+            let touching = touching_value(shape, &marks[other], &marks[mark]);
+            changed = Record::removed(other, touching);
         }
         3 => changed.value = reduced(own.value),
         4 => changed.value = scaled(generator, own.value),
@@ -607,20 +653,15 @@ pub fn odd_number(generator: &mut Generator, own: u64) -> u64 {
 /// the sheet has.
 pub struct SomeBodies {
     pub codes: &'static [u16],
-    pub bodies: [Vec<u8>; 6],
+    pub bodies: [Vec<u8>; 7],
 }
 
-/// The codes of a sheet that has an index.
-const INDEXED: [&[u16]; 8] = [
-    &[1, 2, 3],
-    &[1, 2, 3, 4],
-    &[1, 2, 3, 5],
-    &[1, 2, 3, 6],
-    &[1, 2, 3, 4, 5],
-    &[1, 2, 3, 4, 6],
-    &[1, 2, 3, 5, 6],
-    &[1, 2, 3, 4, 5, 6],
-];
+/// The codes of some sheet that has an index.
+fn indexed(generator: &mut Generator) -> &'static [u16] {
+    let lists = CODES_TAKEN.into_iter();
+    let indexed: Vec<&[u16]> = lists.filter(|codes| codes.contains(&3)).collect();
+    generator.choose(&indexed)
+}
 
 impl SomeBodies {
     /// Bodies with none, one or two faults.
@@ -634,11 +675,13 @@ impl SomeBodies {
         };
         let codes = match generator.below(3) {
             0 => generator.choose(&CODES_TAKEN),
-            _ => generator.choose(&INDEXED),
+            _ => indexed(generator),
         };
         let drawn = popups(generator.choose(&Popups::ALL), &marks, generator.draw());
         let named = codes.contains(&4).then(|| generator.choose(&Edition::ALL));
         let beyond = Beyond::uncounted(named, codes.contains(&5).then_some(drawn));
+        let shaped = codes.contains(&7).then(|| generator.choose(&Shape::ALL));
+        let beyond = beyond.with_shape(shaped);
         let reel = beyond.reel(&marks);
         let mut records = some_records(generator, reel);
         if !marks.is_empty() && generator.below(3) == 0 {
@@ -649,7 +692,8 @@ impl SomeBodies {
         let part_4 = reel.edition.write().to_vec();
         let part_5 = write_popups(reel.popups.unwrap_or_default());
         let part_6 = part_6(reel, &records);
-        let mut bodies = [part_1, part_2, part_3, part_4, part_5, part_6];
+        let part_7 = reel.shape.write().to_vec();
+        let mut bodies = [part_1, part_2, part_3, part_4, part_5, part_6, part_7];
         for _ in 0..generator.choose(&[0, 0, 1, 1, 2]) {
             damage_body(generator, &mut bodies);
         }
@@ -717,8 +761,8 @@ fn put_fault(generator: &mut Generator, rows: &mut [u8], width: usize, faults: &
 }
 
 /// Puts one fault into one of the bodies.
-fn damage_body(generator: &mut Generator, bodies: &mut [Vec<u8>; 6]) {
-    let body = generator.choose(&[0, 1, 2, 2, 3, 3, 4, 4, 5, 5]);
+fn damage_body(generator: &mut Generator, bodies: &mut [Vec<u8>; 7]) {
+    let body = generator.choose(&[0, 1, 2, 2, 3, 3, 4, 4, 5, 5, 6, 6]);
     let length = bodies[body].len();
     match generator.below(8) {
         0 => {
@@ -763,8 +807,9 @@ pub fn some_sheet(generator: &mut Generator) -> Vec<u8> {
         0 => sheet.truncate(generator.below(sheet.len() as u32) as usize),
         1 => sheet.extend(vec![0; 1 + generator.below(20) as usize]),
         2 => {
-            let at = generator.below(62.min(sheet.len() as u32)) as usize;
-            sheet[at] = generator.choose(&[0, 1, 2, 3, 4, 5, 6, 7, 12, 22, 32, 42, 52, 62, 255]);
+            let at = generator.below(72.min(sheet.len() as u32)) as usize;
+            let near = [0, 1, 2, 3, 4, 5, 6, 7, 8, 12, 22, 32, 42, 52, 62, 72, 255];
+            sheet[at] = generator.choose(&near);
         }
         3 => {
             let at = generator.below(sheet.len() as u32) as usize;

@@ -5,6 +5,7 @@ use oracle::fraction::Removal;
 use oracle::mark::Mark;
 use oracle::record::{removals, Record};
 use oracle::sample::Generator;
+use oracle::shape::Shape;
 use oracle::view::{map_and_count, Edges, Window};
 use oracle::zoom::{removal_zoom_in_64ths, zoom_in_64ths};
 use rollmap::{Code, Turn, View, Zoom, FARTHEST_EDGE};
@@ -126,7 +127,7 @@ impl Scheduled {
         let k = in_64ths(zoom);
         View {
             zoom,
-            ..some_window(generator, &self.marks, turn, k)
+            ..some_window(generator, self.beyond.shape(), &self.marks, turn, k)
         }
     }
 
@@ -158,14 +159,20 @@ impl Scheduled {
 // ---- windows
 
 /// All places with this turn, a rectangle between the turned places of two marks, one that
-/// a disk just reaches or just misses at k/64, or a small one anywhere.
-pub fn some_window(generator: &mut Generator, marks: &[Mark], turn: Turn, k: u32) -> View {
+/// a label of this shape just reaches or just misses at k/64, or a small one anywhere.
+pub fn some_window(
+    generator: &mut Generator,
+    shape: Shape,
+    marks: &[Mark],
+    turn: Turn,
+    k: u32,
+) -> View {
     if marks.is_empty() || generator.below(12) == 0 {
         return View { turn, ..WHOLE };
     }
     match generator.below(3) {
         0 => between_marks(generator, marks, turn),
-        1 => beside_a_disk(generator, marks, turn, k).0,
+        1 => beside_a_label(generator, shape, marks, turn, k).0,
         _ => anywhere(generator, turn),
     }
 }
@@ -198,7 +205,7 @@ pub fn some_edge(generator: &mut Generator) -> i32 {
     generator.below(2 * FARTHEST_EDGE as u32 + 1) as i32 - FARTHEST_EDGE
 }
 
-/// A rectangle of up to 9 places a side, which most disks are wider than.
+/// A rectangle of up to 9 places a side, which most labels are wider than.
 pub fn anywhere(generator: &mut Generator, turn: Turn) -> View {
     let mut side = || {
         let low = some_edge(generator);
@@ -207,10 +214,12 @@ pub fn anywhere(generator: &mut Generator, turn: Turn) -> View {
     rectangle(side(), side(), turn)
 }
 
-/// A rectangle whose nearest place is as far from a turned mark as its disk at k/64
-/// reaches, as near as whole numbers allow, or one unit further; with the mark's number.
-pub fn beside_a_disk(
+/// A rectangle whose nearest place is as far from a turned mark as its label of this shape
+/// reaches at k/64, as near as whole numbers allow, or one unit further; with the mark's
+/// number.
+pub fn beside_a_label(
     generator: &mut Generator,
+    shape: Shape,
     marks: &[Mark],
     turn: Turn,
     k: u32,
@@ -225,24 +234,38 @@ pub fn beside_a_disk(
         _ => u64::from(generator.below(reach.min(65_535) as u32 + 1)),
     };
     let squared = u64::from(k).pow(2) * radius.pow(2) / 4_096;
-    let across = (squared - along * along).isqrt() + u64::from(generator.below(2));
+    let (along, across) = match shape {
+        Shape::Disk => (along, (squared - along * along).isqrt()),
+        // Its corner, too.
+        Shape::Square => (generator.choose(&[along, reach]), reach),
+    };
+    let across = across + u64::from(generator.below(2));
+    let exchanged = shape == Shape::Square && generator.below(2) == 0;
     let mut side = |place: i32, distance: u64| {
         let distance = distance.min(65_536) as i32 * generator.choose(&[1, -1]);
         let near = place + distance;
         let far = near + distance.signum() * generator.choose(&[0, 3, 1_000, 40_000]);
         [near, far]
     };
-    let (one, other) = (side(label.x, along), side(label.y, across));
+    let [along_x, along_y] = if exchanged {
+        [across, along]
+    } else {
+        [along, across]
+    };
+    let (one, other) = (side(label.x, along_x), side(label.y, along_y));
     (rectangle(one, other, turn), number)
 }
 
-/// Whether a turned mark's disk at k/64 touches the rectangle from outside.
-pub fn touches(mark: &Mark, view: View, k: u32) -> bool {
+/// Whether a turned mark's label of this shape at k/64 touches the rectangle from outside.
+pub fn touches(shape: Shape, mark: &Mark, view: View, k: u32) -> bool {
     let label = mark.label().turned(view.turn.quarters());
     let dx = i64::from(label.x - label.x.clamp(view.x0, view.x1));
     let dy = i64::from(label.y - label.y.clamp(view.y0, view.y1));
     let reach = i64::from(k) * i64::from(label.radius);
-    (64 * dx).pow(2) + (64 * dy).pow(2) == reach.pow(2)
+    match shape {
+        Shape::Disk => (64 * dx).pow(2) + (64 * dy).pow(2) == reach.pow(2),
+        Shape::Square => 64 * dx.abs().max(dy.abs()) == reach,
+    }
 }
 
 // ---- zooms

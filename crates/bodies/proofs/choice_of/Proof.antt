@@ -1,4 +1,4 @@
--- `bodies::edition_of` meets its contract: the first byte, and 1 where there is none. Assumes nothing.
+-- `bodies::choice_of` meets its contract: the first byte, and 1 where there is none. Assumes nothing.
 use Prim.Native.Nat.{ℕ}
 use mathlib.Core.Path.{_≡_, refl}
 use mathlib.Core.List.{List, [], _∷_}
@@ -6,16 +6,16 @@ use native.Mathlib.Omega.{arith}
 use borrow.Author.Needs.{needs}
 use lib.ListN.{length, getD}
 use denote.Ref.{now}
-use Rattle.bodies.specs.Questions.{editionIn}
-use Rattle.bodies.proofs.edition_of.Statement.{statement}
-use Rattle.bodies.proofs.edition_of.Tie as tie
+use Rattle.bodies.specs.Questions.{choiceIn}
+use Rattle.bodies.proofs.choice_of.Statement.{statement}
+use Rattle.bodies.proofs.choice_of.Tie as tie
 
-none : (body : List ℕ) → length body ≡ 0 → 1 ≡ editionIn body
+none : (body : List ℕ) → length body ≡ 0 → 1 ≡ choiceIn body
 none [] h = refl
 none (x ∷ body) h = absurd (omega arith)
 
 -- where there is one, it does not matter what stands for a missing one
-some : (body : List ℕ) → (length body ≡ 0 → ⊥) → getD body 0 0 ≡ editionIn body
+some : (body : List ℕ) → (length body ≡ 0 → ⊥) → getD body 0 0 ≡ choiceIn body
 some [] h = absurd (h refl)
 some (x ∷ body) h = refl
 
@@ -28,5 +28,5 @@ shared-slice-read-result c = search needs
 returns-2 : tie.Need-returns-2
 returns-2 c = some (now (c .before .before .args .body)) (λ e. absurd (omega (arith, e, c .before .if1 .left)))
 
-pub edition-of-spec : {M : Type 1} → statement M
-edition-of-spec = tie.close (tie.spec returns shared-slice-read-result returns-2)
+pub choice-of-spec : {M : Type 1} → statement M
+choice-of-spec = tie.close (tie.spec returns shared-slice-read-result returns-2)
