@@ -9,7 +9,7 @@ use lib.ListN.{length, getD, drop}
 use Rattle.lists.specs.Tests.{bit}
 use Rattle.lists.specs.TestLaws.{many-same}
 use Rattle.numbers.specs.Little.{Bytes}
-use Rattle.bitmap.specs.Map.{mapSize, mapBytes, countShown, shownFrom, bitAt, isSet, nextSet, walk}
+use Rattle.bitmap.specs.Map.{mapSize, mapBytes, countShown, bitAt, isSet, nextSet, walk}
 use Rattle.bitmap.specs.Facts.{Shows, MapCleared, Walked, countBits}
 use Rattle.bitmap.specs.Lemmas.Bits.{no-bit}
 use Rattle.bitmap.specs.Lemmas.Counts as Counts
@@ -85,13 +85,6 @@ shown-set {shown} s m h = rw (s .bits m h) (go (shown m))
     go : (b : Bool) → eqb (bit b) 1 ≡ b
     go true = refl
     go false = refl
-
--- Two tests that agree on the numbers have the same list.
-pub shown-same : (p q : ℕ → Bool) (left m : ℕ) → ((k : ℕ) → m ≤ k → k < m + left → p k ≡ q k) → shownFrom p left m ≡ shownFrom q left m
-unfolding shownFrom
-shown-same p q zero m h = refl
-shown-same p q (suc left) m h =
-    rw (h m (omega arith) (omega arith), shown-same p q left (suc m) (λ k l u. h k (omega arith) (omega arith)))
 
 -- The rule leaves one answer: what keeps it is the walk's.
 pub walked-is : {map : List ℕ} {n start r : ℕ} → n ≤ 4096 → Walked map n start r → r ≡ walk map n start

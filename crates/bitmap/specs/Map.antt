@@ -30,11 +30,6 @@ mapBytes shown n = mapPart (λ m. ltb m n && shown m) (mapSize n)
 unfoldable pub countShown : (ℕ → Bool) → ℕ → ℕ
 countShown shown n = howMany shown n
 
--- the shown ones of the `left` numbers from m on, rising
-unfoldable pub shownFrom : (ℕ → Bool) → ℕ → ℕ → List ℕ
-shownFrom shown zero m = []
-shownFrom shown (suc left) m = cond (shown m) (m ∷ shownFrom shown left (suc m)) (shownFrom shown left (suc m))
-
 -- ---- reading a map
 
 -- mark m's bit

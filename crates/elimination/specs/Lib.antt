@@ -6,6 +6,7 @@ pub mod Process
 pub mod Records
 pub mod Reel
 pub mod Alike
+pub mod Important
 pub mod Settled
 pub mod RankOrder
 pub mod Theorems

@@ -1,5 +1,5 @@
--- Demand 3 over the bytes of sheets, and what 02's request 9 adds of popups: what is claimed. Theorems proves it of every sheet scheduled
--- here, and the contracts of scheduling and of viewing cite it.
+-- Demand 3 over the bytes of sheets, and what 02's requests 9 and 14 add of popups and of marks of lower priority: what is claimed. Theorems
+-- proves it of every sheet scheduled here, and the contracts of scheduling and of viewing cite it.
 use Prim.Native.Nat.{ℕ, _<_}
 use mathlib.Core.Path.{_≡_}
 use mathlib.Core.Bool.{Bool, _&&_}
@@ -15,6 +15,7 @@ use Rattle.elimination.specs.Marks.{Marks}
 use Rattle.elimination.specs.Records.{valueAt}
 use Rattle.elimination.specs.Reel.{marksOf, scheduleOf}
 use Rattle.elimination.specs.Rules.{FirstRule, SecondRule, AllSound}
+use Rattle.elimination.specs.Important.{SameImportant, Unmoved}
 use Rattle.contents.specs.Contents.{Part, has, split, marksPart, schedulePart, popupsPart}
 use Rattle.contents.specs.Asking.{answer}
 use Rattle.bodies.specs.Questions.{markCount, editionOf, shapeOf, reelFrom, reelOf}
@@ -70,6 +71,17 @@ pub record Demand3 (s : List ℕ) : Type 0 where
       → (e : Window) (zoom : Zoom) (buffer : List ℕ) → answer (viewQuestions s e zoom (length buffer)) ≡ 0
       → ShowsLiving s e zoom list (after (viewJob s e zoom (length buffer)) buffer) ((viewJob s e zoom (length buffer)) .value)
 
+-- ---- "Notes don't move breaks": two sheets, `s` and `t`
+
+-- They are "of the same edition and shape" and "hold the same marks of priority p and above, in the same order and with the same popups". Where part
+-- 4, 5 or 7 is not there, that counts as edition 1, popups of 0 and disks.
+abbrev pub HoldSame : ℕ → List ℕ → List ℕ → Type 0
+HoldSame p s t = SameImportant p (reelOf (split s)) (reelOf (split t))
+
+-- "these marks have the same removal values and, counted among themselves, the same eliminators"
+abbrev pub FareSame : ℕ → List ℕ → List ℕ → Type 0
+FareSame p s t = Unmoved p (reelOf (split s)) (schedulePart (split s)) (reelOf (split t)) (schedulePart (split t))
+
 -- ---- what the contracts cite
 
 -- Of scheduling these marks with parts that are kept, and with counts or without, which answered r and left `out`: a success has written a sheet
@@ -92,6 +104,8 @@ pub record Meets (marks : List ℕ) (kept : List Part) (counted : Bool) (r : Ans
   -- "it isn't there while 64z is below k": nobody is removed before it pops up. Each removal value is at least the mark's own k²/4096.
   pub popped : r .number ≡ 0 → (m : ℕ) → m < markCount marks → (f : Fraction) → sheetValue (take (r .value) out) m ≡ At f
       → AtMost (popupValue (popupAt (popupsPart kept) m)) f
+  -- 02, request 14: whatever stands below priority p moves nothing above it.
+  pub unmoved : r .number ≡ 0 → (t : List ℕ) → ScheduledHere t → (p : ℕ) → HoldSame p (take (r .value) out) t → FareSame p (take (r .value) out) t
 
 -- Of viewing the sheet s, which answered r and left `map`.
 pub record MeetsView (s : List ℕ) (e : Window) (zoom : Zoom) (r : Answer) (map : List ℕ) : Type 0 where

@@ -1,4 +1,4 @@
--- Demands 2 and 3 over the bytes of sheets, with popups. Assumes nothing.
+-- Demands 2 and 3 over the bytes of sheets, with popups, and that notes don't move breaks. Assumes nothing.
 use Prim.Native.Nat.{ℕ, zero, suc, _+_, _*_, _<_, _≤_}
 use mathlib.Core.Path.{_≡_, sym, ap, _∙_}
 use mathlib.Core.Bool.{Bool, true, false}
@@ -10,8 +10,8 @@ use lib.Dec.{leb}
 use lib.ListN.{length, take, drop, length-append, length-take, length-map}
 use lib.Seq.{take-append-seam}
 use Rattle.lists.specs.Stores.{over}
-use Rattle.lists.specs.TestLaws.{both-iff}
-use Rattle.lists.specs.Tests.{bit}
+use Rattle.lists.specs.TestLaws.{both-iff, passing-same}
+use Rattle.lists.specs.Tests.{bit, passing}
 use Rattle.numbers.specs.Little.{Bytes}
 use Rattle.fractions.specs.declared.Fraction.{Fraction}
 use Rattle.fractions.specs.declared.Value.{Value}
@@ -19,9 +19,11 @@ use Rattle.fractions.specs.declared.Value.the-variants.{At}
 use Rattle.fractions.specs.Order.{Equal, AtMost}
 use Rattle.marks.specs.Good.{GoodMarks}
 use Rattle.marks.specs.Pairs.{popupAt, popupValue}
+use Rattle.elimination.specs.Records.{valueAt}
 use Rattle.elimination.specs.Reel.{Reel, GoodReel, scheduleOf}
 use Rattle.elimination.specs.Schedule.{schedule-popped, schedule-iff, schedule-later}
-use Rattle.elimination.specs.Unmoved.{unpopped-schedule}
+use Rattle.elimination.specs.Important.{importantCount, importantAt}
+use Rattle.elimination.specs.Unmoved.{unpopped-schedule, important-unmoved, same-value}
 use Rattle.contents.specs.Contents.{Part, _holds_, codesOf, bodiesOf, countAt, has, split, join, together, marksPart, schedulePart, popupsPart}
 use Rattle.contents.specs.Asking.{Question, answer}
 use Rattle.contents.specs.Laws.{Numbered, asked-iff, append-iff, count-iff, split-length, split-join, join-bytes, together-parts}
@@ -31,14 +33,14 @@ use Rattle.bodies.specs.Fitting.{Fitting}
 use Rattle.bodies.specs.Laws.{fitting-writable, popups-good}
 use Rattle.sheet.specs.Questions.{sheetCount, checkQuestions, check, indexedQuestions, question10}
 use Rattle.sheet.specs.Laws.{check-numbered, indexed-numbered, indexed-iff, accepted-iff, parts-iff, join-accepted, sheet-again, parts-again}
-use Rattle.bitmap.specs.Map.{mapSize, mapBytes, countShown, shownFrom, isSet}
+use Rattle.bitmap.specs.Map.{mapSize, mapBytes, countShown, isSet}
 use Rattle.bitmap.specs.Facts.{Shows}
-use Rattle.bitmap.specs.Laws.{map-shows, map-length, count-same, shown-set, shown-same}
+use Rattle.bitmap.specs.Laws.{map-shows, map-length, count-same, shown-set}
 use Rattle.zoom.specs.declared.Zoom.{Zoom}
 use Rattle.zoom.specs.Zoom.{scaleOf, scale}
 use Rattle.zoom.specs.Living.{zoomSquared, livesAt}
 use Rattle.view.specs.declared.Window.{Window}
-use Rattle.counting.specs.Lives.{lives}
+use Rattle.counting.specs.Lives.{poppedUp, lives}
 use Rattle.view.specs.Shown.{shown}
 use Rattle.view.specs.Questions.{viewQuestions, isMap, walkQuestions}
 use Rattle.jobs.specs.declared.Answer.{Answer}
@@ -46,7 +48,7 @@ use Rattle.jobs.specs.Jobs.{Outcome, outcome, after, keptParts, newCount
 use Rattle.jobs.specs.Jobs.{areCounted, assembleQuestions, assembleJob, shownIn, viewJob, walksFrom, isShownJob}
 use Rattle.jobs.specs.Answers.{answerOf, Gives}
 use Rattle.jobs.specs.Parts.{Joins}
-use Rattle.jobs.specs.Demand3.{sheetValue, IsList, KeepsRules, shownBy, ShowsLiving, Demand3, Meets, MeetsView}
+use Rattle.jobs.specs.Demand3.{sheetValue, IsList, KeepsRules, shownBy, ShowsLiving, Demand3, HoldSame, FareSame, Meets, MeetsView}
 use Rattle.jobs.specs.Laws.Given.{together-take, together-named}
 use Rattle.jobs.specs.Laws.Outcomes.{outcome-yes, outcome-number, all-yes, kept-bytes}
 use Rattle.jobs.specs.Laws.Kept.{KeptRight, kept-right, alone-fits, kept-beside, kept-edition, kept-shape, kept-popups, counts-there}
@@ -401,11 +403,35 @@ module _ (s : List ℕ) (here : ScheduledHere s) where
   pub demand3 : Demand3 s
   demand3 = record { same = same-iff; view = view-living }
 
+-- ---- 02, request 14: "Notes don't move breaks", of two sheets scheduled here
+
+module _ (s t : List ℕ) (here : ScheduledHere s) (there : ScheduledHere t) (p : ℕ) (same : HoldSame p s t) where
+  pub notes-unmoved : FareSame p s t
+  notes-unmoved =
+      rw (schedule-is s here, schedule-is t there)
+      (important-unmoved p (reelOf (split s)) (reelOf (split t)) (reel-good s here) (reel-good t there) same)
+
+  -- So at every zoom the same of them live.
+  module _ (i : ℕ) (h : i < importantCount p (reelOf (split s))) where
+    abbrev a : ℕ
+    a = importantAt p (reelOf (split s)) i
+
+    abbrev b : ℕ
+    b = importantAt p (reelOf (split t)) i
+
+    pub notes-value : sheetValue s a ≡ sheetValue t b
+    unfolding valueAt
+    notes-value = same-value (notes-unmoved i h)
+
+    pub notes-lives : (k : ℕ) → lives (sheetValue s a) (popupsPart (split s)) k a ≡ lives (sheetValue t b) (popupsPart (split t)) k b
+    unfolding lives poppedUp
+    notes-lives k = rw (notes-value, same .marks i h .popup)
+
 -- ---- the walk as a whole, over the jobs
 
 -- Walking from 0, each next from one past the last, hands out exactly the set bits below n, rising, and then 65,535.
 pub walk-whole : (map : List ℕ) (n turns : ℕ) → answer (walkQuestions map n) ≡ 0 → n < turns
-    → walksFrom map n turns 0 ≡ shownFrom (isSet map) n 0 ++ (65535 ∷ [])
+    → walksFrom map n turns 0 ≡ passing (isSet map) n 0 ++ (65535 ∷ [])
 walk-whole map n turns asked enough = walks-all map n (map-taken map n asked) n 0 turns (omega arith) enough
 
 -- Of a view's map these are exactly the shown marks, and each is told by its bit. `buffer` is what the lent map held.
@@ -432,11 +458,11 @@ module _ (s : List ℕ) (e : Window) (zoom : Zoom) (buffer : List ℕ) (taken : 
       map-iff map (sheetCount s) .1 (accepted-iff s .0 ok .fitting .marks .few, long)
 
   pub walk-view : (turns : ℕ) → sheetCount s < turns
-      → walksFrom map (sheetCount s) turns 0 ≡ shownFrom (shownIn s e zoom) (sheetCount s) 0 ++ (65535 ∷ [])
+      → walksFrom map (sheetCount s) turns 0 ≡ passing (shownIn s e zoom) (sheetCount s) 0 ++ (65535 ∷ [])
   walk-view turns enough =
       walks-all map (sheetCount s) is-map (sheetCount s) 0 turns (omega arith) enough
       ∙ ap (λ (l : List ℕ). l ++ (65535 ∷ []))
-      (shown-same (isSet map) (shownIn s e zoom) (sheetCount s) 0 (λ m low h. shown-set shows m (omega arith)))
+      (passing-same (isSet map) (shownIn s e zoom) (sheetCount s) 0 (λ m low h. shown-set shows m (omega arith)))
 
   pub is-shown-view : (m : ℕ) → m < sheetCount s
       → isShownJob map (sheetCount s) m ≡ record { number = 0; value = bit (shownIn s e zoom m); written = [] }
@@ -462,6 +488,7 @@ module _ (checks : List Question) (numbered : Numbered checks) (marks : List ℕ
         demand3 = λ z. rw (written z) (demand3 (scheduledFrom marks others counted) (here z));
         unpopped = λ z. rw (written z) (from-unpopped marks others counted (pass (ok z)));
         popped = λ z. rw (written z) (from-popped marks others counted (pass (ok z)));
+        unmoved = λ z t there p. rw (written z) (notes-unmoved (scheduledFrom marks others counted) t (here z) there p);
       }
     where
       ok : r .number ≡ 0 → answer checks ≡ 0

@@ -1,15 +1,17 @@
--- Tests as statements: what 'and', 'or' and 'not' say, `every`, a test as a number, and `howMany`. Assumes nothing.
+-- Tests as statements: what 'and', 'or' and 'not' say, `every`, a test as a number, `howMany` and `passing`. Assumes nothing.
 use Prim.Native.Nat.{ℕ, zero, suc, _+_, _<_, _≤_}
 use mathlib.Core.Path.{_≡_, refl, sym, ap, _∙_, subst⁻¹}
-use mathlib.Core.Bool.{Bool, true, false, not, _&&_, _||_, false≢true}
+use mathlib.Core.Bool.{Bool, true, false, cond, not, _&&_, _||_, false≢true}
+use mathlib.Core.List.{List, [], _∷_}
 use mathlib.Core.Logic.{_↔_, _⊎_, inl, inr}
-use native.Mathlib.Nat.{add-zero}
+use native.Mathlib.Nat.{add-zero, add-suc, suc-add}
 use native.Mathlib.Numerals.{add-one}
-use native.Mathlib.Decide.{decLt}
+use native.Mathlib.Decide.{decLt, ℕ-discrete}
 use native.Mathlib.Omega.{arith}
 use borrow.Author.Tests.{not-true, not-false, lt-ltb, le-ltb}
 use lib.Dec.{ltb}
-use Rattle.lists.specs.Tests.{every, bit, howMany}
+use lib.ListN.{length, getD}
+use Rattle.lists.specs.Tests.{every, bit, howMany, passing}
 
 -- ---- truth tables
 
@@ -158,16 +160,16 @@ many-none p (suc n) h = omega (arith, many-none p n (λ m k. h m (omega arith)),
 -- Of a test that no number passes after one that fails, the numbers that pass are the first ones.
 module _ (p : ℕ → Bool) (falls : (m : ℕ) → p (suc m) ≡ true → p m ≡ true) where
   -- whose number counts them
-  passing : (n : ℕ) → p n ≡ true → howMany p n ≡ n
+  first-pass : (n : ℕ) → p n ≡ true → howMany p n ≡ n
   unfolding howMany
-  passing zero e = refl
-  passing (suc n) e = omega (arith, passing n (falls n e), bit-true (falls n e))
+  first-pass zero e = refl
+  first-pass (suc n) e = omega (arith, first-pass n (falls n e), bit-true (falls n e))
 
   -- the last one that is asked passes, or no other counts
   many-turn : (n : ℕ) (b : Bool) → p n ≡ b → ((m : ℕ) → m < n → p m ≡ ltb m (howMany p n)) → howMany p n ≤ n
       → (m : ℕ) → m < suc n → p m ≡ ltb m (howMany p n + bit b)
   many-turn n true e h most m l =
-      let all = passing n e in
+      let all = first-pass n e in
       elim (decLt m n) [
         | yes k ↦ h m k ∙ lt-ltb m (howMany p n) (omega arith) ∙ sym (lt-ltb m (howMany p n + 1) (omega arith))
         | no k ↦ (let i : m ≡ n = omega arith in ap p i ∙ e ∙ sym (lt-ltb m (howMany p n + 1) (omega arith)))
@@ -182,3 +184,57 @@ module _ (p : ℕ → Bool) (falls : (m : ℕ) → p (suc m) ≡ true → p m �
   unfolding howMany
   many-first zero m l = absurd (omega arith)
   many-first (suc n) m l = many-turn n (p n) refl (many-first n) (many-most p n) m l
+
+-- ---- the numbers that pass
+
+-- the same tests, the same numbers
+pub passing-same : (p q : ℕ → Bool) (left m : ℕ) → ((k : ℕ) → m ≤ k → k < m + left → p k ≡ q k) → passing p left m ≡ passing q left m
+unfolding passing
+passing-same p q zero m h = refl
+passing-same p q (suc left) m h =
+    rw (h m (omega arith) (omega arith), passing-same p q left (suc m) (λ k l u. h k (omega arith) (omega arith)))
+
+-- `l` has those of the numbers from lo up to, not including, hi that pass, each once and rising.
+pub record Passes (test : ℕ → Bool) (lo hi : ℕ) (l : List ℕ) : Type 0 where
+  pub inside : (i : ℕ) → i < length l → (lo ≤ getD l i 0) × (getD l i 0 < hi)
+  pub passed : (i : ℕ) → i < length l → test (getD l i 0) ≡ true
+  pub rising : (i j : ℕ) → i < j → j < length l → getD l i 0 < getD l j 0
+  pub onto : (h : ℕ) → lo ≤ h → h < hi → test h ≡ true → (j : ℕ) × (j < length l) × (getD l j 0 ≡ h)
+
+module _ (test : ℕ → Bool) where
+  more-pass : (lo hi : ℕ) (l : List ℕ) → lo < hi → Passes test (suc lo) hi l → (b : Bool) → test lo ≡ b → Passes test lo hi (cond b (lo ∷ l) l)
+  more-pass lo hi l some x true e = record { inside = inside; passed = passed; rising = rising; onto = onto }
+    where
+      inside : (i : ℕ) → i < length (lo ∷ l) → (lo ≤ getD (lo ∷ l) i 0) × (getD (lo ∷ l) i 0 < hi)
+      inside zero h = (omega arith, some)
+      inside (suc i) h = let y = x .inside i (omega arith) in (omega (arith, y .0), y .1)
+
+      passed : (i : ℕ) → i < length (lo ∷ l) → test (getD (lo ∷ l) i 0) ≡ true
+      passed zero h = e
+      passed (suc i) h = x .passed i (omega arith)
+
+      rising : (i j : ℕ) → i < j → j < length (lo ∷ l) → getD (lo ∷ l) i 0 < getD (lo ∷ l) j 0
+      rising i zero o h = absurd (omega arith)
+      rising zero (suc j) o h = omega (arith, x .inside j (omega arith) .0)
+      rising (suc i) (suc j) o h = x .rising i j (omega arith) (omega arith)
+
+      onto : (h : ℕ) → lo ≤ h → h < hi → test h ≡ true → (j : ℕ) × (j < length (lo ∷ l)) × (getD (lo ∷ l) j 0 ≡ h)
+      onto h a b p =
+          elim (ℕ-discrete lo h) [
+            | yes q ↦ (0, omega arith, q)
+            | no d ↦ (let (j, hj, q) = x .onto h (omega arith) b p in (suc j, omega arith, q))
+          ]
+  more-pass lo hi l some x false e =
+      record {
+        inside = λ i h. (let y = x .inside i h in (omega (arith, y .0), y .1));
+        passed = x .passed;
+        rising = x .rising;
+        onto = λ h a b p. elim (ℕ-discrete lo h) [ yes q ↦ absurd (false≢true (sym e ∙ ap test q ∙ p)) | no d ↦ x .onto h (omega arith) b p ];
+      }
+
+  pub passing-is : (left lo : ℕ) → Passes test lo (lo + left) (passing test left lo)
+  unfolding passing
+  passing-is zero lo =
+      record { inside = λ i h. absurd (omega arith); passed = λ i h. absurd (omega arith); rising = λ i j o h. absurd (omega arith); onto = λ h a b p. absurd (omega arith) }
+  passing-is (suc left) lo =
+      more-pass lo (lo + suc left) (passing test left (suc lo)) (omega arith) (rw (add-suc lo left, ← suc-add lo left) (passing-is left (suc lo))) (test lo) refl

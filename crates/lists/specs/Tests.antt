@@ -1,6 +1,7 @@
--- Tests: one that holds of every number below n, one as a number, and how many numbers pass one.
+-- Tests: one that holds of every number below n, one as a number, how many numbers pass one, and which.
 use Prim.Native.Nat.{ℕ, zero, suc, _+_}
-use mathlib.Core.Bool.{Bool, true, false, _&&_}
+use mathlib.Core.Bool.{Bool, true, false, cond, _&&_}
+use mathlib.Core.List.{List, [], _∷_}
 
 -- `test` holds of every number below n
 unfoldable pub every : (ℕ → Bool) → ℕ → Bool
@@ -15,3 +16,8 @@ bit false = 0
 unfoldable pub howMany : (ℕ → Bool) → ℕ → ℕ
 howMany test zero = 0
 howMany test (suc n) = howMany test n + bit (test n)
+
+-- those of the `left` numbers from m on that pass, rising
+unfoldable pub passing : (ℕ → Bool) → ℕ → ℕ → List ℕ
+passing test zero m = []
+passing test (suc left) m = cond (test m) (m ∷ passing test left (suc m)) (passing test left (suc m))

@@ -34,7 +34,7 @@ pub record Rectangle : Type 0 where
 unfoldable pub distanceSquared : ℕ → Rectangle → Place → ℕ
 distanceSquared shape e q = distance shape (gap (e .x0) (e .x1) (q .x)) (gap (e .y0) (e .y1) (q .y))
 
--- The disk about the place q whose radius is r pixels, "at z reaches the rectangle, touching included: the squared distance from point to
+-- The label about the place q whose radius is r pixels, "at z reaches the rectangle, touching included: the squared distance from point to
 -- rectangle, times 4096, is at most k² times the squared radius". Request 13: for squares the distance is their own "in touching and in
 -- reaching a rectangle".
 unfoldable pub labelReaches : ℕ → ℕ → Rectangle → Place → ℕ → Bool

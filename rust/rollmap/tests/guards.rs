@@ -5,7 +5,7 @@ mod common;
 use std::io::Write;
 use std::process::{Command, Stdio};
 
-use common::jobs::records;
+use common::jobs::{records, records_among};
 use common::{
     bound, one_part, rivals, some_records, three_parts, with_part_4, with_part_7, with_popups,
     Beyond, PROGRAM,
@@ -111,7 +111,7 @@ fn every_test_that_the_page_names_is_here() {
     let sentences = GUARDS.lines().filter_map(|line| line.split_once("Test: "));
     let named = cells.chain(sentences.map(|(_, name)| name.trim_end_matches('.')));
     let names: Vec<&str> = named.flat_map(|names| names.split(", ")).collect();
-    assert_eq!(names.len(), 42);
+    assert_eq!(names.len(), 44);
     for name in names {
         let test = format!("#[test]\nfn {}()", name.trim_matches('`'));
         assert!(own.contains(&test), "{name}");
@@ -998,6 +998,50 @@ fn a_sheet_keeps_its_popups() {
     let given = with_popups(&old, &[NO_POPUP; 4]);
     let more = add_to_vec(&given, bound(&P1[0]), 640).unwrap();
     assert_eq!(own(&more), [0, 0, 0, 0, 640]);
+}
+
+// ---- operators' notes
+
+/// The marks, each of another priority.
+fn ranked(marks: Vec<Mark>, priority: impl Fn(u16) -> u16) -> Vec<Mark> {
+    let ranked = |mark: Mark| Mark {
+        priority: priority(mark.priority),
+        ..mark
+    };
+    marks.into_iter().map(ranked).collect()
+}
+
+#[test]
+fn notes_do_not_move_breaks() {
+    let breaks = ranked(marks(Layout::Clustered, 60, 14), |p| 900 + p % 5);
+    let notes = ranked(marks(Layout::Clustered, 200, 15), |p| p % 900);
+    let alone = scheduled(&breaks);
+    let all = scheduled(&[notes.as_slice(), &breaks].concat());
+    assert_eq!(records_among(&all, 900), records_among(&alone, 900));
+    assert_ne!(eliminators(&all)[200..], eliminators(&alone)[..]);
+    // At every zoom the same of them live.
+    for k in [1, 9, 64, 200, 1_000, 65_536] {
+        let of_breaks = shown(&all, wheel(k)).into_iter().filter(|&m| m >= 200);
+        let own: Vec<u32> = of_breaks.map(|m| m - 200).collect();
+        assert_eq!(own, shown(&alone, wheel(k)));
+    }
+}
+
+#[test]
+fn notes_may_stand_on_breaks() {
+    let alone = scheduled(&P1);
+    let mut sheet = alone.clone();
+    for mark in P1 {
+        let note = Mark {
+            radius: 16_383,
+            priority: 0,
+            ..mark
+        };
+        sheet = add_to_vec(&sheet, bound(&note), NO_POPUP).unwrap();
+    }
+    assert_eq!(records_among(&sheet, 1), records_among(&alone, 1));
+    // The notes give way: each is gone where it touches.
+    assert!(eliminators(&sheet)[4..].iter().all(Option::is_some));
 }
 
 // ---- what every consumer checks once

@@ -9,9 +9,10 @@ use borrow.Author.Tests.{leb-true, le-leb, lt-ltb, le-ltb, ne-eqb}
 use mathlib.Core.Logic.{_↔_}
 use lib.Dec.{leb, eqb}
 use lib.ListN.{length}
+use Rattle.lists.specs.Tests.{passing}
 use Rattle.lists.specs.TestLaws.{both-iff}
 use Rattle.contents.specs.Asking.{answer}
-use Rattle.bitmap.specs.Map.{mapSize, bitAt, isSet, shownFrom, walk}
+use Rattle.bitmap.specs.Map.{mapSize, bitAt, isSet, walk}
 use Rattle.bitmap.specs.Laws.{walked, walk-end, walk-here, walk-past}
 use Rattle.view.specs.Questions.{isMap, walkQuestions}
 use Rattle.jobs.specs.Jobs.{outcome, walkJob, walksFrom, isShownJob}
@@ -64,8 +65,8 @@ module _ (bytes : List ℕ) (n : ℕ) (ok : isMap bytes n ≡ true) where
   one-turn turns start = rw (value-is start)
 
   pub walks-all : (left start turns : ℕ) → start + left ≡ n → left < turns
-      → walksFrom bytes n turns start ≡ shownFrom (isSet bytes) left start ++ (65535 ∷ [])
-  unfolding shownFrom
+      → walksFrom bytes n turns start ≡ passing (isSet bytes) left start ++ (65535 ∷ [])
+  unfolding passing
   walks-all left start zero e h = absurd (omega arith)
   walks-all zero start (suc turns) e h = one-turn turns start ∙ rw (walk-end bytes n start (omega arith))
   walks-all (suc left) start (suc turns) e h =
@@ -75,10 +76,10 @@ module _ (bytes : List ℕ) (n : ℕ) (ok : isMap bytes n ≡ true) where
       few = map-iff bytes n .0 ok .0
 
       rest : List ℕ
-      rest = shownFrom (isSet bytes) left (suc start) ++ (65535 ∷ [])
+      rest = passing (isSet bytes) left (suc start) ++ (65535 ∷ [])
 
       go : (b : Bool) → isSet bytes start ≡ b → walksFrom bytes n turns (suc start) ≡ rest → walksFrom bytes n (suc turns) (suc start) ≡ rest
-          → walksFrom bytes n (suc turns) start ≡ cond b (start ∷ shownFrom (isSet bytes) left (suc start)) (shownFrom (isSet bytes) left (suc start)) ++ (65535 ∷ [])
+          → walksFrom bytes n (suc turns) start ≡ cond b (start ∷ passing (isSet bytes) left (suc start)) (passing (isSet bytes) left (suc start)) ++ (65535 ∷ [])
       go true b next same =
           one-turn turns start ∙ rw (walk-here bytes n start (omega arith) b, ne-eqb start 65535 (λ q. omega (arith, few)), next)
       go false b next same =

@@ -1,6 +1,6 @@
 //! What the tests of several jobs see in the same way.
 
-use oracle::mark::Mark;
+use oracle::mark::{read_marks, Mark};
 use oracle::record::{read_records, Record};
 use oracle::sample::P1;
 use oracle::sheet::split;
@@ -38,6 +38,29 @@ pub fn assert_made(sheet: &[u8], made: Result<Vec<u8>, Refusal>, expected: &Expe
 /// The records of an accepted sheet that has part 2.
 pub fn records(sheet: &[u8]) -> Vec<Record> {
     read_records(rollmap::part(sheet, Code::Schedule).unwrap())
+}
+
+/// The numbers of the marks of priority p and above.
+pub fn important(marks: &[Mark], p: u16) -> Vec<usize> {
+    let numbered = marks.iter().enumerate();
+    let important = numbered.filter(|(_, mark)| mark.priority >= p);
+    important.map(|(m, _)| m).collect()
+}
+
+/// The records of the marks of priority p and above of an accepted sheet that has part 2, with
+/// eliminators counted among them.
+pub fn records_among(sheet: &[u8], p: u16) -> Vec<Record> {
+    let marks = read_marks(rollmap::part(sheet, Code::Marks).unwrap());
+    let (numbers, records) = (important(&marks, p), records(sheet));
+    let counted = |&m: &usize| match records[m] {
+        Record::NEVER => Record::NEVER,
+        Record { eliminator, value } => {
+            let own = |&number: &usize| number == usize::from(eliminator);
+            let own = numbers.iter().position(own);
+            Record::removed(own.expect("whoever removes one is one"), value)
+        }
+    };
+    numbers.iter().map(counted).collect()
 }
 
 // ---- rows
