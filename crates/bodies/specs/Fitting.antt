@@ -10,7 +10,8 @@ use Rattle.elimination.specs.Records.{recordSize}
 use Rattle.index.specs.Index.{isIndex}
 use Rattle.counting.specs.Counts.{countsOf}
 use Rattle.contents.specs.Contents.{Part, has, marksPart, schedulePart, indexPart, editionPart, popupsPart, countsPart, shapePart}
-use Rattle.bodies.specs.Questions.{countOf, isChoice, isPopups, reelOf, isSchedule}
+use Rattle.parts.specs.Questions.{isChoice, isPopups, isSchedule}
+use Rattle.bodies.specs.Questions.{countOf, reelOf}
 
 -- 4 to 6, of a sheet's parts: they hold n marks, each of them right.
 pub record Marked (parts : List Part) (n : ℕ) : Type 0 where

@@ -2,4 +2,3 @@
 pub mod Numbered
 pub mod Fitting
 pub mod Small
-pub mod Records

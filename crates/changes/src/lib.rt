@@ -59,7 +59,7 @@ pub fn schedule(sheet: &[u8], work: &mut [u8], out: &mut [u8]) -> Answer
 fn is_new_popup(there: bool, k: u32) -> bool
     ensures { λ r. ⌜ r ≡ isNewPopup there k ⌝ }
 {
-    bodies::is_popup(k) && (there || k == 0)
+    parts::is_popup(k) && (there || k == 0)
 }
 
 // A new mark's row of part 5, where that is there, and else nothing.
@@ -101,7 +101,7 @@ pub fn add(
     if MOST_MARKS <= n {
         return steps::refused(18);
     }
-    let wrong = bodies::fields_answer(kind, radius);
+    let wrong = parts::fields_answer(kind, radius);
     if wrong != 0 {
         return steps::refused(wrong);
     }

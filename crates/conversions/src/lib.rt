@@ -17,7 +17,7 @@ pub fn fill(marks: &[u8], out: &mut [u8]) -> Answer
     ensures { λ r. ⌜ Gives (fillJob (now (marks .entry)) (length (now (out .entry)))) (now (out .entry)) r (now (out .exit)) ⌝ }
     ensures { λ r. ⌜ MeetsFilling (now (marks .entry)) r (now (out .exit)) ⌝ }
 {
-    let number = bodies::part1_answer(marks);
+    let number = parts::part1_answer(marks);
     if number != 0 {
         return steps::refused(number);
     }
@@ -63,7 +63,7 @@ pub fn marks_to_log(marks: &[u8], out: &mut [u8]) -> Answer
     ensures { λ r. ⌜ Gives (marksToLogJob (now (marks .entry)) (length (now (out .entry)))) (now (out .entry)) r (now (out .exit)) ⌝ }
     ensures { λ r. ⌜ MeetsMarks (now (marks .entry)) r (now (out .exit)) ⌝ }
 {
-    let number = bodies::part1_answer(marks);
+    let number = parts::part1_answer(marks);
     if number != 0 {
         return steps::refused(number);
     }
@@ -87,7 +87,7 @@ pub fn to_columns(marks: &[u8], out: &mut [u8]) -> Answer
     ensures { λ r. ⌜ Gives (toColumnsJob (now (marks .entry)) (length (now (out .entry)))) (now (out .entry)) r (now (out .exit)) ⌝ }
     ensures { λ r. ⌜ MeetsColumns (now (marks .entry)) r (now (out .exit)) ⌝ }
 {
-    if !bodies::is_marks(marks) {
+    if !parts::is_marks(marks) {
         return steps::refused(4);
     }
     let n = marks.len() / MARK_SIZE;
@@ -108,7 +108,7 @@ pub fn from_columns(columns: &[u8], out: &mut [u8]) -> Answer
     ensures { λ r. ⌜ Gives (fromColumnsJob (now (columns .entry)) (length (now (out .entry)))) (now (out .entry)) r (now (out .exit)) ⌝ }
     ensures { λ r. ⌜ MeetsRows (now (columns .entry)) r (now (out .exit)) ⌝ }
 {
-    if !bodies::is_marks(columns) {
+    if !parts::is_marks(columns) {
         return steps::refused(4);
     }
     let n = columns.len() / MARK_SIZE;

@@ -9,7 +9,7 @@ use Rattle.numbers.specs.Little.{leBytes}
 use Rattle.marks.specs.Marks.{markSize, radiusOffset, priorityOffset, radiusAt, kindAt, oldRadius}
 use Rattle.contents.specs.Asking.{Question, _asks_}
 use Rattle.rows.specs.Rows.{rows}
-use Rattle.bodies.specs.Questions.{markCount, part1Questions}
+use Rattle.parts.specs.Questions.{markCount, part1Questions}
 
 -- "each radius 0 written as the number in 01's old table": the radius that counted by 01
 unfoldable pub filledRadius : ℕ → ℕ → ℕ

@@ -6,8 +6,8 @@ use lib.ListN.{length}
 use Rattle.marks.specs.Marks.{markSize, radiusAt, kindAt, usedAt}
 use Rattle.marks.specs.Good.{GoodMarks}
 use Rattle.contents.specs.Asking.{answer}
-use Rattle.bodies.specs.Questions.{markCount, part1Questions}
-use Rattle.bodies.specs.Laws.{part1-iff}
+use Rattle.parts.specs.Questions.{markCount, part1Questions}
+use Rattle.parts.specs.Laws.{part1-iff}
 use Rattle.filling.specs.Filling.{filledRadius, filled}
 use Rattle.filling.specs.Lemmas.Filled as Lemmas
 

@@ -5,7 +5,7 @@ use mathlib.Core.List.{List}
 use lib.IntN.{ℤ}
 use lib.ListN.{length}
 use Rattle.marks.specs.declared.Mark.{Mark}
-use Rattle.view.specs.declared.Window.{Window}
+use Rattle.reaching.specs.declared.Window.{Window}
 use Rattle.jobs.specs.declared.Answer.{Answer}
 use Rattle.jobs.specs.Jobs.{Outcome, after}
 

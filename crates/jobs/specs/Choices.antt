@@ -14,12 +14,13 @@ use Rattle.numbers.specs.Little.{Bytes}
 use Rattle.contents.specs.Contents.{Part, find, has, withPart, split, marksPart, schedulePart, editionPart, popupsPart, shapePart}
 use Rattle.contents.specs.Asking.{Question, answer}
 use Rattle.contents.specs.Laws.{find-none, with-found, with-there, with-other-found, with-other-there, asked-no, append-yes, append-no}
-use Rattle.bodies.specs.Questions.{choiceIn, reelOf, isChoice, isChosen, question7, question8, question9, question19, lastQuestions, bodyQuestions, question21, question23, question24}
+use Rattle.parts.specs.Questions.{choiceIn, isChoice}
+use Rattle.bodies.specs.Questions.{reelOf, isChosen, question7, question8, question9, question19, lastQuestions, bodyQuestions, question21, question23, question24}
 use Rattle.sheet.specs.Questions.{checkQuestions, check, question10, indexedQuestions}
 use Rattle.sheet.specs.Laws.{check-numbered, indexed-numbered, indexed-iff}
 use Rattle.zoom.specs.declared.Zoom.{Zoom}
-use Rattle.view.specs.declared.Window.{Window}
-use Rattle.view.specs.Questions.{viewQuestions}
+use Rattle.reaching.specs.declared.Window.{Window}
+use Rattle.reaching.specs.Questions.{viewQuestions}
 use Rattle.jobs.specs.Jobs.{partIf, keptParts, newParts, scheduled, shownIn, viewJob}
 use Rattle.jobs.specs.Theorems.{scheduled-parts}
 use Rattle.jobs.specs.Laws.Outcomes.{outcome-same}

@@ -23,8 +23,8 @@ use Rattle.marks.specs.PairLaws.{popup-none}
 use Rattle.contents.specs.Contents.{Part, has, split, marksPart, editionPart, popupsPart, shapePart}
 use Rattle.contents.specs.Asking.{answer}
 use Rattle.contents.specs.Laws.{Numbered, numbered-append, none-asked, asked-iff, append-iff, find-none, find-bytes}
-use Rattle.bodies.specs.Questions.{markCount, fieldQuestions, isPopup, isPopups}
-use Rattle.bodies.specs.Laws.{field-iff, popups-iff}
+use Rattle.parts.specs.Questions.{markCount, fieldQuestions, isPopup, isPopups}
+use Rattle.parts.specs.Laws.{field-iff, popups-iff}
 use Rattle.rows.specs.Rows.{without}
 use Rattle.changing.specs.Changing.{added, takenOut, addedPopup, takenOutPopup}
 use Rattle.changing.specs.Laws.{added-length, added-bytes, added-fields, added-good, added-taken, taken-length, taken-good, taken-bytes, added-popup-length, added-popup-below, added-popup-last, added-popup-taken, added-popup-bytes, taken-popup-length, taken-popup-below, taken-popup-above, taken-popup-bytes}

@@ -15,8 +15,8 @@ use Rattle.contents.specs.Asking.{answer}
 use Rattle.sheet.specs.Questions.{sheetCount, check}
 use Rattle.bitmap.specs.Map.{isSet}
 use Rattle.zoom.specs.declared.Zoom.the-variants.{Stop}
-use Rattle.view.specs.declared.Window.{Window}
-use Rattle.view.specs.Questions.{viewQuestions}
+use Rattle.reaching.specs.declared.Window.{Window}
+use Rattle.reaching.specs.Questions.{viewQuestions}
 use Rattle.jobs.specs.declared.Answer.{Answer}
 use Rattle.jobs.specs.Jobs.{wrote, after, countJob, viewJob}
 

@@ -18,16 +18,17 @@ use Rattle.elimination.specs.Rules.{FirstRule, SecondRule, AllSound}
 use Rattle.elimination.specs.Important.{SameImportant, Unmoved}
 use Rattle.contents.specs.Contents.{Part, has, split, marksPart, schedulePart, popupsPart}
 use Rattle.contents.specs.Asking.{answer}
-use Rattle.bodies.specs.Questions.{markCount, editionOf, shapeOf, reelFrom, reelOf}
+use Rattle.parts.specs.Questions.{markCount, reelFrom}
+use Rattle.bodies.specs.Questions.{editionOf, shapeOf, reelOf}
 use Rattle.sheet.specs.Questions.{sheetCount, sheetShape, check}
 use Rattle.bitmap.specs.Map.{countShown}
 use Rattle.bitmap.specs.Facts.{Shows}
 use Rattle.zoom.specs.declared.Zoom.{Zoom}
 use Rattle.zoom.specs.Zoom.{scaleOf, scale}
-use Rattle.view.specs.declared.Window.{Window}
+use Rattle.reaching.specs.declared.Window.{Window}
 use Rattle.counting.specs.Lives.{lives}
-use Rattle.view.specs.Shown.{reaches}
-use Rattle.view.specs.Questions.{viewQuestions}
+use Rattle.reaching.specs.Shown.{reaches}
+use Rattle.reaching.specs.Questions.{viewQuestions}
 use Rattle.jobs.specs.declared.Answer.{Answer}
 use Rattle.jobs.specs.Jobs.{after, keptParts, scheduled, ScheduledHere, viewJob}
 

@@ -5,7 +5,7 @@ use mathlib.Core.List.{List, [], _∷_}
 use lib.ListN.{length, take}
 use Rattle.marks.specs.Marks.{radiusAt, kindAt, usedAt}
 use Rattle.contents.specs.Asking.{answer}
-use Rattle.bodies.specs.Questions.{markCount, part1Questions}
+use Rattle.parts.specs.Questions.{markCount, part1Questions}
 use Rattle.filling.specs.Filling.{filledRadius}
 use Rattle.jobs.specs.declared.Answer.{Answer}
 use Rattle.jobs.specs.Jobs.{assembleJob, fillJob}

@@ -17,7 +17,8 @@ use Rattle.contents.specs.Contents.{Part, _holds_, bodiesOf, find, has, split, 
 use Rattle.contents.specs.Questions.{isCount, codesRight}
 use Rattle.contents.specs.Asking.{Question, _asks_, answer}
 use Rattle.columns.specs.Columns.{toColumns, fromColumns}
-use Rattle.bodies.specs.Questions.{question4, markCount, countOf, editionOf, shapeOf, reelFrom, reelOf, fieldQuestions, isPopup}
+use Rattle.parts.specs.Questions.{question4, markCount, reelFrom, fieldQuestions, isPopup}
+use Rattle.bodies.specs.Questions.{countOf, editionOf, shapeOf, reelOf}
 use Rattle.judging.specs.Judge.{judgeSchedule}
 use Rattle.changing.specs.Changing.{added, takenOut, addedPopup, takenOutPopup}
 use Rattle.filling.specs.Filling.{filled, fillQuestions}
@@ -26,10 +27,10 @@ use Rattle.logs.specs.Questions.{logQuestions, marksQuestions}
 use Rattle.sheet.specs.Questions.{sheetCount, sheetShape, checkQuestions, check, indexedQuestions, partsQuestions}
 use Rattle.zoom.specs.declared.Zoom.{Zoom}
 use Rattle.zoom.specs.Zoom.{scaleOf, scale}
-use Rattle.view.specs.declared.Window.{Window}
-use Rattle.view.specs.Shown.{shown}
+use Rattle.reaching.specs.declared.Window.{Window}
+use Rattle.reaching.specs.Shown.{shown}
 use Rattle.bitmap.specs.Map.{mapBytes, countShown, bitAt, walk}
-use Rattle.view.specs.Questions.{viewQuestions, walkQuestions}
+use Rattle.reaching.specs.Questions.{viewQuestions, walkQuestions}
 
 -- ---- outcomes
 

@@ -5,7 +5,7 @@ use mathlib.Core.Path.{_≡_}
 use mathlib.Core.List.{List}
 use lib.ListN.{length, take}
 use Rattle.contents.specs.Asking.{answer}
-use Rattle.bodies.specs.Questions.{markCount, part1Questions}
+use Rattle.parts.specs.Questions.{markCount, part1Questions}
 use Rattle.logs.specs.Log.{recordCount}
 use Rattle.logs.specs.Questions.{logChecks}
 use Rattle.jobs.specs.declared.Answer.{Answer}

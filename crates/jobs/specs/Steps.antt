@@ -14,8 +14,8 @@ use Rattle.indexing.specs.Buffer.{indexEnd}
 use Rattle.contents.specs.Contents.{Part, codesOf, bodiesOf, sizesOf, contentsOf, split, marksPart, schedulePart, popupsPart}
 use Rattle.contents.specs.Asking.{_asks_}
 use Rattle.sheet.specs.Questions.{sheetCount, sheetShape}
-use Rattle.view.specs.declared.Window.{Window}
-use Rattle.view.specs.Shown.{shown}
+use Rattle.reaching.specs.declared.Window.{Window}
+use Rattle.reaching.specs.Shown.{shown}
 use Rattle.bitmap.specs.Map.{mapSize, mapBytes, countShown}
 use Rattle.jobs.specs.Jobs.{Outcome, outcome, partIf, newSchedule, newIndex, newParts}
 

@@ -19,8 +19,8 @@ use Rattle.bitmap.specs.Map.{mapSize, mapBytes, countShown}
 use Rattle.zoom.specs.declared.Zoom.the-variants.{Stop, Wheel}
 use Rattle.zoom.specs.Zoom.{scaleOf}
 use Rattle.zoom.specs.Laws.{stop-wheel, stop-refused}
-use Rattle.view.specs.declared.Window.{Window}
-use Rattle.view.specs.Questions.{question20, question11, isTaken, viewQuestions}
+use Rattle.reaching.specs.declared.Window.{Window}
+use Rattle.reaching.specs.Questions.{question20, question11, isTaken, viewQuestions}
 use Rattle.jobs.specs.declared.Answer.{Answer}
 use Rattle.jobs.specs.Jobs.{shownIn, viewJob}
 use Rattle.jobs.specs.Answers.{refusal, answerOf, Gives}

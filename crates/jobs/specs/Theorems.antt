@@ -28,7 +28,8 @@ use Rattle.contents.specs.Contents.{Part, _holds_, codesOf, bodiesOf, countAt, 
 use Rattle.contents.specs.Asking.{Question, answer}
 use Rattle.contents.specs.Laws.{Numbered, asked-iff, append-iff, count-iff, split-length, split-join, join-bytes, together-parts}
 use Rattle.contents.specs.Questions.{isCount, codesRight}
-use Rattle.bodies.specs.Questions.{markCount, editionOf, shapeOf, reelFrom, reelOf}
+use Rattle.parts.specs.Questions.{markCount, reelFrom}
+use Rattle.bodies.specs.Questions.{editionOf, shapeOf, reelOf}
 use Rattle.bodies.specs.Fitting.{Fitting}
 use Rattle.bodies.specs.Laws.{fitting-writable, popups-good}
 use Rattle.sheet.specs.Questions.{sheetCount, checkQuestions, check, indexedQuestions, question10}
@@ -39,10 +40,10 @@ use Rattle.bitmap.specs.Laws.{map-shows, map-length, count-same, shown-set}
 use Rattle.zoom.specs.declared.Zoom.{Zoom}
 use Rattle.zoom.specs.Zoom.{scaleOf, scale}
 use Rattle.zoom.specs.Living.{zoomSquared, livesAt}
-use Rattle.view.specs.declared.Window.{Window}
+use Rattle.reaching.specs.declared.Window.{Window}
 use Rattle.counting.specs.Lives.{poppedUp, lives}
-use Rattle.view.specs.Shown.{shown}
-use Rattle.view.specs.Questions.{viewQuestions, isMap, walkQuestions}
+use Rattle.reaching.specs.Shown.{shown}
+use Rattle.reaching.specs.Questions.{viewQuestions, isMap, walkQuestions}
 use Rattle.jobs.specs.declared.Answer.{Answer}
 use Rattle.jobs.specs.Jobs.{Outcome, outcome, after, keptParts, newCounts, newParts, scheduledFrom, scheduled, scheduledSize, hasRoom, schedulingQuestions, schedulingJob, scheduleJob, ScheduledHere, LeftByScheduling}
 use Rattle.jobs.specs.Jobs.{areCounted, assembleQuestions, assembleJob, shownIn, viewJob, walksFrom, isShownJob}

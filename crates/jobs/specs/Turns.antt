@@ -18,16 +18,17 @@ use Rattle.changing.specs.Turned.{turnedAt, turnedMarks, TurnedFit}
 use Rattle.changing.specs.TurnedLaws.{turned-length, turned-bytes, turned-fields, turned-used, turned-good, turned-rank, turned-pair}
 use Rattle.contents.specs.Contents.{Part, _holds_, split, join, marksPart, schedulePart, popupsPart}
 use Rattle.contents.specs.Asking.{Question, _asks_, answer}
-use Rattle.bodies.specs.Questions.{markCount, editionOf, shapeOf, reelFrom}
+use Rattle.parts.specs.Questions.{markCount, reelFrom}
+use Rattle.bodies.specs.Questions.{editionOf, shapeOf}
 use Rattle.sheet.specs.Questions.{sheetCount, sheetShape, check}
 use Rattle.zoom.specs.declared.Zoom.{Zoom}
 use Rattle.zoom.specs.Zoom.{scaleOf}
 use Rattle.bitmap.specs.Map.{mapSize}
 use Rattle.bitmap.specs.Laws.{map-same, count-same}
-use Rattle.view.specs.declared.Window.{Window}
-use Rattle.view.specs.Shown.{reaches, shown}
-use Rattle.view.specs.Laws.{view-asked, disks-taken}
-use Rattle.view.specs.Questions.{isWindow, question20, question11, isTaken, viewQuestions}
+use Rattle.reaching.specs.declared.Window.{Window}
+use Rattle.reaching.specs.Shown.{reaches, shown}
+use Rattle.reaching.specs.Laws.{view-asked, disks-taken}
+use Rattle.reaching.specs.Questions.{isWindow, question20, question11, isTaken, viewQuestions}
 use Rattle.jobs.specs.declared.Answer.{Answer}
 use Rattle.jobs.specs.Jobs.{keptParts, newParts, scheduledFrom, scheduled, ScheduledHere, shownIn, viewJob}
 use Rattle.jobs.specs.Answers.{Gives}

@@ -19,9 +19,9 @@ fn is_ours(sheet: &[u8], layout: Layout) -> bool
     let marks = contents::part(sheet, layout, 1);
     let schedule = contents::part(sheet, layout, 2);
     let index = contents::part(sheet, layout, 3);
-    let edition = bodies::choice_of(contents::part(sheet, layout, 4));
+    let edition = parts::choice_of(contents::part(sheet, layout, 4));
     let popups = contents::part(sheet, layout, 5);
-    let shape = bodies::choice_of(contents::part(sheet, layout, 7));
+    let shape = parts::choice_of(contents::part(sheet, layout, 7));
     let n = marks.len() / MARK_SIZE;
     judging::judge(marks, edition, shape, popups, schedule, index, n)
 }

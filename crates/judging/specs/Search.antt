@@ -21,7 +21,7 @@ use Rattle.index.specs.Index.{beats, coordinate, axisKey, indexEntrySize, isInd
 use Rattle.index.specs.Valid.{isTree}
 use Rattle.index.specs.Blocks.{entryAt}
 use Rattle.index.specs.Check.{AllBelow}
-use Rattle.bodies.specs.Questions.{isSchedule}
+use Rattle.parts.specs.Questions.{isSchedule}
 use Rattle.judging.specs.declared.Subject.{Subject}
 use Rattle.judging.specs.declared.Corner.{Corner}
 

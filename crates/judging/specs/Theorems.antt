@@ -15,7 +15,7 @@ use Rattle.elimination.specs.Records.{recordSize, valueAt, eliminatorAt, remova
 use Rattle.elimination.specs.Reel.{Reel, marksOf, GoodReel, scheduleOf}
 use Rattle.elimination.specs.Sheet.{sheet-proper}
 use Rattle.elimination.specs.Schedule.{schedule-value, schedule-reads}
-use Rattle.bodies.specs.Questions.{isSchedule}
+use Rattle.parts.specs.Questions.{isSchedule}
 use Rattle.judging.specs.Judge.{judge, judgeSchedule}
 use Rattle.judging.specs.Lemmas.Judged.{judge-iff}
 use Rattle.judging.specs.Lemmas.Ours.{removalOf, judged-ours, ours-first, ours-names}

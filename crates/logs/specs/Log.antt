@@ -6,7 +6,7 @@ use lib.ListN.{length, take, drop}
 use Rattle.numbers.specs.Little.{leAt, leBytes}
 use Rattle.marks.specs.Marks.{markSize, radiusOffset, xAt, yAt, placeBits}
 use Rattle.rows.specs.Rows.{rows}
-use Rattle.bodies.specs.Questions.{markCount}
+use Rattle.parts.specs.Questions.{markCount}
 use Rattle.packed.specs.Packed.{coordinateAt, packed}
 
 -- ---- a log's records; `s` is the log and `r` a record's number

@@ -6,7 +6,7 @@ use lib.Dec.{leb, eqb}
 use lib.ListN.{length}
 use Rattle.marks.specs.Marks.{markSize}
 use Rattle.contents.specs.Asking.{Question, _asks_, inTurn}
-use Rattle.bodies.specs.Questions.{markCount, fieldQuestions, part1Questions}
+use Rattle.parts.specs.Questions.{markCount, fieldQuestions, part1Questions}
 use Rattle.packed.specs.Packed.{coordinateAt, packedAt, isPlace}
 use Rattle.logs.specs.Log.{logRecordSize, logYOffset, recordCount, radiusOf, kindOf}
 

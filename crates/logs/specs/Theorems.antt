@@ -9,8 +9,8 @@ use Rattle.marks.specs.Marks.{markSize}
 use Rattle.marks.specs.Good.{GoodMarks}
 use Rattle.contents.specs.Asking.{answer}
 use Rattle.contents.specs.Laws.{Numbered}
-use Rattle.bodies.specs.Questions.{markCount, part1Questions}
-use Rattle.bodies.specs.Laws.{part1-iff}
+use Rattle.parts.specs.Questions.{markCount, part1Questions}
+use Rattle.parts.specs.Laws.{part1-iff}
 use Rattle.logs.specs.Log.{logRecordSize, recordCount, marksOfLog, logOfMarks}
 use Rattle.logs.specs.Questions.{logChecks}
 use Rattle.logs.specs.Right.{LogRight}

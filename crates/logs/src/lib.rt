@@ -11,7 +11,7 @@ ghost use Rattle.marks.specs.Marks.{markSize, placeBits};
 ghost use Rattle.contents.specs.Asking.{answer, inTurn};
 ghost use Rattle.rows.specs.Rows.{rows};
 ghost use Rattle.packed.specs.Packed.{isPlace, coordinateAt};
-ghost use Rattle.bodies.specs.Questions.{fieldQuestions};
+ghost use Rattle.parts.specs.Questions.{fieldQuestions};
 ghost use Rattle.logs.specs.Log.{logRecordSize, radiusOf, kindOf, markOfRecord, recordOfMark};
 ghost use Rattle.logs.specs.Questions.{logSize, placeQuestions, recordQuestions, logChecks};
 ghost use Rattle.logs.specs.Right.{LogRight};
@@ -58,7 +58,7 @@ fn field_answer(s: &[u8], r: usize) -> u32
 {
     let kind = numbers::read(s, LOG_RECORD_SIZE * r + LOG_KIND_OFFSET, 1) as u8;
     let radius = numbers::read_u16(s, LOG_RECORD_SIZE * r + LOG_RADIUS_OFFSET);
-    bodies::fields_answer(kind, radius)
+    parts::fields_answer(kind, radius)
 }
 
 // All questions of record r: x, y, and then the fields.

@@ -23,7 +23,8 @@ use Rattle.contents.specs.Questions.{question1, codesRight, question3, contents
 use Rattle.rows.specs.Rows as Rows
 use Rattle.columns.specs.Columns.{asColumns, asMarks, differences, sums, toColumns, fromColumns}
 use Rattle.changing.specs.Changing.{added, takenOut, addedPopup, takenOutPopup}
-use Rattle.bodies.specs.Questions.{question4, markQuestions, part1Questions, isChoice, isPopup, isPopups, question7, isChosen, question19, question21, question24, namesRight, recordRight, isSchedule, isSized, question8, question9, question23, lastQuestions, bodyQuestions}
+use Rattle.parts.specs.Questions.{question4, markQuestions, part1Questions, isChoice, isPopup, isPopups, namesRight, recordRight, isSchedule}
+use Rattle.bodies.specs.Questions.{question7, isChosen, question19, question21, question24, isSized, question8, question9, question23, lastQuestions, bodyQuestions}
 use Rattle.judging.specs.Judge.{some, bothLater, firstRule, causes, secondRule, namesHighest, judge, judgeSchedule}
 use Rattle.filling.specs.Filling.{filledRadius, filled, fillQuestions}
 use Rattle.packed.specs.Packed.{magnitude, isMinus, withSign, areDigits, isLast, isPacked, isPlace, packedOf}
@@ -35,13 +36,13 @@ use Rattle.zoom.specs.declared.Zoom.the-variants.{Stop, Wheel}
 use Rattle.zoom.specs.Zoom.{stopScale, wheelScale, scaleOf}
 use Rattle.zoom.specs.Living.{livesAt}
 use Rattle.zoom.specs.Printed.{rootStep, root, nearestFrom, nearest}
-use Rattle.view.specs.declared.Window.{Window}
+use Rattle.reaching.specs.declared.Window.{Window}
 use Rattle.turns.specs.Turns.{unit, quarter, productAt, times, turn, applied, turnedPlace}
-use Rattle.view.specs.Shown.{gap, distanceSquared, labelReaches, reaches, shown}
+use Rattle.reaching.specs.Shown.{gap, distanceSquared, labelReaches, reaches, shown}
 use Rattle.counting.specs.Lives.{poppedUp, lives}
 use Rattle.counting.specs.Counts.{livesAtStop, inGroup, livingCount, countsOf, isCounts}
 use Rattle.bitmap.specs.Map.{mapByte, mapPart, mapBytes, countShown}
-use Rattle.view.specs.Questions as Viewing
+use Rattle.reaching.specs.Questions as Viewing
 use Rattle.jobs.specs.Jobs.{outcome, checkJob, scheduled, schedulingQuestions, schedulingJob, addChecks, addJob, takeOutChecks, takeOutJob, question22, judgeQuestions, judgeJob, withOwnCounts, countChecks, countJob, columnQuestions, toColumnsJob, fromColumnsJob, assembleQuestions, assembleJob, fillJob, logToMarksJob, marksToLogJob, shownIn, viewJob}
 use Rattle.text.specs.Text.{digits}
 use Rattle.listing.specs.Lines.{text, line, markLine, markLines, listing, refusalLine}

@@ -38,9 +38,9 @@ pub fn print(input: &[u8], work: &mut [u8], schedule: &mut [u8], out: &mut [u8])
     let layout = contents::layout_of(input);
     let marks = contents::part(input, layout, 1);
     let n = marks.len() / MARK_SIZE;
-    let edition = bodies::choice_of(contents::part(input, layout, 4));
+    let edition = parts::choice_of(contents::part(input, layout, 4));
     let popups = contents::part(input, layout, 5);
-    let shape = bodies::choice_of(contents::part(input, layout, 7));
+    let shape = parts::choice_of(contents::part(input, layout, 7));
     scheduling::schedule(marks, edition, shape, popups, work, schedule, n);
     listing::put_listing(schedule, out, n)
 }

@@ -1,7 +1,7 @@
 // The public library, for C and Rust.
 use contents::Extent;
 use jobs::Answer;
-use view::Window;
+use reaching::Window;
 use zoom::Zoom;
 ghost use mathlib.Core.Path.{_≡_};
 ghost use mathlib.Core.List.{map};

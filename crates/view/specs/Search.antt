@@ -18,7 +18,7 @@ use Rattle.index.specs.Valid.{isTree}
 use Rattle.index.specs.Blocks.{entryAt}
 use Rattle.index.specs.Check.{Checkable, AllBelow}
 use Rattle.bitmap.specs.Map.{mapSize, bitAt}
-use Rattle.view.specs.declared.Bounds.{Bounds}
+use Rattle.reaching.specs.declared.Bounds.{Bounds}
 
 -- ---- the bounds
 

@@ -2,7 +2,7 @@
 use contents::Layout;
 use jobs::Answer;
 use marks::MARK_SIZE;
-use view::Window;
+use reaching::Window;
 use zoom::Scale;
 use zoom::Zoom;
 ghost use mathlib.Core.Path.{_≡_};
@@ -12,7 +12,7 @@ ghost use lib.ListN.{length};
 ghost use Rattle.contents.specs.Contents.{split};
 ghost use Rattle.contents.specs.Places.{layoutOf};
 ghost use Rattle.sheet.specs.Questions.{sheetShape, check, question10};
-ghost use Rattle.view.specs.Questions.{isWindow, question11, isMap};
+ghost use Rattle.reaching.specs.Questions.{isWindow, question11, isMap};
 ghost use Rattle.jobs.specs.Jobs.{viewJob, walkJob, isShownJob};
 ghost use Rattle.jobs.specs.Answers.{answerOf, Gives};
 ghost use Rattle.jobs.specs.Steps.{viewAt};
@@ -59,11 +59,11 @@ pub fn view(sheet: &[u8], window: Window, zoom: Zoom, map: &mut [u8]) -> Answer
         return steps::refused(number);
     }
     let layout = found.layout;
-    let shape = bodies::choice_of(contents::part(sheet, layout, 7));
-    if !view::is_taken(shape, window) {
+    let shape = parts::choice_of(contents::part(sheet, layout, 7));
+    if !reaching::is_taken(shape, window) {
         return steps::refused(20);
     }
-    if !view::is_ordered(window) {
+    if !reaching::is_ordered(window) {
         return steps::refused(11);
     }
     match zoom::scale_of(zoom) {

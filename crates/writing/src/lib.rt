@@ -121,8 +121,8 @@ fn put_scheduled(
     let end = put_pieces(out, from, popups, last);
     put_results(
         &mut out[start..end],
-        bodies::choice_of(edition),
-        bodies::choice_of(shape),
+        parts::choice_of(edition),
+        parts::choice_of(shape),
         from - start,
         work,
         n,

@@ -5,9 +5,10 @@ use denote.Ref.{now}
 use Rattle.contents.specs.Contents.{together, marksPart}
 use Rattle.contents.specs.Asking.{answer}
 use Rattle.contents.specs.Laws.{append-yes, append-no}
-use Rattle.bodies.specs.Questions.{part1Questions, bodyQuestions}
-use Rattle.bodies.specs.Lemmas.Numbered.{part1-numbered}
-use Rattle.bodies.specs.Lemmas.Fitting.{part1-iff}
+use Rattle.parts.specs.Questions.{part1Questions}
+use Rattle.bodies.specs.Questions.{bodyQuestions}
+use Rattle.parts.specs.Laws.{part1-numbered}
+use Rattle.parts.specs.Laws.{part1-iff}
 use native.Mathlib.Omega.{arith}
 use borrow.Author.Needs.{needs}
 use Rattle.bodies.proofs.bodies_answer.Statement.{statement}

@@ -9,7 +9,8 @@ use Rattle.contents.specs.Laws.{together-codes, six-with-two}
 use Rattle.lists.specs.TestLaws.{said-no, said-yes}
 use Rattle.contents.specs.Contents.{names, has}
 use Rattle.bodies.specs.Questions.{countOf, question23}
-use Rattle.bodies.specs.Lemmas.Fitting.{sizes-iff, popups-asked, popups-good, popups-enough}
+use Rattle.parts.specs.Laws.{popups-enough}
+use Rattle.bodies.specs.Lemmas.Fitting.{sizes-iff, popups-asked, popups-good}
 use native.Mathlib.Omega.{arith}
 use borrow.Author.Needs.{needs}
 use Rattle.bodies.proofs.has_counts.Statement.{statement}

@@ -8,7 +8,8 @@ use Rattle.contents.specs.Contents.{together}
 use Rattle.contents.specs.Laws.{together-codes}
 use Rattle.lists.specs.TestLaws.{said-no, said-yes}
 use Rattle.contents.specs.Contents.{names, has}
-use Rattle.bodies.specs.Questions.{countOf, choiceIn, editionOf, shapeOf, question8}
+use Rattle.parts.specs.Questions.{choiceIn}
+use Rattle.bodies.specs.Questions.{countOf, editionOf, shapeOf, question8}
 use Rattle.bodies.specs.Lemmas.Fitting.{sizes-iff, popups-asked, popups-good}
 use native.Mathlib.Omega.{arith}
 use borrow.Author.Needs.{needs}

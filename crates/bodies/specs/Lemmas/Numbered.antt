@@ -3,15 +3,10 @@ use Prim.Native.Nat.{ℕ}
 use mathlib.Core.List.{List}
 use native.Mathlib.Omega.{arith}
 use Rattle.contents.specs.Contents.{Part}
-use Rattle.contents.specs.Laws.{Numbered, numbered-append, turn-numbered}
-use Rattle.bodies.specs.Questions.{oneMark, markCount, markQuestions, part1Questions, lastQuestions, bodyQuestions}
-
-pub one-numbered : (s : List ℕ) (m : ℕ) → Numbered (oneMark s m)
-one-numbered s m = (omega arith, (omega arith, tt))
-
-pub part1-numbered : (s : List ℕ) → Numbered (part1Questions s)
-unfolding part1Questions markQuestions
-part1-numbered s = (omega arith, turn-numbered (oneMark s) (one-numbered s) (markCount s))
+use Rattle.contents.specs.Laws.{Numbered, numbered-append}
+use Rattle.parts.specs.Questions.{part1Questions}
+use Rattle.parts.specs.Laws.{part1-numbered}
+use Rattle.bodies.specs.Questions.{lastQuestions, bodyQuestions}
 
 pub bodies-numbered : (parts : List Part) → Numbered (bodyQuestions parts)
 unfolding bodyQuestions lastQuestions

@@ -12,7 +12,7 @@ use Rattle.contents.specs.Questions.{topCode, codesRight}
 use Rattle.contents.specs.Laws.{codes-few, codes-positive, codes-most, find-none, find-own, chain-most, join-length}
 use Rattle.bodies.specs.Questions.{countOf}
 use Rattle.bodies.specs.Fitting.{Fitting}
-use Rattle.bodies.specs.Lemmas.Fitting.{choice-long, popups-iff}
+use Rattle.parts.specs.Laws.{choice-long, popups-iff}
 
 -- the most bytes of a body
 abbrev most : ℕ

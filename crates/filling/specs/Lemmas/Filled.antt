@@ -14,7 +14,7 @@ use Rattle.marks.specs.Good.{GoodMark, GoodMarks}
 use Rattle.marks.specs.Laws.{used-bound, old-positive, old-bound}
 use Rattle.rows.specs.Rows.{rows}
 use Rattle.rows.specs.Laws.{rows-length, rows-at, rows-whole, field-le, le-found, cut-length, Pieces, pieces-of, pieces, pieces-sets}
-use Rattle.bodies.specs.Questions.{markCount}
+use Rattle.parts.specs.Questions.{markCount}
 use Rattle.filling.specs.Filling.{filledRadius, filledMark}
 
 -- ---- the radius that is written

@@ -13,7 +13,7 @@ use Rattle.columns.specs.Columns.{toColumns, fromColumns}
 use Rattle.columns.specs.Theorems.{to-length, from-length, there-and-back, back-and-there}
 use Rattle.contents.specs.Asking.{answer}
 use Rattle.contents.specs.Laws.{Numbered, asked-iff, asked-no, none-asked}
-use Rattle.bodies.specs.Questions.{question4, markCount}
+use Rattle.parts.specs.Questions.{question4, markCount}
 use Rattle.jobs.specs.declared.Answer.{Answer}
 use Rattle.jobs.specs.Jobs.{wrote, columnChecks, columnQuestions, toColumnsJob, fromColumnsJob}
 use Rattle.jobs.specs.Answers.{Gives}

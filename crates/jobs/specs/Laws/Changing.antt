@@ -12,7 +12,7 @@ use Rattle.rows.specs.Rows.{without}
 use Rattle.contents.specs.Asking.{Question, _asks_, answer}
 use Rattle.contents.specs.Laws.{append-yes, append-no, asked-yes, asked-no, none-asked, Numbered}
 use Rattle.contents.specs.Contents.{has, split}
-use Rattle.bodies.specs.Questions.{fieldQuestions}
+use Rattle.parts.specs.Questions.{fieldQuestions}
 use Rattle.sheet.specs.Questions.{sheetCount, indexedQuestions}
 use Rattle.sheet.specs.Laws.{indexed-numbered}
 use Rattle.jobs.specs.Jobs.{isNewPopup, addChecks, takeOutChecks}

@@ -20,7 +20,8 @@ use Rattle.contents.specs.Asking.{_asks_, answer}
 use Rattle.contents.specs.Questions.{codesRight}
 use Rattle.contents.specs.Laws.{asked-no, append-yes, append-no, one-there, in-order, find-none, split-length, with-more, with-bytes, join-length, join-bytes, contents-length}
 use Rattle.bodies.specs.Fitting.{Fitting}
-use Rattle.bodies.specs.Laws.{popups-iff, popups-good, popups-enough, choice-long, fitting-writable}
+use Rattle.parts.specs.Laws.{popups-iff, popups-enough, choice-long}
+use Rattle.bodies.specs.Laws.{popups-good, fitting-writable}
 use Rattle.sheet.specs.Questions.{sheetCount, checkQuestions, check}
 use Rattle.sheet.specs.Laws.{check-numbered, accepted-iff, sheet-again}
 use Rattle.jobs.specs.declared.Answer.{Answer}

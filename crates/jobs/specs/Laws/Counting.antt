@@ -33,9 +33,9 @@ use Rattle.bitmap.specs.Facts.{Shows}
 use Rattle.bitmap.specs.Laws.{map-shows, shown-set}
 use Rattle.zoom.specs.declared.Zoom.the-variants.{Stop}
 use Rattle.zoom.specs.Zoom.{scaleOf, stopScale, scale}
-use Rattle.view.specs.Questions.{question11, viewQuestions}
-use Rattle.view.specs.Shown.{placeAt, reaches, shown, CommonPlace}
-use Rattle.view.specs.Laws.{reaches-iff}
+use Rattle.reaching.specs.Questions.{question11, viewQuestions}
+use Rattle.reaching.specs.Shown.{placeAt, reaches, shown, CommonPlace}
+use Rattle.reaching.specs.Laws.{reaches-iff}
 use Rattle.jobs.specs.declared.Answer.{Answer}
 use Rattle.jobs.specs.Jobs.{outcome, wrote, after, countsIn, withOwnCounts, countChecks, countJob, shownIn, viewJob}
 use Rattle.jobs.specs.Answers.{Gives}

@@ -11,8 +11,8 @@ use Rattle.contents.specs.Contents.{_holds_, chain, join}
 use Rattle.contents.specs.Asking.{_asks_, answer}
 use Rattle.contents.specs.Questions.{codesRight}
 use Rattle.contents.specs.Laws.{asked-yes, append-yes, join-length}
-use Rattle.bodies.specs.Questions.{markCount, part1Questions}
-use Rattle.bodies.specs.Laws.{part1-numbered, part1-iff}
+use Rattle.parts.specs.Questions.{markCount, part1Questions}
+use Rattle.parts.specs.Laws.{part1-numbered, part1-iff}
 use Rattle.filling.specs.Filling.{filled, fillQuestions}
 use Rattle.filling.specs.Theorems.{filled-length, filled-count, filled-accepted, filled-some, filled-used, filled-again}
 use Rattle.sheet.specs.Laws.{parts-iff}

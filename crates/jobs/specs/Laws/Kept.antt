@@ -14,9 +14,10 @@ use Rattle.marks.specs.PairLaws.{none-good}
 use Rattle.contents.specs.Contents.{Part, _holds_, codesOf, bodiesOf, find, has, split, chain, marksPart, schedulePart, indexPart, editionPart, popupsPart, countsPart, shapePart}
 use Rattle.contents.specs.Questions.{codesRight}
 use Rattle.contents.specs.Laws.{find-none, find-bytes, one-there, in-order, with-other-found, with-other-there, with-found, with-there, with-more, with-bytes}
-use Rattle.bodies.specs.Questions.{markCount, countOf, choiceIn, editionOf, shapeOf, isChoice, isPopups}
+use Rattle.parts.specs.Questions.{markCount, choiceIn, isChoice, isPopups}
+use Rattle.bodies.specs.Questions.{countOf, editionOf, shapeOf}
 use Rattle.bodies.specs.Fitting.{Fitting}
-use Rattle.bodies.specs.Laws.{choice-long, popups-iff}
+use Rattle.parts.specs.Laws.{choice-long, popups-iff}
 use Rattle.sheet.specs.Questions.{check}
 use Rattle.sheet.specs.Laws.{accepted-iff}
 use Rattle.jobs.specs.Jobs.{partIf, carried, keptParts, keptSize, withCounts}

@@ -6,8 +6,8 @@ use native.Mathlib.Omega.{arith}
 use lib.ListN.{length, take}
 use Rattle.numbers.specs.Little.{Bytes}
 use Rattle.contents.specs.Asking.{answer}
-use Rattle.bodies.specs.Questions.{markCount, part1Questions}
-use Rattle.bodies.specs.Laws.{part1-numbered, part1-iff}
+use Rattle.parts.specs.Questions.{markCount, part1Questions}
+use Rattle.parts.specs.Laws.{part1-numbered, part1-iff}
 use Rattle.logs.specs.Log.{recordCount, marksOfLog, logOfMarks}
 use Rattle.logs.specs.Questions.{logChecks, logQuestions, marksQuestions}
 use Rattle.logs.specs.Theorems.{log-numbered, log-right, marks-length, marks-count, log-marks, log-again, log-count, marks-log, marks-again, log-length}

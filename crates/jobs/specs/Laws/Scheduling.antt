@@ -24,7 +24,8 @@ use Rattle.counting.specs.Laws.{counts-length}
 use Rattle.contents.specs.Contents.{Part, _holds_, codesOf, bodiesOf, has, sizesOf, contentsSize, contentsOf, chain, join, popupsPart}
 use Rattle.contents.specs.Asking.{Question, answer}
 use Rattle.contents.specs.Laws.{Numbered, none-asked, append-yes, append-no, append-iff, contents-length, join-length}
-use Rattle.bodies.specs.Questions.{markCount, choiceIn, editionOf, shapeOf}
+use Rattle.parts.specs.Questions.{markCount, choiceIn}
+use Rattle.bodies.specs.Questions.{editionOf, shapeOf}
 use Rattle.jobs.specs.declared.Answer.{Answer}
 use Rattle.jobs.specs.Jobs.{outcome, partIf, withCounts, newSchedule, newIndex, newCounts, newParts, scheduledFrom, scheduledSize, hasRoom, schedulingQuestions, schedulingJob}
 use Rattle.jobs.specs.Answers.{refusal, Gives}

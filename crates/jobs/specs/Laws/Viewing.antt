@@ -20,11 +20,11 @@ use Rattle.bitmap.specs.Laws.{map-length}
 use Rattle.zoom.specs.declared.Zoom.{Zoom}
 use Rattle.zoom.specs.declared.Scale.the-variants.{Taken, Refused}
 use Rattle.zoom.specs.Zoom.{scaleOf}
-use Rattle.view.specs.declared.Window.{Window}
-use Rattle.view.specs.Shown.{shown}
+use Rattle.reaching.specs.declared.Window.{Window}
+use Rattle.reaching.specs.Shown.{shown}
 use Rattle.view.specs.View.{Viewable, Viewed}
-use Rattle.view.specs.Laws.{view-asked}
-use Rattle.view.specs.Questions.{question20, question11, isTaken, viewQuestions}
+use Rattle.reaching.specs.Laws.{view-asked}
+use Rattle.reaching.specs.Questions.{question20, question11, isTaken, viewQuestions}
 use Rattle.jobs.specs.declared.Answer.{Answer}
 use Rattle.jobs.specs.Jobs.{outcome, shownIn, viewJob}
 use Rattle.jobs.specs.Answers.{refusal, Gives}

@@ -14,7 +14,7 @@ use Rattle.lists.specs.TestLaws.{both-iff}
 use Rattle.contents.specs.Asking.{answer}
 use Rattle.bitmap.specs.Map.{mapSize, bitAt, isSet, walk}
 use Rattle.bitmap.specs.Laws.{walked, walk-end, walk-here, walk-past}
-use Rattle.view.specs.Questions.{isMap, walkQuestions}
+use Rattle.reaching.specs.Questions.{isMap, walkQuestions}
 use Rattle.jobs.specs.Jobs.{outcome, walkJob, walksFrom, isShownJob}
 use Rattle.jobs.specs.Answers.{refusal, answerOf}
 

@@ -31,7 +31,8 @@ use Rattle.counting.specs.Laws.{counts-bytes}
 use Rattle.contents.specs.Contents.{Part, bodiesOf, find, has, split, join, marksPart, popupsPart}
 use Rattle.contents.specs.Laws.{find-bytes, join-bytes}
 use Rattle.bodies.specs.Laws.{popups-good}
-use Rattle.bodies.specs.Questions.{markCount, editionOf, shapeOf, namesRight, recordRight, isSchedule, reelFrom, reelOf}
+use Rattle.parts.specs.Questions.{markCount, namesRight, recordRight, isSchedule, reelFrom}
+use Rattle.bodies.specs.Questions.{editionOf, shapeOf, reelOf}
 use Rattle.bodies.specs.Fitting.{Fitting}
 use Rattle.sheet.specs.Questions.{sheetCount, check}
 use Rattle.sheet.specs.Laws.{accepted-iff}

@@ -8,7 +8,7 @@ use Rattle.contents.specs.Contents.{find, split}
 use Rattle.contents.specs.declared.Layout.{Layout}
 use Rattle.contents.specs.Asking.{answer}
 use Rattle.contents.specs.Places.{layoutOf, placeOf, cutOf}
-use Rattle.bodies.specs.Questions.{choiceIn}
+use Rattle.parts.specs.Questions.{choiceIn}
 use Rattle.sheet.specs.Questions.{indexedQuestions}
 use Rattle.sheet.specs.Laws.{indexed-iff, layout-part}
 use Rattle.jobs.specs.Jobs.{question22}

@@ -22,7 +22,7 @@ use Rattle.marks.specs.PairLaws.{pairs-positive, pairs-symmetric}
 use Rattle.elimination.specs.Records.{denAt, eliminatorAt, valueAt}
 use Rattle.elimination.specs.Reel.{Reel, marksOf, GoodReel}
 use Rattle.elimination.specs.Rules.{FirstRule}
-use Rattle.bodies.specs.Laws.{record-small}
+use Rattle.parts.specs.Laws.{record-small}
 use Rattle.judging.specs.Judge.{judge, judgeSchedule}
 use Rattle.judging.specs.Search.{limitOf, limitAt, clash, isClear, allClear, Asked}
 use Rattle.judging.specs.Lemmas.Judged.{not-iff, Causes, AllHighest, judge-iff}

@@ -17,7 +17,7 @@ use Rattle.marks.specs.Pairs.{pairValue}
 use Rattle.marks.specs.PairLaws.{pairs-positive}
 use Rattle.elimination.specs.Records.{isNever, markRecord, eliminatorAt, numAt, denAt, fractionAt, valueAt}
 use Rattle.elimination.specs.Reel.{Reel}
-use Rattle.bodies.specs.Questions.{exactly, namesRight, recordRight, isSchedule}
+use Rattle.parts.specs.Questions.{exactly, namesRight, recordRight, isSchedule}
 
 -- it names a higher-ranked mark, with the numbers of their pair, and that mark is removed later
 pub record Named (r : Reel) (p : List ℕ) (m : ℕ) : Type 0 where

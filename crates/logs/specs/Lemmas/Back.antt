@@ -16,7 +16,7 @@ use Rattle.marks.specs.Laws.{used-bound}
 use Rattle.marks.specs.FieldLaws.{bits-bound, signed-bits, bits-signed}
 use Rattle.rows.specs.Rows.{rows}
 use Rattle.rows.specs.Laws.{rows-length, rows-at, rows-whole, field-le, field-get, le-found, Pieces, pieces-of, pieces}
-use Rattle.bodies.specs.Questions.{markCount}
+use Rattle.parts.specs.Questions.{markCount}
 use Rattle.packed.specs.Packed.{coordinateAt, packedAt, isPlace, packed}
 use Rattle.packed.specs.Laws.{packed-back, packed-read, place-mag, place-short, signed-place}
 use Rattle.logs.specs.Log.{recordCount, markOfRecord, recordOfMark}

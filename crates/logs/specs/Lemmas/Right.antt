@@ -12,8 +12,8 @@ use Rattle.lists.specs.TestLaws.{both-iff}
 use Rattle.contents.specs.Asking.{answer}
 use Rattle.contents.specs.Laws.{Numbered, asked-iff, append-yes, append-no}
 use Rattle.contents.specs.Laws.{turn-numbered, turn-at, turn-of}
-use Rattle.bodies.specs.Questions.{fieldQuestions}
-use Rattle.bodies.specs.Laws.{field-iff}
+use Rattle.parts.specs.Questions.{fieldQuestions}
+use Rattle.parts.specs.Laws.{field-iff}
 use Rattle.packed.specs.Packed.{coordinateAt, packedAt, isPlace}
 use Rattle.logs.specs.Log.{recordCount, radiusOf, kindOf}
 use Rattle.logs.specs.Questions.{logSize, placeQuestions, recordQuestions, logChecks}

@@ -9,7 +9,8 @@ use Rattle.numbers.specs.Little.{Bytes}
 use Rattle.contents.specs.Contents.{split, marksPart, editionPart, popupsPart, shapePart}
 use Rattle.contents.specs.Asking.{answer}
 use Rattle.contents.specs.Laws.{layout-part}
-use Rattle.bodies.specs.Questions.{markCount, choiceIn, editionOf, shapeOf}
+use Rattle.parts.specs.Questions.{markCount, choiceIn}
+use Rattle.bodies.specs.Questions.{editionOf, shapeOf}
 use Rattle.report.specs.Text.{mostMarks, printQuestions}
 use Rattle.report.specs.Lemmas.Printed.{prints-refusal, taken-laid, part1-few, part1-good, popups-good, taken-printable, prints-listing}
 use Rattle.report.proofs.print.Statement.{statement}

@@ -2,8 +2,8 @@
 use mathlib.Core.Path.{subst⁻¹}
 use denote.Ref.{now}
 use borrow.Author.Needs.{needs}
-use Rattle.view.specs.Turning.{Edged, shownHere}
-use Rattle.view.specs.Lemmas.Turned.{back-edged}
+use Rattle.reaching.specs.Turning.{Edged, shownHere}
+use Rattle.reaching.specs.Laws.{back-edged}
 use Rattle.view.specs.Lemmas.Views.{whole-searchable, viewed, viewed-back, count-fits}
 use Rattle.view.proofs.show.Statement.{statement}
 use Rattle.view.proofs.show.Tie as tie

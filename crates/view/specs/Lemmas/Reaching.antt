@@ -3,20 +3,20 @@ use Prim.Native.Nat.{ℕ, zero, suc, _+_, _-_, _*_, _/_, _<_, _≤_}
 use native.Mathlib.Omega.{arith}
 use native.Mathlib.Decide.{decLt, ℕ-discrete}
 use native.Mathlib.Nat.{mul-le-mul, mul-mul-mul-comm}
-use mathlib.Core.Path.{_≡_, sym, subst}
+use mathlib.Core.Path.{_≡_, subst}
 use mathlib.Core.Bool.{Bool, true, false}
 use mathlib.Core.Logic.{dite}
 use mathlib.Core.List.{List}
 use lib.Dec.{leb}
-use borrow.Author.Tests.{leb-true, leb-false, le-leb}
+use borrow.Author.Tests.{leb-true, leb-false}
 use Rattle.lists.specs.TestLaws.{by-cases, and-left, and-right}
 use Rattle.marks.specs.Marks.{usedAt}
 use Rattle.marks.specs.Laws.{distance-x, distance-y}
 use Rattle.elimination.specs.Records.{valueAt}
 use Rattle.zoom.specs.Living.{livesAt}
 use Rattle.index.specs.Index.{coordinate}
-use Rattle.view.specs.declared.Bounds.{Bounds}
-use Rattle.view.specs.Turning.{gapHere, distanceHere, reachesHere, visibleHere, shownHere}
+use Rattle.reaching.specs.declared.Bounds.{Bounds}
+use Rattle.reaching.specs.Turning.{gapHere, distanceHere, reachesHere, visibleHere, shownHere}
 use Rattle.counting.specs.Lives.{poppedUp}
 use Rattle.view.specs.Search.{wider, widestLiving, moved, boundsOf, Within}
 
@@ -102,16 +102,3 @@ module _ (shape : ℕ) (s p q : List ℕ) (k : ℕ) (e : Bounds) (m : ℕ) where
   shown-within n l h false =
       let w = within-edges n l h (e .y0) (e .y1) (coordinate s false m) (distance-y shape _ _) in
       record { low = w .0; high = w .1 }
-
--- ---- the test as the code makes it
-
-module _ (shape : ℕ) (s : List ℕ) (k : ℕ) (e : Bounds) (m : ℕ) {d : ℕ} (d-is : d ≡ distanceHere shape s e m) where
-  pub reached : {r : ℕ} → r ≡ usedAt s m → leb (4096 * d) (k * k * (r * r)) ≡ reachesHere shape s k e m
-  unfolding reachesHere
-  reached is = rw (d-is, is)
-
-  -- a point inside
-  pub reached-inside : d ≡ 0 → true ≡ reachesHere shape s k e m
-  unfolding reachesHere
-  reached-inside none =
-      sym (le-leb (4096 * distanceHere shape s e m) (k * k * (usedAt s m * usedAt s m)) (omega (arith, d-is, none)))

@@ -22,7 +22,7 @@ use Rattle.index.specs.Valid.{valid, isTree}
 use Rattle.index.specs.Blocks.{entryAt, leftOf, rightOf, Halves}
 use Rattle.index.specs.Check.{AllMarked}
 use Rattle.index.specs.Laws.{block-halves, none-later, none-left, none-right}
-use Rattle.view.specs.declared.Bounds.{Bounds}
+use Rattle.reaching.specs.declared.Bounds.{Bounds}
 use Rattle.marks.specs.Pairs.{GoodPopup}
 use Rattle.view.specs.Search.{boundOn, Within, isBeyond, sizeToSearch, BitsSet, Searchable}
 use Rattle.view.specs.Lemmas.Bits.{set-nothing, set-none, set-then}

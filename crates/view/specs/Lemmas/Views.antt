@@ -21,13 +21,13 @@ use Rattle.bitmap.specs.Map.{mapSize, bitAt}
 use Rattle.bitmap.specs.Facts.{Shows, MapCleared, countBits}
 use Rattle.bitmap.specs.Laws.{map-same, count-same, map-is, cleared-bit, count-shown, count-bits-le}
 use Rattle.view.specs.View.{Viewable, Viewed}
-use Rattle.view.specs.declared.Bounds.{Bounds}
+use Rattle.reaching.specs.declared.Bounds.{Bounds}
 use Rattle.marks.specs.PairLaws.{good-popup}
-use Rattle.view.specs.declared.Window.{Window}
-use Rattle.view.specs.Shown.{shown}
-use Rattle.view.specs.Questions.{isWindow, question11}
-use Rattle.view.specs.Turning.{turnedBack, shownHere}
-use Rattle.view.specs.Lemmas.Turned.{shown-back}
+use Rattle.reaching.specs.declared.Window.{Window}
+use Rattle.reaching.specs.Shown.{shown}
+use Rattle.reaching.specs.Questions.{isWindow, question11}
+use Rattle.reaching.specs.Turning.{turnedBack, shownHere}
+use Rattle.reaching.specs.Laws.{shown-back}
 use Rattle.view.specs.Search.{widestLiving, boundsOf, inByte, BitsSet, Searchable}
 use Rattle.view.specs.Lemmas.Reaching.{shown-lives, shown-within}
 

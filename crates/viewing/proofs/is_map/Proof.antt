@@ -1,7 +1,7 @@
 -- `viewing::is_map`: the two bounds in their order. Assumes nothing.
 use borrow.Author.Needs.{needs}
 use borrow.Author.Tests.{le-leb, lt-leb}
-use Rattle.view.specs.Questions.{isMap}
+use Rattle.reaching.specs.Questions.{isMap}
 use Rattle.viewing.proofs.is_map.Statement.{statement}
 use Rattle.viewing.proofs.is_map.Tie as tie
 

@@ -8,10 +8,10 @@ use Rattle.lists.specs.TestLaws.{said-no, said-yes}
 use Rattle.contents.specs.Asking.{answer}
 use Rattle.sheet.specs.Questions.{sheetShape, indexedQuestions}
 use Rattle.sheet.specs.Laws.{indexed-iff, indexed-number, indexed-layout, layout-part}
-use Rattle.bodies.specs.Questions.{choiceIn}
+use Rattle.parts.specs.Questions.{choiceIn}
 use Rattle.zoom.specs.Laws.{scale-most}
-use Rattle.view.specs.Questions.{question20, question11}
-use Rattle.view.specs.Laws.{taken-window}
+use Rattle.reaching.specs.Questions.{question20, question11}
+use Rattle.reaching.specs.Laws.{taken-window}
 use Rattle.jobs.specs.Laws.Viewing.{view-refused, view-no-window, view-no-order, view-no-zoom, view-taken}
 use Rattle.viewing.proofs.view.Statement.{statement}
 use Rattle.viewing.proofs.view.Tie as tie

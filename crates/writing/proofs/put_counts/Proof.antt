@@ -9,7 +9,7 @@ use denote.Ref.{now}
 use lib.ListN.{length, take, drop, length-drop, take-append-drop}
 use lib.Seq.{sets, sets-eq, length-take-le}
 use Rattle.counting.specs.Laws.{counts-length}
-use Rattle.bodies.specs.Laws.{popups-enough}
+use Rattle.parts.specs.Laws.{popups-enough}
 use Rattle.writing.proofs.put_counts.Statement.{statement}
 use Rattle.writing.proofs.put_counts.Tie as tie
 

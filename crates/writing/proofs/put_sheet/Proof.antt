@@ -9,7 +9,7 @@ use denote.Ref.{now}
 use lib.Dec.{ltb}
 use lib.ListN.{length, length-append}
 use Rattle.contents.specs.Contents.{Part, contentsSize, popupsPart}
-use Rattle.bodies.specs.Questions.{markCount}
+use Rattle.parts.specs.Questions.{markCount}
 use Rattle.jobs.specs.Jobs.{scheduledSize, newSchedule, newCounts}
 use Rattle.jobs.specs.Steps.{keptFrom, codesFrom, PopupsLent}
 use Rattle.jobs.specs.Laws.Listed.{few-listed}
