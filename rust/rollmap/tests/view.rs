@@ -4,8 +4,8 @@ mod common;
 
 use common::jobs::first_no;
 use common::views::{
-    anywhere, assert_view, beside_a_label, in_64ths, some_zoom, touches, view, wheel, window, zoom,
-    Scheduled, WHOLE,
+    anywhere, assert_view, beside_a_label, in_64ths, some_zoom, touches, view,
+    view_ours_and_foreign, wheel, window, zoom, Scheduled, WHOLE,
 };
 use common::{
     foreign_records, number, one_part, our_records, scheduled, some_marks, some_records,
@@ -14,7 +14,6 @@ use common::{
 use oracle::fraction::Removal;
 use oracle::map::{is_set, map_bytes};
 use oracle::mark::Mark;
-use oracle::process::schedule_in_rank_order;
 use oracle::record::Record;
 use oracle::sample::{marks, popups, Generator, Layout, Popups, P1};
 use oracle::shape::Shape::Disk;
@@ -328,19 +327,7 @@ fn larger_sheets_ours_and_foreign() {
         let ways = [Popups::Any, Popups::Few, Popups::Touching];
         let popping_up = ways.map(|how| Beyond::popping_up(popups(how, &sample, 1)));
         for beyond in [Beyond::default()].into_iter().chain(popping_up) {
-            let reel = beyond.reel(&sample);
-            let lists = [
-                schedule_in_rank_order(reel),
-                foreign_records(&mut generator, reel),
-                vec![Record::NEVER; n],
-            ];
-            for records in lists {
-                let scheduled = Scheduled::with(beyond.clone(), sample.clone(), &records);
-                for _ in 0..30 {
-                    let view = scheduled.some_view(&mut generator, Turn::None);
-                    scheduled.view(view);
-                }
-            }
+            view_ours_and_foreign(&mut generator, &beyond, &sample, &[Turn::None], 30);
         }
     }
 }
@@ -387,10 +374,7 @@ fn the_largest_sheets() {
         for beyond in [Beyond::default(), popping_up] {
             let records = foreign_records(&mut generator, beyond.reel(&sample));
             let scheduled = Scheduled::with(beyond, sample.clone(), &records);
-            for _ in 0..40 {
-                let view = scheduled.some_view(&mut generator, Turn::None);
-                scheduled.view(view);
-            }
+            scheduled.some_views(&mut generator, Turn::None, 40);
             assert_view(&scheduled.sheet, WHOLE, 511, &Err(13));
         }
     }

@@ -3,6 +3,7 @@
 
 use oracle::fraction::Removal;
 use oracle::mark::Mark;
+use oracle::process::schedule_in_rank_order;
 use oracle::record::{removals, Record};
 use oracle::sample::Generator;
 use oracle::shape::Shape;
@@ -10,7 +11,7 @@ use oracle::view::{map_and_count, Edges, Window};
 use oracle::zoom::{removal_zoom_in_64ths, zoom_in_64ths};
 use rollmap::{Code, Turn, View, Zoom, FARTHEST_EDGE};
 
-use super::{number, Beyond, Lent};
+use super::{foreign_records, number, Beyond, Lent};
 
 /// All places at stop 0, without a turn.
 pub const WHOLE: View = View::whole(Zoom::Stop(0));
@@ -153,6 +154,37 @@ impl Scheduled {
         let count = expected.1;
         assert_view(&self.sheet, view, expected.0.len(), &Ok(expected));
         count
+    }
+
+    /// Answers so many views with this turn that are taken.
+    pub fn some_views(&self, generator: &mut Generator, turn: Turn, times: usize) {
+        for _ in 0..times {
+            let view = self.some_view(generator, turn);
+            self.view(view);
+        }
+    }
+}
+
+/// Answers so many views with each of these turns, of the sheet of these marks and parts
+/// beyond 3 with our records, with foreign ones, and with those by which nobody goes.
+pub fn view_ours_and_foreign(
+    generator: &mut Generator,
+    beyond: &Beyond,
+    marks: &[Mark],
+    turns: &[Turn],
+    times: usize,
+) {
+    let reel = beyond.reel(marks);
+    let lists = [
+        schedule_in_rank_order(reel),
+        foreign_records(generator, reel),
+        vec![Record::NEVER; marks.len()],
+    ];
+    for records in lists {
+        let scheduled = Scheduled::with(beyond.clone(), marks.to_vec(), &records);
+        for &turn in turns {
+            scheduled.some_views(generator, turn, times);
+        }
     }
 }
 
