@@ -3,8 +3,8 @@
 mod common;
 
 use common::jobs::{
-    becomes_scheduled, check, come_and_go, come_in_buffers_of_its_own, first_no, is_ours_if_kept,
-    records, refused_by_every_job, schedule,
+    becomes_scheduled, check, come_and_go, come_in_buffers_of_its_own, every_eliminator, first_no,
+    is_ours_if_kept, records, refused_by_every_job, schedule,
 };
 use common::views::{assert_alike, assert_view, in_64ths, view, wheel, window, Scheduled, WHOLE};
 use common::{
@@ -409,15 +409,7 @@ fn every_eliminator_with_popups() {
     let mut generator = Generator::new(115);
     for _ in 0..300 {
         let sample = rivals(&mut generator, 6);
-        let beyond = Beyond::draw(&mut generator, &sample);
-        let reel = beyond.reel(&sample);
-        for (m, other) in (0..6).flat_map(|m| (0..6).map(move |other| (m, other))) {
-            let mut records = vec![Record::NEVER; 6];
-            records[m] = Record::removed(other, reel.pair_value(m, other));
-            let number = check(&beyond.with_records(&sample, &records));
-            let expected = if reel.outranks(other, m) { 0 } else { 8 };
-            assert_eq!(number, expected, "{reel:?} {m} {other}");
-        }
+        every_eliminator(&Beyond::draw(&mut generator, &sample), &sample);
     }
 }
 

@@ -3,11 +3,11 @@
 mod common;
 
 use common::jobs::{
-    self, assert_made, check, come_and_go, come_in_buffers_of_its_own, first_no, is_ours_if_kept,
-    is_rescheduled, records, refused_by_every_job, schedule,
+    self, assert_made, check, come_and_go, come_in_buffers_of_its_own, every_eliminator, first_no,
+    is_ours_if_kept, is_rescheduled, records, refused_by_every_job, schedule,
 };
 use common::views::{
-    assert_alike, assert_view, beside_a_label, in_64ths, some_zoom, touches, view,
+    assert_alike, assert_view, each_beside_a_label, in_64ths, some_zoom, view,
     view_ours_and_foreign, wheel, window, zoom, Scheduled, OUTSIDE, WHOLE,
 };
 use common::{
@@ -16,7 +16,6 @@ use common::{
     with_popups, write_in, Beyond, Tally, NAMED, SHAPED,
 };
 use oracle::fraction::Removal;
-use oracle::map::is_set;
 use oracle::mark::{touching_value, write_marks, Mark};
 use oracle::popup::write_popups;
 use oracle::process::{schedule_by_process, schedule_in_rank_order};
@@ -407,15 +406,7 @@ fn every_eliminator_of_squares() {
     let mut generator = Generator::new(168);
     for _ in 0..300 {
         let sample = rivals(&mut generator, 6);
-        let beyond = draw_squares(&mut generator, &sample);
-        let reel = beyond.reel(&sample);
-        for (m, other) in (0..6).flat_map(|m| (0..6).map(move |other| (m, other))) {
-            let mut records = vec![Record::NEVER; 6];
-            records[m] = Record::removed(other, reel.pair_value(m, other));
-            let number = check(&beyond.with_records(&sample, &records));
-            let expected = if reel.outranks(other, m) { 0 } else { 8 };
-            assert_eq!(number, expected, "{reel:?} {m} {other}");
-        }
+        every_eliminator(&draw_squares(&mut generator, &sample), &sample);
     }
 }
 
@@ -590,35 +581,14 @@ fn the_largest_sheets_are_viewed() {
 #[test]
 fn squares_that_just_reach_the_rectangle_and_that_just_miss_it() {
     let mut generator = Generator::new(172);
-    let (mut touched, mut reached, mut missed, mut corner) = (0, 0, 0, 0);
-    for layout in Layout::ALL {
-        for n in [1, 2, 9, 120] {
-            let sample = marks(layout, n, 10);
-            let scheduled = Scheduled::with(squares(), sample, &vec![Record::NEVER; n]);
-            for _ in 0..300 {
-                // At a whole zoom a square reaches a whole number of map units.
-                let zoom = match generator.below(2) {
-                    0 => wheel(64 * (1 + generator.below(9))),
-                    _ => some_zoom(&mut generator),
-                };
-                let k = in_64ths(zoom);
-                let (beside, number) =
-                    beside_a_label(&mut generator, Square, &scheduled.marks, Turn::None, k);
-                let asked = View { zoom, ..beside };
-                let expected = scheduled.expected(asked);
-                let shown = is_set(&expected.0, number);
-                let mark = &scheduled.marks[number];
-                reached += usize::from(shown);
-                missed += usize::from(!shown);
-                touched += usize::from(touches(Square, mark, asked, k));
-                corner += usize::from(shown && !reaches(Disk, mark, window(asked), k));
-                assert_view(&scheduled.sheet, asked, expected.0.len() - 1, &Err(13));
-                scheduled.view(asked);
-            }
-        }
-    }
-    let numbers = [touched, reached, missed, corner];
-    assert!(numbers.iter().all(|&n| n > 1_000), "{numbers:?}");
+    let mut corner = 0;
+    let visit = |mark: &Mark, asked: View, shown| {
+        let k = in_64ths(asked.zoom);
+        corner += usize::from(shown && !reaches(Disk, mark, window(asked), k));
+    };
+    let [reached, ..] = each_beside_a_label(&mut generator, &squares(), 10, &[Turn::None], visit);
+    assert!(reached.iter().all(|&n| n > 1_000), "{reached:?}");
+    assert!(corner > 1_000, "{corner}");
 }
 
 #[test]

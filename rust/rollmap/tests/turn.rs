@@ -4,8 +4,8 @@
 mod common;
 
 use common::views::{
-    anywhere, assert_view, beside_a_label, in_64ths, some_edge, some_zoom, touches, view,
-    view_ours_and_foreign, wheel, window, zoom, Scheduled, WHOLE,
+    anywhere, assert_view, each_beside_a_label, some_edge, some_zoom, view, view_ours_and_foreign,
+    wheel, window, zoom, Scheduled, WHOLE,
 };
 use common::{
     foreign_records, number, rivals, scheduled, some_marks, some_records, some_sheet, Beyond, Lent,
@@ -16,7 +16,6 @@ use oracle::mark::{read_marks, write_marks, Mark};
 use oracle::process::schedule_in_rank_order;
 use oracle::record::Record;
 use oracle::sample::{marks, popups, refused_sheets, Generator, Layout, Popups, P1};
-use oracle::shape::Shape::Disk;
 use oracle::turn::{turned, turned_marks};
 use rollmap::{Code, Refusal, Turn, View, Zoom, FARTHEST_EDGE};
 
@@ -149,36 +148,10 @@ fn the_largest_sheets() {
 #[test]
 fn disks_that_just_reach_the_rectangle_and_that_just_miss_it() {
     let mut generator = Generator::new(94);
-    let (mut touched, mut reached, mut missed) = ([0; 4], [0; 4], [0; 4]);
-    for layout in Layout::ALL {
-        for n in [1, 2, 9, 120] {
-            let sample = marks(layout, n, 23);
-            let records = vec![Record::NEVER; n];
-            let scheduled = Scheduled::new(sample, &records);
-            for turn in [Turn::ALL; 75].concat() {
-                // At a whole zoom a disk reaches a whole number of map units.
-                let zoom = match generator.below(2) {
-                    0 => wheel(64 * (1 + generator.below(9))),
-                    _ => some_zoom(&mut generator),
-                };
-                let k = in_64ths(zoom);
-                let (beside, mark) =
-                    beside_a_label(&mut generator, Disk, &scheduled.marks, turn, k);
-                let asked = View { zoom, ..beside };
-                let shown = is_set(&scheduled.expected(asked).0, mark);
-                let at = usize::from(turn.quarters());
-                reached[at] += usize::from(shown);
-                missed[at] += usize::from(!shown);
-                touched[at] += usize::from(touches(Disk, &scheduled.marks[mark], asked, k));
-                scheduled.view(asked);
-            }
-        }
-    }
-    let numbers = [touched, reached, missed];
-    assert!(
-        numbers.as_flattened().iter().all(|&n| n > 250),
-        "{numbers:?}"
-    );
+    let beyond = Beyond::default();
+    let reached = each_beside_a_label(&mut generator, &beyond, 23, &Turn::ALL, |_, _, _| ());
+    let mut numbers = reached.as_flattened().iter();
+    assert!(numbers.all(|&n| n > 250), "{reached:?}");
 }
 
 #[test]

@@ -75,6 +75,19 @@ pub fn is_ours_if_kept(reel: Reel, ours: &[Removal], list: &[Removal]) -> bool {
     same
 }
 
+/// Sees that a record by which one of these marks removes another, where their pair value
+/// has it, is taken exactly where it outranks the other.
+pub fn every_eliminator(beyond: &Beyond, marks: &[Mark]) {
+    let (n, reel) = (marks.len(), beyond.reel(marks));
+    for (m, other) in (0..n).flat_map(|m| (0..n).map(move |other| (m, other))) {
+        let mut records = vec![Record::NEVER; n];
+        records[m] = Record::removed(other, reel.pair_value(m, other));
+        let number = check(&beyond.with_records(marks, &records));
+        let expected = if reel.outranks(other, m) { 0 } else { 8 };
+        assert_eq!(number, expected, "{reel:?} {m} {other}");
+    }
+}
+
 // ---- rows
 
 /// A way to turn some bytes in a buffer of so many, with a seed, compared with the oracle's.
