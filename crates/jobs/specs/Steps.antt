@@ -6,6 +6,7 @@ use mathlib.Core.List.{List, [], _∷_, _++_}
 use lib.Dec.{ltb, leb}
 use lib.ListN.{length, drop}
 use Rattle.marks.specs.Marks.{markSize}
+use Rattle.marks.specs.Good.{GoodMarks}
 use Rattle.marks.specs.Pairs.{popupSize, popupAt}
 use Rattle.elimination.specs.Records.{recordSize}
 use Rattle.elimination.specs.Reel.{Reel, scheduleOf}
@@ -31,6 +32,14 @@ keptFrom edition there popups shape = choiceFrom 4 edition ++ (partIf there 5 po
 pub record PopupsLent (there : Bool) (q : List ℕ) (n : ℕ) : Type 0 where
   pub sized : length q ≡ cond there (popupSize * n) 0
   pub each : (m : ℕ) → m < n → popupAt q m ≤ 65536
+
+-- What is lent to be scheduled: n marks that are taken, and parts 4, 5 and 7 where they are kept.
+pub record PartsLent (marks edition : List ℕ) (there : Bool) (popups shape : List ℕ) (n : ℕ) : Type 0 where
+  pub good : GoodMarks marks n
+  pub long : length marks ≡ markSize * n
+  pub edition-short : length edition ≤ 1
+  pub shape-short : length shape ≤ 1
+  pub popups-lent : PopupsLent there popups n
 
 -- one element, or none
 abbrev pub ifAny : Bool → ℕ → List ℕ

@@ -8,12 +8,10 @@ ghost use mathlib.Core.List.{[], _++_};
 ghost use Prim.Native.Nat.{_+_, _*_, _≤_};
 ghost use lib.Dec.{leb};
 ghost use lib.ListN.{length};
-ghost use Rattle.marks.specs.Marks.{markSize};
-ghost use Rattle.marks.specs.Good.{GoodMarks};
 ghost use Rattle.scheduling.specs.Filling.{workSize};
 ghost use Rattle.jobs.specs.Jobs.{schedulingJob};
 ghost use Rattle.jobs.specs.Answers.{refusal, Gives, Lent};
-ghost use Rattle.jobs.specs.Steps.{keptFrom, PopupsLent};
+ghost use Rattle.jobs.specs.Steps.{keptFrom, PartsLent};
 
 // What scheduling asks for, in bytes a mark and in bytes beside them: the work buffer, and the sheet of three parts with its contents, whose
 // bytes a mark are those of `writing`, and to which parts that are kept add their own.
@@ -84,7 +82,7 @@ pub fn schedule_marks(
     out: &mut [u8],
     n: usize,
 ) -> Answer
-    requires { ⌜ GoodMarks (now head ++ now tail) n × (length (now head ++ now tail) ≡ markSize * n) × (length (now edition) ≤ 1) × (length (now shape) ≤ 1) × PopupsLent there (now popups ++ now last) n ⌝ }
+    requires { ⌜ PartsLent (now head ++ now tail) (now edition) there (now popups ++ now last) (now shape) n ⌝ }
     ensures { λ r. ⌜ Gives (schedulingJob [] (now (head .entry) ++ now (tail .entry)) (keptFrom (now (edition .entry)) there (now (popups .entry) ++ now (last .entry)) (now (shape .entry))) counted (length (now (work .entry))) (length (now (out .entry)))) (now (out .entry)) r (now (out .exit)) ⌝ }
     ensures { λ r. ⌜ Lent r (now (work .entry)) (now (work .exit)) ⌝ }
 {

@@ -21,7 +21,7 @@ ghost use Rattle.indexing.specs.Buffer.{indexEnd};
 ghost use Rattle.counting.specs.Counts.{countsOf};
 ghost use Rattle.contents.specs.Contents.{contentsSize, contentsOf};
 ghost use Rattle.jobs.specs.Jobs.{scheduledFrom, scheduledSize};
-ghost use Rattle.jobs.specs.Steps.{keptFrom, PopupsLent, codesFrom, sizesFrom, bareFrom, resultsOver};
+ghost use Rattle.jobs.specs.Steps.{keptFrom, PartsLent, codesFrom, sizesFrom, bareFrom, resultsOver};
 
 // What each mark takes of the sheet in parts 1 to 3.
 pub const SHEET_EACH: usize = 27;
@@ -103,7 +103,7 @@ fn put_scheduled(
     out: &mut [u8],
     n: usize,
 ) -> usize
-    requires { ⌜ GoodMarks (now head ++ now tail) n × (length (now head ++ now tail) ≡ markSize * n) × (length (now edition) ≤ 1) × (length (now shape) ≤ 1) × PopupsLent there (now popups ++ now last) n ⌝ }
+    requires { ⌜ PartsLent (now head ++ now tail) (now edition) there (now popups ++ now last) (now shape) n ⌝ }
     requires { ⌜ (workSize n ≤ length (now work)) × (scheduledSize n (keptFrom (now edition) there (now popups ++ now last) (now shape)) counted ≤ length (now out)) ⌝ }
     ensures { λ r. ⌜ (r ≡ contentsSize (length (codesFrom true (ltb 0 (length (now (edition .entry)))) there counted (ltb 0 (length (now (shape .entry))))))) × (now (out .exit) ≡ over (bareFrom (now (head .entry) ++ now (tail .entry)) (now (edition .entry)) there (now (popups .entry) ++ now (last .entry)) (now (shape .entry)) counted) (now (out .entry))) ⌝ }
 {
@@ -166,7 +166,7 @@ pub fn put_sheet(
     out: &mut [u8],
     n: usize,
 )
-    requires { ⌜ GoodMarks (now head ++ now tail) n × (length (now head ++ now tail) ≡ markSize * n) × (length (now edition) ≤ 1) × (length (now shape) ≤ 1) × PopupsLent there (now popups ++ now last) n ⌝ }
+    requires { ⌜ PartsLent (now head ++ now tail) (now edition) there (now popups ++ now last) (now shape) n ⌝ }
     requires { ⌜ (workSize n ≤ length (now work)) × (scheduledSize n (keptFrom (now edition) there (now popups ++ now last) (now shape)) counted ≤ length (now out)) ⌝ }
     ensures { λ _. ⌜ now (out .exit) ≡ over (scheduledFrom (now (head .entry) ++ now (tail .entry)) (keptFrom (now (edition .entry)) there (now (popups .entry) ++ now (last .entry)) (now (shape .entry))) counted) (now (out .entry)) ⌝ }
 {

@@ -5,16 +5,17 @@
 mod common;
 
 use common::{
-    each_popping_up, five_parts, one_part, popup_bytes, schedule_large, scheduled, scheduled_as,
-    scheduled_by, scheduled_popping_up, three_parts, with_counts, with_edition, with_part,
-    with_part_4, with_part_7, with_popups, with_shape, COUNTS, EDITION, LONGEST, OUT, SHAPE, WORK,
+    each_popping_up, five_parts, one_part, popup_bytes, records, schedule_large, scheduled,
+    scheduled_as, scheduled_by, scheduled_popping_up, three_parts, with_counts, with_edition,
+    with_part, with_part_4, with_part_7, with_popups, with_shape, COUNTS, EDITION, LONGEST, OUT,
+    SHAPE, WORK,
 };
 use oracle::change::{add, take_out};
 use oracle::mark::{read_marks, write_marks, Mark};
 use oracle::popup::read_popups;
 use oracle::process::schedule_in_rank_order;
 use oracle::rank::Edition;
-use oracle::record::{read_records, write_records, Record};
+use oracle::record::{write_records, Record};
 use oracle::sample::{marks, refused_sheets, Generator, Layout, P1};
 use oracle::shape::Shape;
 use oracle::sheet::{join, scheduled_bytes, split, work_bytes};
@@ -58,11 +59,6 @@ fn add_popping_up(sheet: &[u8], mark: Mark, popup: u32) -> Result<Vec<u8>, u32> 
 /// Takes a mark out in buffers that are long enough for any sheet.
 fn take_out_large(sheet: &[u8], m: u32) -> Result<Vec<u8>, u32> {
     take_out(sheet, m, WORK, LONGEST)
-}
-
-/// The records of a sheet of three parts.
-fn records(sheet: &[u8]) -> Vec<Record> {
-    read_records(split(sheet).unwrap().get(2).unwrap())
 }
 
 // ---- examples

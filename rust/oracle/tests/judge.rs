@@ -4,21 +4,21 @@
 mod common;
 
 use common::{
-    each_popping_up, five_parts, one_part, schedule_large, scheduled, scheduled_popping_up,
-    three_parts, with_edition, with_part, with_part_4, with_part_7, with_popups, with_shape,
-    with_tree,
+    each_popping_up, each_reel, five_parts, one_part, schedule_large, scheduled,
+    scheduled_popping_up, three_parts, with_edition, with_part, with_part_4, with_part_7,
+    with_popups, with_shape, with_tree,
 };
 use oracle::fraction::Removal;
 use oracle::judge::{accepts, judge};
-use oracle::mark::{write_marks, Mark};
+use oracle::mark::write_marks;
 use oracle::process::schedule_by_process;
 use oracle::rank::Edition;
 use oracle::record::{removals, write_records, Record};
 use oracle::reel::Reel;
 use oracle::rules::{keep_both, Breach};
 use oracle::sample::{
-    each_list, each_schedule, marks, popups, refused_sheets, small_choice, JudgedExample, Layout,
-    Popups, JUDGED_EXAMPLES, P1, TOGETHER,
+    each_list, each_schedule, marks, refused_sheets, small_choice, JudgedExample, Layout, Popups,
+    JUDGED_EXAMPLES, P1, TOGETHER,
 };
 use oracle::shape::Shape;
 use oracle::sheet::{check, join, join_parts};
@@ -93,22 +93,8 @@ fn parts_2_and_3_of_no_marks_are_accepted() {
 
 // ---- what holds of every schedule
 
-/// Calls `visit` with reels of these marks in both editions and of both shapes, without
-/// popups and with popups of some kinds.
-fn each_reel(marks: &[Mark], seed: u64, mut visit: impl FnMut(Reel)) {
-    let ways = [Popups::Few, Popups::Any, Popups::Touching, Popups::Together];
-    let drawn = ways.map(|how| popups(how, marks, seed));
-    for (edition, shape) in Edition::ALL
-        .into_iter()
-        .flat_map(|edition| Shape::ALL.map(|shape| (edition, shape)))
-    {
-        let reel = edition.reel(marks).with_shape(shape);
-        visit(reel);
-        drawn
-            .iter()
-            .for_each(|popups| visit(reel.with_popups(popups)));
-    }
-}
+/// The ways in which marks pop up here, besides not at all.
+const WAYS: [Popups; 4] = [Popups::Few, Popups::Any, Popups::Touching, Popups::Together];
 
 /// Sees that of all schedules of a reel that question 8 takes the judge accepts ours alone,
 /// and answers how many there are.
@@ -134,7 +120,9 @@ fn of_all_schedules_that_question_8_takes_ours_alone_is_accepted() {
             if seed % 2 == 0 {
                 sample.iter_mut().for_each(|mark| mark.priority &= 1);
             }
-            each_reel(&sample, seed, |reel| schedules += accepts_ours_alone(reel));
+            each_reel(&sample, &WAYS, seed, |reel| {
+                schedules += accepts_ours_alone(reel)
+            });
         }
     }
     assert!(schedules > 30_000, "{schedules} schedules");
@@ -155,7 +143,7 @@ fn ours_alone_is_accepted_of_every_three_marks_from_a_small_choice() {
 fn every_schedule_of_some_samples_passes_question_8() {
     for layout in Layout::ALL {
         let sample = marks(layout, 4, 1);
-        each_reel(&sample, 1, |reel| {
+        each_reel(&sample, &WAYS, 1, |reel| {
             each_schedule(reel, &mut |records| {
                 let sheet = sheet_of(reel, records);
                 assert_eq!(check(&sheet), 0);

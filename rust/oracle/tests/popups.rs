@@ -3,14 +3,14 @@
 mod common;
 
 use common::{
-    each_popping_up, five_parts, one_part, schedule_large, scheduled, scheduled_popping_up,
-    three_parts, with_edition, with_popups,
+    each_popping_up, five_parts, one_part, records, schedule_large, scheduled,
+    scheduled_popping_up, three_parts, with_edition, with_popups,
 };
 use oracle::fraction::{Fraction, Removal};
 use oracle::mark::Mark;
 use oracle::popup::write_popups;
 use oracle::rank::Edition::{self, First, Second};
-use oracle::record::{read_records, Record};
+use oracle::record::Record;
 use oracle::report::print;
 use oracle::sample::{PopupExample, P1, P5, POPUP_EXAMPLES};
 use oracle::sheet::{check, join_parts, open, split};
@@ -25,11 +25,6 @@ const NUMBERS: [usize; 6] = [0, 1, 2, 5, 9, 24];
 fn view_at(sheet: &[u8], k: u32) -> (Vec<u8>, u32) {
     let zoom = Zoom::Wheel(k as f32 / 64.0);
     view(sheet, Window::WHOLE, zoom, 512).unwrap()
-}
-
-/// The records of a sheet that has part 2.
-fn records(sheet: &[u8]) -> Vec<Record> {
-    read_records(split(sheet).unwrap().get(2).unwrap())
 }
 
 // ---- worked examples

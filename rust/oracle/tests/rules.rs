@@ -1,36 +1,23 @@
 //! Demand 3's two rules: the process keeps them, and no other list does, with popups and
 //! without, of disks and of squares.
 
+mod common;
+
+use common::each_reel;
 use oracle::fraction::{Fraction, Removal};
 use oracle::mark::{touching_value, Mark};
 use oracle::process::schedule_by_process;
-use oracle::rank::Edition::{self, First, Second};
+use oracle::rank::Edition::{First, Second};
 use oracle::record::removals;
 use oracle::reel::Reel;
 use oracle::rules::{keep_both, Breach};
-use oracle::sample::{each_list, marks, popups, Layout, Popups, P1};
+use oracle::sample::{each_list, marks, Layout, Popups, P1};
 use oracle::shape::Shape;
 use oracle::zoom::zoom_squared;
 
 /// The removal values the process gives.
 fn list_of(reel: Reel) -> Vec<Removal> {
     removals(&schedule_by_process(reel))
-}
-
-/// Calls `visit` with the marks in both editions and of both shapes, without popups and
-/// popping up in these ways.
-fn each_reel(marks: &[Mark], ways: &[Popups], seed: u64, mut visit: impl FnMut(Reel)) {
-    let drawn: Vec<Vec<u32>> = ways.iter().map(|&it| popups(it, marks, seed)).collect();
-    for (edition, shape) in Edition::ALL
-        .into_iter()
-        .flat_map(|edition| Shape::ALL.map(|shape| (edition, shape)))
-    {
-        let reel = edition.reel(marks).with_shape(shape);
-        visit(reel);
-        drawn
-            .iter()
-            .for_each(|popups| visit(reel.with_popups(popups)));
-    }
 }
 
 fn at(numerator: u64, denominator: u32) -> Removal {

@@ -4,15 +4,15 @@
 mod common;
 
 use common::{
-    each_popping_up, one_part, schedule_large, scheduled, scheduled_as, three_parts, with_counts,
-    with_part, with_popups, with_shape,
+    each_popping_up, one_part, records, schedule_large, scheduled, scheduled_as, three_parts,
+    with_counts, with_part, with_popups, with_shape,
 };
 use oracle::count::count;
 use oracle::judge::judge;
 use oracle::mark::Mark;
 use oracle::process::schedule_by_process;
 use oracle::rank::Edition;
-use oracle::record::{read_records, removals, Record};
+use oracle::record::{removals, Record};
 use oracle::report::print;
 use oracle::rules::keep_both;
 use oracle::sample::{
@@ -29,11 +29,6 @@ const NUMBERS: [usize; 6] = [0, 1, 2, 5, 9, 24];
 /// The map and the count of a view at k/64.
 fn view_at(sheet: &[u8], window: Window, k: u32) -> Result<(Vec<u8>, u32), u32> {
     view(sheet, window, Zoom::Wheel(k as f32 / 64.0), 512)
-}
-
-/// The records of a sheet that has part 2.
-fn records(sheet: &[u8]) -> Vec<Record> {
-    read_records(split(sheet).unwrap().get(2).unwrap())
 }
 
 /// The sheet of an example with this part 7, if there is one, as scheduling writes it.

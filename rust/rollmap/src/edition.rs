@@ -1,6 +1,7 @@
 //! Editions of the mill's marking handbook, by which a sheet's marks are ranked.
 
-use crate::{check, part, Code};
+use crate::part::named;
+use crate::Code;
 
 /// Bytes that part 4 adds to a sheet: 10 of contents, and its body.
 pub const EDITION_BYTES: usize = 11;
@@ -40,11 +41,7 @@ impl Edition {
 
 /// The edition that an accepted sheet goes by, none of a refused one.
 pub fn edition(sheet: &[u8]) -> Option<Edition> {
-    check(sheet).ok()?;
-    match part(sheet, Code::Edition) {
-        None => Some(Edition::First),
-        Some(part_4) => Edition::from_bytes(*part_4.first_chunk()?),
-    }
+    named(sheet, Code::Edition, Edition::from_bytes)
 }
 
 #[cfg(test)]

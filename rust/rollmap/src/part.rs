@@ -1,6 +1,6 @@
 //! The parts of a sheet by their codes.
 
-use crate::ffi;
+use crate::{check, ffi};
 
 /// What a part holds. Its number is the code that the contents have for it. More may come.
 #[derive(Clone, Copy, Debug, PartialEq, Eq, PartialOrd, Ord, Hash)]
@@ -50,6 +50,20 @@ pub fn part(sheet: &[u8], code: Code) -> Option<&[u8]> {
         return None;
     }
     Some(&sheet[offset..offset + length])
+}
+
+/// What an accepted sheet names in the part of one byte with that code, or else what holds
+/// where it names nothing. None of a refused sheet.
+pub(crate) fn named<T: Default>(
+    sheet: &[u8],
+    code: Code,
+    from_bytes: impl Fn([u8; 1]) -> Option<T>,
+) -> Option<T> {
+    check(sheet).ok()?;
+    match part(sheet, code) {
+        None => Some(T::default()),
+        Some(body) => from_bytes(*body.first_chunk()?),
+    }
 }
 
 #[cfg(test)]

@@ -1,6 +1,7 @@
 //! Shapes: what the labels of a sheet are drawn as.
 
-use crate::{check, part, Code};
+use crate::part::named;
+use crate::Code;
 
 /// Bytes that part 7 adds to a sheet: 10 of contents, and its body.
 pub const SHAPE_BYTES: usize = 11;
@@ -61,11 +62,7 @@ impl Shape {
 
 /// The shape of an accepted sheet's labels, none of a refused one.
 pub fn shape(sheet: &[u8]) -> Option<Shape> {
-    check(sheet).ok()?;
-    match part(sheet, Code::Shape) {
-        None => Some(Shape::Disk),
-        Some(part_7) => Shape::from_bytes(*part_7.first_chunk()?),
-    }
+    named(sheet, Code::Shape, Shape::from_bytes)
 }
 
 #[cfg(test)]

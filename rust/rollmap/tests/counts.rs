@@ -423,7 +423,7 @@ fn a_sheet_without_part_6_is_given_none() {
     for _ in 0..300 {
         let sample = some_marks(&mut generator);
         let beyond = some_uncounted(&mut generator, &sample);
-        let sheet = rollmap::schedule_to_vec(&beyond.bare(&sample)).unwrap();
+        let sheet = beyond.scheduled_here(&sample);
         let more = rollmap::add_to_vec(&sheet, bound(&P1[0]), 0).unwrap();
         let fewer = rollmap::take_out_to_vec(&more, 0).unwrap();
         for sheet in [sheet, more, fewer] {

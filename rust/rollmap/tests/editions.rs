@@ -4,7 +4,8 @@
 mod common;
 
 use common::jobs::{
-    self, check, come_and_go, come_in_buffers_of_its_own, records, refused_by_every_job, schedule,
+    self, check, come_and_go, come_in_buffers_of_its_own, every_eliminator, records,
+    refused_by_every_job, schedule,
 };
 use common::views::{assert_alike, view};
 use common::{
@@ -180,14 +181,7 @@ fn every_eliminator_in_both_editions() {
     for _ in 0..300 {
         let sample = rivals(&mut generator, 6);
         for named in NAMED {
-            for (m, other) in (0..6).flat_map(|m| (0..6).map(move |other| (m, other))) {
-                let mut records = vec![Record::NEVER; 6];
-                let reel = named.unwrap_or_default().reel(&sample);
-                records[m] = Record::removed(other, reel.pair_value(m, other));
-                let number = check(&with_named(three_parts(&sample, &records), named));
-                let expected = if reel.outranks(other, m) { 0 } else { 8 };
-                assert_eq!(number, expected, "{sample:?} {m} {other}");
-            }
+            every_eliminator(&Beyond::named(named), &sample);
         }
     }
 }

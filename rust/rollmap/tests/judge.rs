@@ -158,7 +158,7 @@ fn no_marks_are_accepted_with_parts_2_and_3() {
 
 /// Sees that the sheet which the library schedules of these marks is accepted.
 fn accepts_scheduled(beyond: &Beyond, marks: &[Mark]) {
-    let sheet = rollmap::schedule_to_vec(&beyond.bare(marks)).unwrap();
+    let sheet = beyond.scheduled_here(marks);
     assert_eq!(judge(&sheet), 0);
 }
 
@@ -209,7 +209,7 @@ fn the_largest_scheduled_sheets_are_accepted() {
         let sample = marks(layout, 4_096, 9);
         let popping_up = Beyond::popping_up(popups(how, &sample, 9));
         for beyond in [Beyond::default(), Beyond::named(NAMED[2]), popping_up] {
-            let sheet = rollmap::schedule_to_vec(&beyond.bare(&sample)).unwrap();
+            let sheet = beyond.scheduled_here(&sample);
             assert_eq!(judge_by_scheduling(&sheet), 0, "{layout:?}");
         }
     }

@@ -10,12 +10,7 @@ use oracle::rank::Edition;
 use oracle::record::Record;
 use oracle::sample::{popups, Generator, Popups};
 use oracle::shape::Shape;
-use rollmap::{add_to_vec, schedule_to_vec, NO_POPUP};
-
-/// The sheet that the library schedules of these marks with these parts.
-fn scheduled_here(beyond: &Beyond, marks: &[Mark]) -> Vec<u8> {
-    schedule_to_vec(&beyond.bare(marks)).unwrap()
-}
+use rollmap::{add_to_vec, NO_POPUP};
 
 /// Breaks all over the reel, of priorities 900 to 902.
 fn breaks(generator: &mut Generator, n: usize) -> Vec<Mark> {
@@ -62,7 +57,7 @@ fn a_reel_with_breaks_and_a_thousand_notes() {
     let breaks = breaks(&mut generator, 300);
     let notes = notes(&mut generator, 1_000);
     let none = Beyond::default();
-    let before = scheduled_here(&none, &breaks);
+    let before = none.scheduled_here(&breaks);
     let ours = records_among(&before, 900);
     assert_eq!(ours, records(&before));
     assert!(
@@ -73,7 +68,7 @@ fn a_reel_with_breaks_and_a_thousand_notes() {
     );
 
     let all = mixed(&mut generator, &breaks, &notes);
-    let after = scheduled_here(&none, &all);
+    let after = none.scheduled_here(&all);
     assert_eq!(records_among(&after, 900), ours);
     // Their numbers are others now, and so are their eliminators' among all marks.
     let numbers = important(&all, 900);
@@ -88,7 +83,7 @@ fn a_reel_with_breaks_and_a_thousand_notes() {
 fn a_note_that_is_added_moves_no_break() {
     let mut generator = Generator::new(15);
     let breaks = breaks(&mut generator, 60);
-    let mut sheet = scheduled_here(&Beyond::default(), &breaks);
+    let mut sheet = Beyond::default().scheduled_here(&breaks);
     let ours = records_among(&sheet, 900);
     for note in notes(&mut generator, 100) {
         sheet = add_to_vec(&sheet, bound(&note), NO_POPUP).unwrap();
@@ -123,7 +118,7 @@ fn whatever_is_below_a_priority_moves_nothing_above_it() {
             n => marks[generator.below(n) as usize].priority,
         };
         let kept = important(&marks, p);
-        let ours = records_among(&scheduled_here(&beyond, &marks), p);
+        let ours = records_among(&beyond.scheduled_here(&marks), p);
 
         // The same of priority p and above, and others below it, if there can be any.
         let mut others = any_marks(&mut generator);
@@ -150,7 +145,7 @@ fn whatever_is_below_a_priority_moves_nothing_above_it() {
             counted: generator.below(2) == 0,
             shaped: generator.choose(&shapes),
         };
-        assert_eq!(records_among(&scheduled_here(&other, &all), p), ours);
+        assert_eq!(records_among(&other.scheduled_here(&all), p), ours);
         let moved = ours.iter().any(|&record| record != Record::NEVER);
         tally.add(u32::from(moved) + 2 * u32::from(all.len() > kept.len()));
     }
@@ -164,16 +159,16 @@ fn a_mark_of_equal_priority_is_no_note() {
     let pair = [Mark::plain(0, 0, 10, 9), Mark::plain(100, 0, 10, 9)];
     let with = |priority| [Mark::plain(50, 0, 10, priority), pair[0], pair[1]];
     let none = Beyond::default();
-    let ours = records_among(&scheduled_here(&none, &pair), 9);
+    let ours = records_among(&none.scheduled_here(&pair), 9);
     assert_eq!(ours, [Record::NEVER, Record::new(0, 10_000, 400)]);
-    assert_eq!(records_among(&scheduled_here(&none, &with(8)), 9), ours);
-    let [_, rest @ ..] = &records_among(&scheduled_here(&none, &with(9)), 9)[..] else {
+    assert_eq!(records_among(&none.scheduled_here(&with(8)), 9), ours);
+    let [_, rest @ ..] = &records_among(&none.scheduled_here(&with(9)), 9)[..] else {
         panic!("three of priority 9");
     };
     assert_ne!(rest, ours);
     // By the second edition the larger one counts, though it comes last.
     let larger = [pair[0], pair[1], Mark::plain(50, 0, 30, 9)];
     let second = Beyond::named(Some(Edition::Second));
-    let rest = &records_among(&scheduled_here(&second, &larger), 9)[..2];
-    assert_ne!(rest, records_among(&scheduled_here(&second, &pair), 9));
+    let rest = &records_among(&second.scheduled_here(&larger), 9)[..2];
+    assert_ne!(rest, records_among(&second.scheduled_here(&pair), 9));
 }

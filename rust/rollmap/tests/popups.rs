@@ -3,8 +3,8 @@
 mod common;
 
 use common::jobs::{
-    becomes_scheduled, check, come_and_go, come_in_buffers_of_its_own, first_no, records,
-    refused_by_every_job, schedule,
+    becomes_scheduled, check, come_and_go, come_in_buffers_of_its_own, every_eliminator, first_no,
+    is_ours_if_kept, records, refused_by_every_job, schedule,
 };
 use common::views::{assert_alike, assert_view, in_64ths, view, wheel, window, Scheduled, WHOLE};
 use common::{
@@ -61,7 +61,7 @@ fn worked_examples() {
     } in POPUP_EXAMPLES
     {
         let beyond = Beyond::popping_up(popups.to_vec());
-        let sheet = rollmap::schedule_to_vec(&beyond.bare(marks)).unwrap();
+        let sheet = beyond.scheduled_here(marks);
         assert_eq!(records(&sheet), expected, "{popups:?}");
         for &(k, map) in shown {
             let expected = Ok((vec![map], map.count_ones()));
@@ -141,7 +141,7 @@ fn an_equal_popup_keeps_the_numbers_of_the_touching_value() {
             }
             let beyond = Beyond::popping_up(popups.to_vec());
             becomes_scheduled(&beyond, &two);
-            let sheet = rollmap::schedule_to_vec(&beyond.bare(&two)).unwrap();
+            let sheet = beyond.scheduled_here(&two);
             assert_eq!(records(&sheet)[1], Record::removed(0, value));
         }
     }
@@ -256,7 +256,7 @@ fn where_every_popup_is_0_all_is_as_without_part_5_but_for_its_own_bytes() {
                 let zeros = Some(vec![NO_POPUP; n]);
                 let [bare, popping_up] = [None, zeros].map(|popups| {
                     let beyond = Beyond::uncounted(named, popups);
-                    rollmap::schedule_to_vec(&beyond.bare(&sample)).unwrap()
+                    beyond.scheduled_here(&sample)
                 });
                 assert_eq!(popping_up, with_popups(&bare, &vec![NO_POPUP; n]));
                 let codes = [Code::Marks, Code::Schedule, Code::Index, Code::Edition];
@@ -291,7 +291,7 @@ fn part_5_of_no_marks_is_kept() {
         let popups = Some(Vec::new());
         let beyond = Beyond::uncounted(named, popups);
         becomes_scheduled(&beyond, &[]);
-        let empty = rollmap::schedule_to_vec(&beyond.bare(&[])).unwrap();
+        let empty = beyond.scheduled_here(&[]);
         assert_eq!(rollmap::part(&empty, Code::Popups), Some(&[][..]));
         let one = rollmap::add_to_vec(&empty, bound(&P1[0]), 7).unwrap();
         assert_eq!(rollmap::part(&one, Code::Popups), Some(&[7, 0, 0, 0][..]));
@@ -310,18 +310,13 @@ fn a_list_keeps_both_rules_exactly_if_it_is_ours() {
         let sample = marks(layout, 1 + round % 9, round as u64);
         let beyond = Beyond::draw(&mut generator, &sample);
         let reel = beyond.reel(&sample);
-        let sheet = rollmap::schedule_to_vec(&beyond.bare(&sample)).unwrap();
+        let sheet = beyond.scheduled_here(&sample);
         let ours = removals(&records(&sheet));
         assert_eq!(keep_both(reel, &ours), Ok(()));
         // Whoever leaves the popups aside names another list, or the same values.
         let without = Beyond::named(beyond.named).with_shape(beyond.shaped);
         let others = removals(&schedule_in_rank_order(without.reel(&sample)));
-        let same = ours
-            .iter()
-            .zip(&others)
-            .all(|(own, other)| own.equals(*other));
-        assert_eq!(keep_both(reel, &others).is_ok(), same);
-        by_touching += usize::from(!same);
+        by_touching += usize::from(!is_ours_if_kept(reel, &ours, &others));
         for m in 0..sample.len() {
             let other = generator.below(sample.len() as u32) as usize;
             for value in [
@@ -334,9 +329,7 @@ fn a_list_keeps_both_rules_exactly_if_it_is_ours() {
             ] {
                 let mut list = ours.clone();
                 list[m] = value;
-                let same = value.equals(ours[m]);
-                assert_eq!(keep_both(reel, &list).is_ok(), same, "{reel:?} {list:?}");
-                changed += usize::from(!same);
+                changed += usize::from(!is_ours_if_kept(reel, &ours, &list));
             }
         }
     }
@@ -361,7 +354,7 @@ fn a_view_shows_whom_any_list_that_keeps_both_rules_has_living() {
         |marks, popups, seed| {
             let beyond = Beyond::popping_up(popups.to_vec());
             let reel = beyond.reel(marks);
-            let sheet = rollmap::schedule_to_vec(&beyond.bare(marks)).unwrap();
+            let sheet = beyond.scheduled_here(marks);
             // The list that someone else names, with other numbers for the same values.
             let list = removals(&schedule_by_process(reel)).into_iter().map(thrice);
             let list: Vec<Removal> = list.collect();
@@ -382,7 +375,7 @@ fn a_view_shows_whom_any_list_that_keeps_both_rules_has_living() {
 fn a_list_that_leaves_a_popup_aside_breaks_a_rule() {
     let popups = [640, 0, 0, 0];
     let beyond = Beyond::popping_up(popups.to_vec());
-    let sheet = rollmap::schedule_to_vec(&beyond.bare(&P1)).unwrap();
+    let sheet = beyond.scheduled_here(&P1);
     let reel = beyond.reel(&P1);
     let ours = removals(&records(&sheet));
     assert_eq!(keep_both(reel, &ours), Ok(()));
@@ -416,15 +409,7 @@ fn every_eliminator_with_popups() {
     let mut generator = Generator::new(115);
     for _ in 0..300 {
         let sample = rivals(&mut generator, 6);
-        let beyond = Beyond::draw(&mut generator, &sample);
-        let reel = beyond.reel(&sample);
-        for (m, other) in (0..6).flat_map(|m| (0..6).map(move |other| (m, other))) {
-            let mut records = vec![Record::NEVER; 6];
-            records[m] = Record::removed(other, reel.pair_value(m, other));
-            let number = check(&beyond.with_records(&sample, &records));
-            let expected = if reel.outranks(other, m) { 0 } else { 8 };
-            assert_eq!(number, expected, "{reel:?} {m} {other}");
-        }
+        every_eliminator(&Beyond::draw(&mut generator, &sample), &sample);
     }
 }
 
@@ -623,7 +608,7 @@ fn a_scheduled_sheet_comes_back_byte_for_byte() {
         let n = generator.below(20) as usize;
         let sample = rivals(&mut generator, n);
         let beyond = Beyond::draw(&mut generator, &sample);
-        let sheet = rollmap::schedule_to_vec(&beyond.bare(&sample)).unwrap();
+        let sheet = beyond.scheduled_here(&sample);
         let new = marks(generator.choose(&Layout::ALL), 1, generator.draw())[0];
         let popup = match beyond.popups {
             Some(_) => generator.choose(&[0, 1, 64, 640, 65_535, 65_536]),

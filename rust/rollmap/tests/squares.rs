@@ -3,12 +3,12 @@
 mod common;
 
 use common::jobs::{
-    self, assert_made, check, come_and_go, come_in_buffers_of_its_own, first_no, is_rescheduled,
-    records, refused_by_every_job, schedule,
+    self, assert_made, check, come_and_go, come_in_buffers_of_its_own, every_eliminator, first_no,
+    is_ours_if_kept, is_rescheduled, records, refused_by_every_job, schedule,
 };
 use common::views::{
-    assert_alike, assert_view, beside_a_label, in_64ths, some_zoom, touches, view, wheel, window,
-    zoom, Scheduled, OUTSIDE, WHOLE,
+    assert_alike, assert_view, each_beside_a_label, in_64ths, some_zoom, view,
+    view_ours_and_foreign, wheel, window, zoom, Scheduled, OUTSIDE, WHOLE,
 };
 use common::{
     add, bound, foreign_records, longest, number, one_part, rivals, schedule_in, scheduled,
@@ -16,7 +16,6 @@ use common::{
     with_popups, write_in, Beyond, Tally, NAMED, SHAPED,
 };
 use oracle::fraction::Removal;
-use oracle::map::is_set;
 use oracle::mark::{touching_value, write_marks, Mark};
 use oracle::popup::write_popups;
 use oracle::process::{schedule_by_process, schedule_in_rank_order};
@@ -45,11 +44,6 @@ fn draw_squares(generator: &mut Generator, marks: &[Mark]) -> Beyond {
 /// Sees that scheduling these marks as squares writes what the order of rank gives.
 fn becomes_scheduled(marks: &[Mark]) {
     jobs::becomes_scheduled(&squares(), marks);
-}
-
-/// The sheet that the library schedules of these marks with these parts.
-fn scheduled_here(beyond: &Beyond, marks: &[Mark]) -> Vec<u8> {
-    rollmap::schedule_to_vec(&beyond.bare(marks)).unwrap()
 }
 
 /// The sheet of these marks with these popups, counted, and with a part 7 behind part 6.
@@ -84,7 +78,7 @@ fn worked_examples() {
     {
         for (shaped, at) in [(None, 0), (Some(Disk), 0), (Some(Square), 1)] {
             let beyond = Beyond::uncounted(None, popups.map(<[u32]>::to_vec));
-            let sheet = scheduled_here(&beyond.with_shape(shaped), marks);
+            let sheet = beyond.with_shape(shaped).scheduled_here(marks);
             assert_eq!(records(&sheet), of_shapes[at], "{marks:?} {shaped:?}");
             assert_eq!(rollmap::judge(&sheet), Ok(()));
             for &(k, maps) in shown {
@@ -100,7 +94,7 @@ fn a_square_reaches_further_towards_a_corner() {
     let label = [Mark::plain(0, 0, 10, 0)];
     for (edges, k, reached) in REACH_EXAMPLES {
         for (shape, reached) in Shape::ALL.into_iter().zip(reached) {
-            let sheet = scheduled_here(&Beyond::shaped(Some(shape)), &label);
+            let sheet = Beyond::shaped(Some(shape)).scheduled_here(&label);
             let asked = View {
                 x0: edges.x0,
                 x1: edges.x1,
@@ -132,7 +126,7 @@ fn a_square_reaches_further_towards_a_corner() {
 fn another_shape_is_another_schedule() {
     for (shape, other) in [(Disk, Square), (Square, Disk)] {
         let [sheet, expected] =
-            [shape, other].map(|it| scheduled_here(&Beyond::shaped(Some(it)), &DIAGONAL));
+            [shape, other].map(|it| Beyond::shaped(Some(it)).scheduled_here(&DIAGONAL));
         let part = |code| (code, rollmap::part(&sheet, code).unwrap());
         let [marks, schedule, index] = [Code::Marks, Code::Schedule, Code::Index].map(part);
         let part_7 = other.write();
@@ -242,7 +236,7 @@ fn without_part_7_all_is_as_with_disks_named_but_for_its_own_bytes() {
             let sample = marks(layout, n, 4);
             let drawn = Beyond::draw(&mut generator, &sample);
             let [bare, named] = [None, Some(Disk)]
-                .map(|shaped| scheduled_here(&drawn.clone().with_shape(shaped), &sample));
+                .map(|shaped| drawn.clone().with_shape(shaped).scheduled_here(&sample));
             assert_eq!(named, with_part_7(&bare, &[1]));
             let codes = &Code::ALL[..6];
             let zoom = Zoom::Stop(generator.below(17) as u8);
@@ -266,7 +260,7 @@ fn along_a_line_squares_are_as_disks() {
         let mut sample = marks(Layout::Line, n, 7);
         for _ in 0..2 {
             let [disks, squares] =
-                Shape::ALL.map(|shape| scheduled_here(&Beyond::shaped(Some(shape)), &sample));
+                Shape::ALL.map(|shape| Beyond::shaped(Some(shape)).scheduled_here(&sample));
             for stop in 0..=16 {
                 let zoom = Zoom::Stop(stop);
                 assert_alike(&disks, &squares, &Code::ALL[..3], zoom);
@@ -309,7 +303,7 @@ fn the_shape_of_no_marks_is_kept() {
     for shaped in SHAPED {
         let beyond = Beyond::shaped(shaped);
         jobs::becomes_scheduled(&beyond, &[]);
-        let empty = scheduled_here(&beyond, &[]);
+        let empty = beyond.scheduled_here(&[]);
         let one = rollmap::add_to_vec(&empty, bound(&P1[0]), NO_POPUP).unwrap();
         assert_eq!(one, beyond.scheduled(&P1[..1]));
         assert_eq!(rollmap::take_out_to_vec(&one, 0), Ok(empty));
@@ -327,14 +321,11 @@ fn a_list_keeps_both_rules_exactly_if_it_is_ours() {
         let sample = marks(layout, 1 + round % 9, round as u64);
         let beyond = draw_squares(&mut generator, &sample);
         let reel = beyond.reel(&sample);
-        let ours = removals(&records(&scheduled_here(&beyond, &sample)));
+        let ours = removals(&records(&beyond.scheduled_here(&sample)));
         assert_eq!(keep_both(reel, &ours), Ok(()));
         // Whoever takes them for disks names another list, or the same values.
         let others = removals(&schedule_in_rank_order(reel.with_shape(Disk)));
-        let mut pairs = ours.iter().zip(&others);
-        let same = pairs.all(|(own, other)| own.equals(*other));
-        assert_eq!(keep_both(reel, &others).is_ok(), same);
-        as_disks += usize::from(!same);
+        as_disks += usize::from(!is_ours_if_kept(reel, &ours, &others));
         for m in 0..sample.len() {
             let other = generator.below(sample.len() as u32) as usize;
             let of_shape = |shape| touching_value(shape, &sample[m], &sample[other]);
@@ -346,9 +337,7 @@ fn a_list_keeps_both_rules_exactly_if_it_is_ours() {
             ] {
                 let mut list = ours.clone();
                 list[m] = value;
-                let same = value.equals(ours[m]);
-                assert_eq!(keep_both(reel, &list).is_ok(), same, "{reel:?} {list:?}");
-                changed += usize::from(!same);
+                changed += usize::from(!is_ours_if_kept(reel, &ours, &list));
             }
         }
     }
@@ -358,7 +347,7 @@ fn a_list_keeps_both_rules_exactly_if_it_is_ours() {
 #[test]
 fn a_list_of_the_other_shape_breaks_a_rule() {
     let lists = Shape::ALL.map(|shape| {
-        let sheet = scheduled_here(&Beyond::shaped(Some(shape)), &THREE_FOUR_FIVE);
+        let sheet = Beyond::shaped(Some(shape)).scheduled_here(&THREE_FOUR_FIVE);
         removals(&records(&sheet))
     });
     let kept = |shape| {
@@ -377,7 +366,7 @@ fn a_view_shows_whom_any_list_that_keeps_both_rules_has_living() {
         let sample = marks(generator.choose(&Layout::ALL), 1 + round % 12, round as u64);
         let beyond = draw_squares(&mut generator, &sample);
         let reel = beyond.reel(&sample);
-        let sheet = scheduled_here(&beyond, &sample);
+        let sheet = beyond.scheduled_here(&sample);
         let list = removals(&schedule_by_process(reel));
         let records = records(&sheet);
         let scheduled = Scheduled::with(beyond.clone(), sample.clone(), &records);
@@ -417,15 +406,7 @@ fn every_eliminator_of_squares() {
     let mut generator = Generator::new(168);
     for _ in 0..300 {
         let sample = rivals(&mut generator, 6);
-        let beyond = draw_squares(&mut generator, &sample);
-        let reel = beyond.reel(&sample);
-        for (m, other) in (0..6).flat_map(|m| (0..6).map(move |other| (m, other))) {
-            let mut records = vec![Record::NEVER; 6];
-            records[m] = Record::removed(other, reel.pair_value(m, other));
-            let number = check(&beyond.with_records(&sample, &records));
-            let expected = if reel.outranks(other, m) { 0 } else { 8 };
-            assert_eq!(number, expected, "{reel:?} {m} {other}");
-        }
+        every_eliminator(&draw_squares(&mut generator, &sample), &sample);
     }
 }
 
@@ -449,7 +430,7 @@ fn places_at_both_ends_of_the_range() {
                 .map(|(one, other)| u64::from(i32::from(one).abs_diff(other.into())));
             let sum = 2 * u32::from(radius);
             let gone = Record::new(0, dx.max(dy).pow(2), sum * sum);
-            let sheet = scheduled_here(&squares(), &two);
+            let sheet = squares().scheduled_here(&two);
             assert_eq!(records(&sheet), [Record::NEVER, gone]);
         }
     }
@@ -579,19 +560,7 @@ fn larger_sheets_ours_and_foreign() {
     {
         let sample = marks(layout, n, n as u64);
         for beyond in [squares(), draw_squares(&mut generator, &sample)] {
-            let reel = beyond.reel(&sample);
-            let lists = [
-                schedule_in_rank_order(reel),
-                foreign_records(&mut generator, reel),
-                vec![Record::NEVER; n],
-            ];
-            for records in lists {
-                let scheduled = Scheduled::with(beyond.clone(), sample.clone(), &records);
-                for _ in 0..20 {
-                    let asked = scheduled.some_view(&mut generator, Turn::None);
-                    scheduled.view(asked);
-                }
-            }
+            view_ours_and_foreign(&mut generator, &beyond, &sample, &[Turn::None], 20);
         }
     }
 }
@@ -604,10 +573,7 @@ fn the_largest_sheets_are_viewed() {
         let beyond = draw_squares(&mut generator, &sample);
         let records = foreign_records(&mut generator, beyond.reel(&sample));
         let scheduled = Scheduled::with(beyond, sample, &records);
-        for _ in 0..40 {
-            let asked = scheduled.some_view(&mut generator, Turn::None);
-            scheduled.view(asked);
-        }
+        scheduled.some_views(&mut generator, Turn::None, 40);
         assert_view(&scheduled.sheet, WHOLE, 511, &Err(13));
     }
 }
@@ -615,35 +581,14 @@ fn the_largest_sheets_are_viewed() {
 #[test]
 fn squares_that_just_reach_the_rectangle_and_that_just_miss_it() {
     let mut generator = Generator::new(172);
-    let (mut touched, mut reached, mut missed, mut corner) = (0, 0, 0, 0);
-    for layout in Layout::ALL {
-        for n in [1, 2, 9, 120] {
-            let sample = marks(layout, n, 10);
-            let scheduled = Scheduled::with(squares(), sample, &vec![Record::NEVER; n]);
-            for _ in 0..300 {
-                // At a whole zoom a square reaches a whole number of map units.
-                let zoom = match generator.below(2) {
-                    0 => wheel(64 * (1 + generator.below(9))),
-                    _ => some_zoom(&mut generator),
-                };
-                let k = in_64ths(zoom);
-                let (beside, number) =
-                    beside_a_label(&mut generator, Square, &scheduled.marks, Turn::None, k);
-                let asked = View { zoom, ..beside };
-                let expected = scheduled.expected(asked);
-                let shown = is_set(&expected.0, number);
-                let mark = &scheduled.marks[number];
-                reached += usize::from(shown);
-                missed += usize::from(!shown);
-                touched += usize::from(touches(Square, mark, asked, k));
-                corner += usize::from(shown && !reaches(Disk, mark, window(asked), k));
-                assert_view(&scheduled.sheet, asked, expected.0.len() - 1, &Err(13));
-                scheduled.view(asked);
-            }
-        }
-    }
-    let numbers = [touched, reached, missed, corner];
-    assert!(numbers.iter().all(|&n| n > 1_000), "{numbers:?}");
+    let mut corner = 0;
+    let visit = |mark: &Mark, asked: View, shown| {
+        let k = in_64ths(asked.zoom);
+        corner += usize::from(shown && !reaches(Disk, mark, window(asked), k));
+    };
+    let [reached, ..] = each_beside_a_label(&mut generator, &squares(), 10, &[Turn::None], visit);
+    assert!(reached.iter().all(|&n| n > 1_000), "{reached:?}");
+    assert!(corner > 1_000, "{corner}");
 }
 
 #[test]
@@ -753,7 +698,7 @@ fn a_scheduled_sheet_comes_back_byte_for_byte() {
         let n = generator.below(20) as usize;
         let sample = rivals(&mut generator, n);
         let beyond = draw_squares(&mut generator, &sample);
-        let sheet = scheduled_here(&beyond, &sample);
+        let sheet = beyond.scheduled_here(&sample);
         let new = marks(generator.choose(&Layout::ALL), 1, generator.draw())[0];
         let more = rollmap::add_to_vec(&sheet, bound(&new), NO_POPUP).unwrap();
         assert_eq!(rollmap::part(&more, Code::Shape), Some(&[2][..]));
@@ -817,7 +762,7 @@ fn counting_puts_part_6_before_part_7() {
 fn counts_go_by_the_sheets_own_schedule_of_its_shape() {
     // As squares the second mark is gone at stop 7, where 64 times the zoom is 128.
     let notes = |shape| {
-        let sheet = scheduled_here(&Beyond::shaped(Some(shape)), &THREE_FOUR_FIVE);
+        let sheet = Beyond::shaped(Some(shape)).scheduled_here(&THREE_FOUR_FIVE);
         let counts = rollmap::counts(&rollmap::count_to_vec(&sheet).unwrap()).unwrap();
         [6, 7, 8].map(|stop| counts.at(stop).unwrap()[0])
     };
@@ -870,7 +815,7 @@ fn the_judge_goes_by_the_shape() {
 fn the_largest_sheets_of_squares_are_judged() {
     for layout in Layout::ALL {
         let sample = marks(layout, 4_096, 12);
-        let sheet = scheduled_here(&squares(), &sample);
+        let sheet = squares().scheduled_here(&sample);
         assert_eq!(rollmap::judge(&sheet), Ok(()), "{layout:?}");
         // And refused where one mark stays that goes.
         let mut records = records(&sheet);

@@ -4,20 +4,18 @@
 mod common;
 
 use common::views::{
-    anywhere, assert_view, beside_a_label, in_64ths, some_edge, some_zoom, touches, view, wheel,
-    window, zoom, Scheduled, WHOLE,
+    anywhere, assert_view, each_beside_a_label, some_edge, some_zoom, view, view_ours_and_foreign,
+    wheel, window, zoom, Scheduled, WHOLE,
 };
 use common::{
-    foreign_records, number, our_records, rivals, scheduled, some_marks, some_records, some_sheet,
-    Beyond, Lent, Tally, NAMED,
+    foreign_records, number, rivals, scheduled, some_marks, some_records, some_sheet, Beyond, Lent,
+    Tally, NAMED,
 };
 use oracle::map::{is_set, map_bytes};
 use oracle::mark::{read_marks, write_marks, Mark};
 use oracle::process::schedule_in_rank_order;
-use oracle::rank::Edition::First;
 use oracle::record::Record;
 use oracle::sample::{marks, popups, refused_sheets, Generator, Layout, Popups, P1};
-use oracle::shape::Shape::Disk;
 use oracle::turn::{turned, turned_marks};
 use rollmap::{Code, Refusal, Turn, View, Zoom, FARTHEST_EDGE};
 
@@ -126,20 +124,8 @@ fn larger_sheets_ours_and_foreign() {
     for layout in Layout::ALL {
         for n in [64, 65, 300] {
             let sample = marks(layout, n, n as u64);
-            let lists = [
-                our_records(&sample),
-                foreign_records(&mut generator, First.reel(&sample)),
-                vec![Record::NEVER; n],
-            ];
-            for records in lists {
-                let scheduled = Scheduled::new(sample.clone(), &records);
-                for turn in Turn::ALL {
-                    for _ in 0..12 {
-                        let asked = scheduled.some_view(&mut generator, turn);
-                        scheduled.view(asked);
-                    }
-                }
-            }
+            let beyond = Beyond::default();
+            view_ours_and_foreign(&mut generator, &beyond, &sample, &Turn::ALL, 12);
         }
     }
 }
@@ -153,10 +139,7 @@ fn the_largest_sheets() {
         let records = foreign_records(&mut generator, beyond.reel(&sample));
         let scheduled = Scheduled::with(beyond, sample, &records);
         for turn in Turn::ALL {
-            for _ in 0..8 {
-                let asked = scheduled.some_view(&mut generator, turn);
-                scheduled.view(asked);
-            }
+            scheduled.some_views(&mut generator, turn, 8);
             assert_view(&scheduled.sheet, whole(turn), 511, &Err(13));
         }
     }
@@ -165,36 +148,10 @@ fn the_largest_sheets() {
 #[test]
 fn disks_that_just_reach_the_rectangle_and_that_just_miss_it() {
     let mut generator = Generator::new(94);
-    let (mut touched, mut reached, mut missed) = ([0; 4], [0; 4], [0; 4]);
-    for layout in Layout::ALL {
-        for n in [1, 2, 9, 120] {
-            let sample = marks(layout, n, 23);
-            let records = vec![Record::NEVER; n];
-            let scheduled = Scheduled::new(sample, &records);
-            for turn in [Turn::ALL; 75].concat() {
-                // At a whole zoom a disk reaches a whole number of map units.
-                let zoom = match generator.below(2) {
-                    0 => wheel(64 * (1 + generator.below(9))),
-                    _ => some_zoom(&mut generator),
-                };
-                let k = in_64ths(zoom);
-                let (beside, mark) =
-                    beside_a_label(&mut generator, Disk, &scheduled.marks, turn, k);
-                let asked = View { zoom, ..beside };
-                let shown = is_set(&scheduled.expected(asked).0, mark);
-                let at = usize::from(turn.quarters());
-                reached[at] += usize::from(shown);
-                missed[at] += usize::from(!shown);
-                touched[at] += usize::from(touches(Disk, &scheduled.marks[mark], asked, k));
-                scheduled.view(asked);
-            }
-        }
-    }
-    let numbers = [touched, reached, missed];
-    assert!(
-        numbers.as_flattened().iter().all(|&n| n > 250),
-        "{numbers:?}"
-    );
+    let beyond = Beyond::default();
+    let reached = each_beside_a_label(&mut generator, &beyond, 23, &Turn::ALL, |_, _, _| ());
+    let mut numbers = reached.as_flattened().iter();
+    assert!(numbers.all(|&n| n > 250), "{reached:?}");
 }
 
 #[test]
@@ -345,11 +302,6 @@ fn a_refused_sheet_gets_its_number_before_20() {
 
 // ---- the guarantee on turned marks
 
-/// The sheet with these marks and these parts beyond 3, scheduled by the library.
-fn scheduled_here(marks: &[Mark], beyond: &Beyond) -> Vec<u8> {
-    rollmap::schedule_to_vec(&beyond.bare(marks)).unwrap()
-}
-
 /// The sheet with its marks turned and its parts beyond 3 but the counts carried along, put
 /// together and scheduled by the library; none where a turned place does not fit.
 fn turned_sheet(sheet: &[u8], turn: Turn) -> Option<Vec<u8>> {
@@ -397,7 +349,7 @@ fn a_turned_view_is_the_view_of_the_turned_marks() {
             _ => marks(generator.choose(&Layout::ALL), 30, round),
         };
         let beyond = Beyond::draw_disks(&mut generator, &sample);
-        let sheet = scheduled_here(&sample, &beyond);
+        let sheet = beyond.scheduled_here(&sample);
         let records = oracle::sheet::open(&sheet).unwrap().records.unwrap();
         let scheduled = Scheduled::with(beyond, sample, &records);
         let n = scheduled.marks.len();
@@ -434,7 +386,7 @@ fn larger_reels_of_both_editions_and_with_popups_turned() {
         sample.iter_mut().for_each(|mark| mark.priority &= 3);
         let popping_up = Beyond::popping_up(popups(Popups::Any, &sample, 26));
         for beyond in NAMED.map(Beyond::named).into_iter().chain([popping_up]) {
-            let sheet = scheduled_here(&sample, &beyond);
+            let sheet = beyond.scheduled_here(&sample);
             let records = oracle::sheet::open(&sheet).unwrap().records.unwrap();
             let scheduled = Scheduled::with(beyond, sample.clone(), &records);
             for turn in Turn::ALL {
@@ -464,7 +416,7 @@ fn marks_that_do_not_fit_are_viewed_with_the_turn_all_the_same() {
         Mark::plain(i16::MIN, i16::MIN, 1, 1),
         Mark::plain(0, 0, 1, 0),
     ];
-    let sheet = scheduled_here(&sample, &Beyond::default());
+    let sheet = Beyond::default().scheduled_here(&sample);
     for turn in [Turn::Quarter, Turn::Half, Turn::ThreeQuarters] {
         assert_eq!(turned_sheet(&sheet, turn), None);
         assert_eq!(answered(&sheet, whole(turn), 1), (Ok(2), vec![0x03]));
@@ -476,7 +428,7 @@ fn edges_of_2_bytes_still_hold_all_places() {
     let mut generator = Generator::new(99);
     for _ in 0..1_000 {
         let sample = some_marks(&mut generator);
-        let sheet = scheduled_here(&sample, &Beyond::draw_disks(&mut generator, &sample));
+        let sheet = Beyond::draw_disks(&mut generator, &sample).scheduled_here(&sample);
         let asked = View {
             zoom: some_zoom(&mut generator),
             ..WHOLE
@@ -514,7 +466,7 @@ fn turned_marks_viewed_with_a_turn_are_turned_in_succession() {
     for _ in 0..600 {
         let sample = turnable(&mut generator);
         let beyond = Beyond::draw_disks(&mut generator, &sample);
-        let sheet = scheduled_here(&sample, &beyond);
+        let sheet = beyond.scheduled_here(&sample);
         let records = schedule_in_rank_order(beyond.reel(&sample));
         let scheduled = Scheduled::with(beyond, sample.clone(), &records);
         for (first, next) in Turn::ALL
@@ -535,7 +487,7 @@ fn four_quarter_turns_give_the_sheet_back() {
     let mut generator = Generator::new(101);
     for _ in 0..300 {
         let sample = turnable(&mut generator);
-        let sheet = scheduled_here(&sample, &Beyond::draw_disks(&mut generator, &sample));
+        let sheet = Beyond::draw_disks(&mut generator, &sample).scheduled_here(&sample);
         let quarter =
             |sheet: Vec<u8>, _| turned_sheet(&sheet, Turn::Quarter).expect("the places fit");
         let half = turned_sheet(&sheet, Turn::Half).expect("the places fit");

@@ -4,20 +4,17 @@ mod common;
 
 use common::jobs::first_no;
 use common::views::{
-    anywhere, assert_view, beside_a_label, in_64ths, some_zoom, touches, view, wheel, window, zoom,
-    Scheduled, WHOLE,
+    anywhere, assert_view, each_beside_a_label, some_zoom, view, view_ours_and_foreign, wheel,
+    window, zoom, Scheduled, WHOLE,
 };
 use common::{
     foreign_records, number, one_part, our_records, scheduled, some_marks, some_records,
     some_sheet, with_part, Beyond, Tally,
 };
 use oracle::fraction::Removal;
-use oracle::map::{is_set, map_bytes};
+use oracle::map::map_bytes;
 use oracle::mark::Mark;
-use oracle::process::schedule_in_rank_order;
-use oracle::record::Record;
 use oracle::sample::{marks, popups, Generator, Layout, Popups, P1};
-use oracle::shape::Shape::Disk;
 use oracle::zoom::removal_zoom_in_64ths;
 use rollmap::{Turn, View, Zoom, FARTHEST_EDGE};
 
@@ -328,19 +325,7 @@ fn larger_sheets_ours_and_foreign() {
         let ways = [Popups::Any, Popups::Few, Popups::Touching];
         let popping_up = ways.map(|how| Beyond::popping_up(popups(how, &sample, 1)));
         for beyond in [Beyond::default()].into_iter().chain(popping_up) {
-            let reel = beyond.reel(&sample);
-            let lists = [
-                schedule_in_rank_order(reel),
-                foreign_records(&mut generator, reel),
-                vec![Record::NEVER; n],
-            ];
-            for records in lists {
-                let scheduled = Scheduled::with(beyond.clone(), sample.clone(), &records);
-                for _ in 0..30 {
-                    let view = scheduled.some_view(&mut generator, Turn::None);
-                    scheduled.view(view);
-                }
-            }
+            view_ours_and_foreign(&mut generator, &beyond, &sample, &[Turn::None], 30);
         }
     }
 }
@@ -348,34 +333,10 @@ fn larger_sheets_ours_and_foreign() {
 #[test]
 fn disks_that_just_reach_the_rectangle_and_that_just_miss_it() {
     let mut generator = Generator::new(47);
-    let (mut touched, mut reached, mut missed) = (0, 0, 0);
-    for layout in Layout::ALL {
-        for n in [1, 2, 9, 120] {
-            let sample = marks(layout, n, 10);
-            let records = vec![Record::NEVER; n];
-            let scheduled = Scheduled::new(sample, &records);
-            for _ in 0..300 {
-                // At a whole zoom a disk reaches a whole number of map units.
-                let zoom = match generator.below(2) {
-                    0 => wheel(64 * (1 + generator.below(9))),
-                    _ => some_zoom(&mut generator),
-                };
-                let k = in_64ths(zoom);
-                let (beside, number) =
-                    beside_a_label(&mut generator, Disk, &scheduled.marks, Turn::None, k);
-                let asked = View { zoom, ..beside };
-                let expected = scheduled.expected(asked);
-                let shown = is_set(&expected.0, number);
-                reached += usize::from(shown);
-                missed += usize::from(!shown);
-                touched += usize::from(touches(Disk, &scheduled.marks[number], asked, k));
-                assert_view(&scheduled.sheet, asked, expected.0.len() - 1, &Err(13));
-                scheduled.view(asked);
-            }
-        }
-    }
-    let numbers = [touched, reached, missed];
-    assert!(numbers.iter().all(|&n| n > 1_000), "{numbers:?}");
+    let beyond = Beyond::default();
+    let [reached, ..] =
+        each_beside_a_label(&mut generator, &beyond, 10, &[Turn::None], |_, _, _| ());
+    assert!(reached.iter().all(|&n| n > 1_000), "{reached:?}");
 }
 
 #[test]
@@ -387,10 +348,7 @@ fn the_largest_sheets() {
         for beyond in [Beyond::default(), popping_up] {
             let records = foreign_records(&mut generator, beyond.reel(&sample));
             let scheduled = Scheduled::with(beyond, sample.clone(), &records);
-            for _ in 0..40 {
-                let view = scheduled.some_view(&mut generator, Turn::None);
-                scheduled.view(view);
-            }
+            scheduled.some_views(&mut generator, Turn::None, 40);
             assert_view(&scheduled.sheet, WHOLE, 511, &Err(13));
         }
     }

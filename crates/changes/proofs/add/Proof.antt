@@ -205,7 +205,13 @@ schedule-marks-requires c κs =
     let ok = all (c .before .before .before .before .before .before .before .before .before .before .before) in
     let bytes : Bytes (given b) = λ i. c .before .before .before .before .before .before .before .before .before .before .before .before .before .before .before .before .before .before .before .before .before .before .before .shared-slice-known .given i .fits in
     let lent = add-lent (given b) (mark b) (b .args .popup) bytes (fit b) ok (part1 (c .before .before .before .before .before .before .before .before .before .before .before .before .before .before .before .before .before)) (last-is (c .before .before .before .before .before .before .before .before .before .before)) in
-    (lent .0, lent .1, rw (part4 (c .before .before .before .before .before .before .before .before)) (edition-short _ (accepted (c .before .before .before .before .before .before .before .before .before .before .before .before .before .before .before .before .before .before .before))), rw (part7 (c .before .before .before .before .before .before)) (shape-short _ (accepted (c .before .before .before .before .before .before .before .before .before .before .before .before .before .before .before .before .before .before .before))), rw (there5 (c .before .before .before .before .before .before .before .before .before .before .before .before .before), popups-are (c .before .before .before), count (c .before .before .before .before .before .before .before .before .before .before .before .before .before .before .before .before .before)) (add-popups-lent (given b) (mark b) (b .args .popup) bytes (fit b) ok))
+    record {
+      good = lent .0;
+      long = lent .1;
+      edition-short = rw (part4 (c .before .before .before .before .before .before .before .before)) (edition-short _ (accepted (c .before .before .before .before .before .before .before .before .before .before .before .before .before .before .before .before .before .before .before)));
+      shape-short = rw (part7 (c .before .before .before .before .before .before)) (shape-short _ (accepted (c .before .before .before .before .before .before .before .before .before .before .before .before .before .before .before .before .before .before .before)));
+      popups-lent = rw (there5 (c .before .before .before .before .before .before .before .before .before .before .before .before .before), popups-are (c .before .before .before), count (c .before .before .before .before .before .before .before .before .before .before .before .before .before .before .before .before .before)) (add-popups-lent (given b) (mark b) (b .args .popup) bytes (fit b) ok);
+    }
 
 same-length : tie.Need-same-length
 same-length c = search needs

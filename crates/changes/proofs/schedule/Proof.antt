@@ -100,7 +100,13 @@ schedule-marks-requires c κs =
     let ok = accepted (p .before .before .before .before .before) in
     let fit = accepted-iff _ .0 ok .fitting in
     rw (append-nil (now (p .before .before .before .part .result)), append-nil (now (p .part3 .result)), part1 (p .before .before .before), part4 (p .before .before), there5 (p .before), part5 p, part7 (c .before .before .before .before .before))
-    (fit .marks, fit .marks-long, edition-short _ ok, shape-short _ ok, popups-lent _ _ _ (fit .popups-right) (find-none (split (given (c .before .before .before .before .before .before .before .before .before .before .before .before .before .before .before .before))) 5))
+    (record {
+      good = fit .marks;
+      long = fit .marks-long;
+      edition-short = edition-short _ ok;
+      shape-short = shape-short _ ok;
+      popups-lent = popups-lent _ _ _ (fit .popups-right) (find-none (split (given (c .before .before .before .before .before .before .before .before .before .before .before .before .before .before .before .before))) 5);
+    })
 
 same-length : tie.Need-same-length
 same-length c = search needs

@@ -144,7 +144,13 @@ schedule-marks-requires c κs =
     let bytes : Bytes (given b) = λ i. c .before .before .before .before .before .before .before .before .before .before .before .before .before .before .before .before .before .before .shared-slice-known .given i .fits in
     let lent = take-out-lent (given b) m bytes ok (left (c .before .before .before .before .before)) in
     rw (count (c .before .before .before .before .before .before .before .before .before .before .before .before), part4 (c .before .before .before .before .before .before .before .before .before .before), there5 (c .before .before .before .before .before .before .before .before .before), left-popups (c .before .before .before), part7 (c .before .before .before .before .before .before .before))
-    (lent .0, lent .1, edition-short _ (accepted (c .before .before .before .before .before .before .before .before .before .before .before .before .before .before)), shape-short _ (accepted (c .before .before .before .before .before .before .before .before .before .before .before .before .before .before)), take-out-popups-lent (given b) m bytes ok)
+    (record {
+      good = lent .0;
+      long = lent .1;
+      edition-short = edition-short _ (accepted (c .before .before .before .before .before .before .before .before .before .before .before .before .before .before));
+      shape-short = shape-short _ (accepted (c .before .before .before .before .before .before .before .before .before .before .before .before .before .before));
+      popups-lent = take-out-popups-lent (given b) m bytes ok;
+    })
 
 same-length : tie.Need-same-length
 same-length c = search needs

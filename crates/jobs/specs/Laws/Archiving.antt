@@ -15,7 +15,7 @@ use Rattle.contents.specs.Asking.{answer}
 use Rattle.contents.specs.Laws.{Numbered, asked-iff, asked-no, none-asked}
 use Rattle.parts.specs.Questions.{question4, markCount}
 use Rattle.jobs.specs.declared.Answer.{Answer}
-use Rattle.jobs.specs.Jobs.{wrote, columnChecks, columnQuestions, toColumnsJob, fromColumnsJob}
+use Rattle.jobs.specs.Jobs.{Outcome, outcome, wrote, columnChecks, columnQuestions, toColumnsJob, fromColumnsJob}
 use Rattle.jobs.specs.Answers.{Gives}
 use Rattle.jobs.specs.Archived.{MeetsColumns, MeetsRows}
 use Rattle.jobs.specs.Laws.Outcomes.{outcome-yes}
@@ -57,64 +57,47 @@ few-marks s ok =
 same-count : (t : List ℕ) {n : ℕ} → length t ≡ 11 * n → markCount t ≡ n
 same-count t e = omega arith
 
--- ---- each job where 4 is passed and there is room
+-- ---- rearranging by `turn`, and by `undo`, which undoes it: either way round
 
-to-wrote : (s : List ℕ) (room : ℕ) → answer (columnChecks s) ≡ 0 → 11 * markCount s ≤ room → toColumnsJob s room ≡ wrote (toColumns s (markCount s))
-unfolding toColumnsJob columnQuestions
-to-wrote s room ok fits =
-    rw (to-length s (markCount s))
-    (outcome-yes _ (11 * markCount s) (toColumns s (markCount s)) (with-room (columnChecks s) (column-numbered s) (11 * markCount s) ok fits))
+-- what the job of `turn` says
+abbrev by : (List ℕ → ℕ → List ℕ) → List ℕ → ℕ → Outcome
+by turn s room = outcome (columnQuestions s room) (11 * markCount s) (turn s (markCount s))
 
-from-wrote : (s : List ℕ) (room : ℕ) → answer (columnChecks s) ≡ 0 → 11 * markCount s ≤ room → fromColumnsJob s room ≡ wrote (fromColumns s (markCount s))
-unfolding fromColumnsJob columnQuestions
-from-wrote s room ok fits =
-    rw (from-length s (markCount s))
-    (outcome-yes _ (11 * markCount s) (fromColumns s (markCount s)) (with-room (columnChecks s) (column-numbered s) (11 * markCount s) ok fits))
+module _ (turn undo : List ℕ → ℕ → List ℕ) (turn-length : (s : List ℕ) (n : ℕ) → length (turn s n) ≡ 11 * n)
+    (undo-length : (s : List ℕ) (n : ℕ) → length (undo s n) ≡ 11 * n)
+    (undoes : (s : List ℕ) (n : ℕ) → Bytes s → length s ≡ 11 * n → undo (turn s n) n ≡ s) where
+  -- where 4 is passed and there is room
+  undo-wrote : (s : List ℕ) (room : ℕ) → answer (columnChecks s) ≡ 0 → 11 * markCount s ≤ room → by undo s room ≡ wrote (undo s (markCount s))
+  unfolding columnQuestions
+  undo-wrote s room ok fits =
+      rw (undo-length s (markCount s))
+      (outcome-yes _ (11 * markCount s) (undo s (markCount s)) (with-room (columnChecks s) (column-numbered s) (11 * markCount s) ok fits))
 
--- ---- either way round
-
-module _ (s : List ℕ) (bytes : Bytes s) (ok : answer (columnChecks s) ≡ 0) (room : ℕ) (fits : length s ≤ room) where
-  abbrev n : ℕ
-  n = markCount s
-
-  pub columns-undone : fromColumnsJob (toColumns s n) room ≡ wrote s
-  columns-undone =
-      let w = toColumns s n in
-      let long : length w ≡ 11 * n = to-length s n in
+  undone : (s : List ℕ) → Bytes s → answer (columnChecks s) ≡ 0 → (room : ℕ) → length s ≤ room → by undo (turn s (markCount s)) room ≡ wrote s
+  undone s bytes ok room fits =
+      let n = markCount s in
+      let w = turn s n in
+      let long : length w ≡ 11 * n = turn-length s n in
       let count : markCount w ≡ n = same-count w long in
-      from-wrote w room (same-taken s w (long ∙ sym (whole-marks s ok)) ok) (rw count (omega (arith, fits, whole-marks s ok)))
-      ∙ ap wrote (rw count (there-and-back s n bytes (whole-marks s ok)))
+      undo-wrote w room (same-taken s w (long ∙ sym (whole-marks s ok)) ok) (rw count (omega (arith, fits, whole-marks s ok)))
+      ∙ ap wrote (rw count (undoes s n bytes (whole-marks s ok)))
 
-  pub marks-undone : toColumnsJob (fromColumns s n) room ≡ wrote s
-  marks-undone =
-      let w = fromColumns s n in
-      let long : length w ≡ 11 * n = from-length s n in
-      let count : markCount w ≡ n = same-count w long in
-      to-wrote w room (same-taken s w (long ∙ sym (whole-marks s ok)) ok) (rw count (omega (arith, fits, whole-marks s ok)))
-      ∙ ap wrote (rw count (back-and-there s n bytes (whole-marks s ok)))
-
--- ---- and so of what the calls answer and leave
+  -- and so of what the call answers and leaves
+  turned-back : {s before : List ℕ} {r : Answer} {out : List ℕ} → Bytes s → Gives (by turn s (length before)) before r out
+      → r .number ≡ 0 → (room : ℕ) → length s ≤ room → by undo (take (r .value) out) room ≡ wrote s
+  unfolding columnQuestions
+  turned-back {s} {before} bytes gives z room fits =
+      let n = markCount s in
+      let ok = passed (columnChecks s) (column-numbered s) (11 * n) (turn s n) before gives z in
+      let w = counted (columnChecks s) (column-numbered s) (11 * n) (turn s n) before gives z (sym (turn-length s n)) in
+      rw w (undone s bytes ok room fits)
 
 pub columns-whole : {s before : List ℕ} {r : Answer} {out : List ℕ} → Bytes s → Gives (toColumnsJob s (length before)) before r out
     → Gives (toColumnsJob s (length before)) before r out × MeetsColumns s r out
-unfolding toColumnsJob columnQuestions
-columns-whole {s} {before} {r} {out} bytes gives = (gives, record { back = back })
-  where
-    back : r .number ≡ 0 → (room : ℕ) → length s ≤ room → fromColumnsJob (take (r .value) out) room ≡ wrote s
-    back z room fits =
-        let n = markCount s in
-        let ok = passed (columnChecks s) (column-numbered s) (11 * n) (toColumns s n) before gives z in
-        let w = counted (columnChecks s) (column-numbered s) (11 * n) (toColumns s n) before gives z (sym (to-length s n)) in
-        rw w (columns-undone s bytes ok room fits)
+unfolding toColumnsJob fromColumnsJob
+columns-whole bytes gives = (gives, record { back = turned-back toColumns fromColumns to-length from-length there-and-back bytes gives })
 
 pub rows-whole : {s before : List ℕ} {r : Answer} {out : List ℕ} → Bytes s → Gives (fromColumnsJob s (length before)) before r out
     → Gives (fromColumnsJob s (length before)) before r out × MeetsRows s r out
-unfolding fromColumnsJob columnQuestions
-rows-whole {s} {before} {r} {out} bytes gives = (gives, record { back = back })
-  where
-    back : r .number ≡ 0 → (room : ℕ) → length s ≤ room → toColumnsJob (take (r .value) out) room ≡ wrote s
-    back z room fits =
-        let n = markCount s in
-        let ok = passed (columnChecks s) (column-numbered s) (11 * n) (fromColumns s n) before gives z in
-        let w = counted (columnChecks s) (column-numbered s) (11 * n) (fromColumns s n) before gives z (sym (from-length s n)) in
-        rw w (marks-undone s bytes ok room fits)
+unfolding toColumnsJob fromColumnsJob
+rows-whole bytes gives = (gives, record { back = turned-back fromColumns toColumns from-length to-length back-and-there bytes gives })

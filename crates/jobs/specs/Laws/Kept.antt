@@ -21,7 +21,7 @@ use Rattle.parts.specs.Laws.{choice-long, popups-iff}
 use Rattle.sheet.specs.Questions.{check}
 use Rattle.sheet.specs.Laws.{accepted-iff}
 use Rattle.jobs.specs.Jobs.{partIf, carried, keptParts, keptSize, withCounts}
-use Rattle.jobs.specs.Steps.{keptFrom, PopupsLent}
+use Rattle.jobs.specs.Steps.{keptFrom, PopupsLent, PartsLent}
 use Rattle.jobs.specs.Laws.Listed.{size-append, size-if, append-bytes, if-bytes, counts-between}
 
 -- Parts that may be kept beside n marks: behind part 1, and behind parts 1 to 3, with counts and without, their codes are right; they hold no
@@ -262,16 +262,16 @@ choice-size code body h = size-if (ltb 0 (length body)) code body ∙ one body h
     one (x ∷ []) h = refl
     one (x ∷ y ∷ body) h = absurd (omega arith)
 
-pub lent-kept-size : (edition : List ℕ) (there : Bool) (popups shape : List ℕ) {n : ℕ} → length edition ≤ 1 → length shape ≤ 1 → PopupsLent there popups n
+pub lent-kept-size : {marks edition : List ℕ} {there : Bool} {popups shape : List ℕ} {n : ℕ} → PartsLent marks edition there popups shape n
     → keptSize (keptFrom edition there popups shape) ≡ 11 * length edition + cond there (10 + 4 * n) 0 + 11 * length shape
-lent-kept-size edition there popups shape {n} h l lent =
+lent-kept-size {marks} {edition} {there} {popups} {shape} {n} lent =
     omega (
       arith,
       size-append (partIf (ltb 0 (length edition)) 4 edition) (partIf there 5 popups ++ partIf (ltb 0 (length shape)) 7 shape),
       size-append (partIf there 5 popups) (partIf (ltb 0 (length shape)) 7 shape),
-      choice-size 4 edition h,
-      size-if there 5 popups ∙ rows there (lent .sized),
-      choice-size 7 shape l,
+      choice-size 4 edition (lent .edition-short),
+      size-if there 5 popups ∙ rows there (lent .popups-lent .sized),
+      choice-size 7 shape (lent .shape-short),
     )
   where
     rows : (there : Bool) → length popups ≡ cond there (4 * n) 0 → cond there (10 + length popups) 0 ≡ cond there (10 + 4 * n) 0

@@ -29,9 +29,9 @@ use Rattle.bodies.specs.Questions.{editionOf, shapeOf}
 use Rattle.jobs.specs.declared.Answer.{Answer}
 use Rattle.jobs.specs.Jobs.{outcome, partIf, withCounts, newSchedule, newIndex, newCounts, newParts, scheduledFrom, scheduledSize, hasRoom, schedulingQuestions, schedulingJob}
 use Rattle.jobs.specs.Answers.{refusal, Gives}
-use Rattle.jobs.specs.Steps.{keptFrom, PopupsLent, codesFrom, sizesFrom, bareFrom, resultsOver}
+use Rattle.jobs.specs.Steps.{keptFrom, PopupsLent, PartsLent, codesFrom, sizesFrom, bareFrom, resultsOver}
 use Rattle.jobs.specs.Laws.Outcomes.{refused-gives, written-gives}
-use Rattle.jobs.specs.Laws.Listed.{parts-chain, chain-if, counts-between, listed, listed-codes, listed-sizes, same-many}
+use Rattle.jobs.specs.Laws.Listed.{parts-chain, chain-if, counts-between, listed, listed-codes, listed-sizes, same-many, few-listed}
 use Rattle.jobs.specs.Laws.Kept.{beside-sized, kept-uncounted, kept-edition-from, kept-shape-from, kept-popups-from}
 
 -- ---- the written pieces
@@ -308,162 +308,171 @@ module _ (s : List ℕ) (n : ℕ) (few : n ≤ 4096) (long : length s ≡ 11 * n
     new-counts-sized : length (newCounts s kept) ≡ 170
     new-counts-sized = counts-length s (newSchedule s kept) (popupsPart kept) (markCount s)
 
-  module _ (b : List ℕ) (there : Bool) (q v : List ℕ) (counted : Bool) (short : length b ≤ 1) (narrow : length v ≤ 1) (lent : PopupsLent there q n) where
-    abbrev others : List Part
-    others = keptFrom b there q v
+module _ {s b : List ℕ} {there : Bool} {q v : List ℕ} {n : ℕ} (lent : PartsLent s b there q v n) (counted : Bool) where
+  few : n ≤ 4096
+  few = lent .good .few
 
-    abbrev edition-there : Bool
-    edition-there = ltb 0 (length b)
+  long : length s ≡ 11 * n
+  long = lent .long
 
-    abbrev shape-there : Bool
-    shape-there = ltb 0 (length v)
+  abbrev others : List Part
+  others = keptFrom b there q v
 
-    abbrev pub lentCodes : List ℕ
-    lentCodes = codesFrom true edition-there there counted shape-there
+  abbrev edition-there : Bool
+  edition-there = ltb 0 (length b)
 
-    abbrev pub lentSizes : List ℕ
-    lentSizes = sizesFrom n true edition-there there counted shape-there
+  abbrev shape-there : Bool
+  shape-there = ltb 0 (length v)
 
-    abbrev pub lentHead : List ℕ
-    lentHead = contentsOf lentCodes lentSizes
+  abbrev pub lentCodes : List ℕ
+  lentCodes = codesFrom true edition-there there counted shape-there
 
-    -- where the marks begin
-    abbrev pub lentBegin : ℕ
-    lentBegin = contentsSize (length lentCodes)
+  abbrev pub lentSizes : List ℕ
+  lentSizes = sizesFrom n true edition-there there counted shape-there
 
-    -- all parts, one by one
-    parts-are : newParts s others counted
-        ≡ listed s (newSchedule s others) (newIndex s others) b q (newCounts s others) v true edition-there there counted shape-there
-    parts-are =
-        ap (λ (l : List Part). (1 holds s) ∷ (2 holds newSchedule s others) ∷ (3 holds newIndex s others) ∷ l)
-        (counts-between edition-there there shape-there b q (newCounts s others) v counted)
+  abbrev pub lentHead : List ℕ
+  lentHead = contentsOf lentCodes lentSizes
 
-    lent-codes : codesOf (newParts s others counted) ≡ lentCodes
-    lent-codes =
-        ap codesOf parts-are
-        ∙ listed-codes s (newSchedule s others) (newIndex s others) b q (newCounts s others) v true edition-there there counted shape-there
+  -- where the marks begin
+  abbrev pub lentBegin : ℕ
+  lentBegin = contentsSize (length lentCodes)
 
-    lent-sizes : sizesOf (bodiesOf (newParts s others counted)) ≡ lentSizes
-    lent-sizes =
-        ap (λ (l : List Part). sizesOf (bodiesOf l)) parts-are
-        ∙ listed-sizes s (newSchedule s others) (newIndex s others) b q (newCounts s others) v true edition-there there counted shape-there n
-        long (new-schedule-sized others) (λ e. new-index-sized others) (choice-one b short) (rows there lent) (λ e. new-counts-sized others) (choice-one v narrow)
-      where
-        rows : (there : Bool) → PopupsLent there q n → there ≡ true → length q ≡ 4 * n
-        rows true l e = l .sized
-        rows false l e = absurd (false≢true e)
+  pub begin-few : lentBegin ≤ 72
+  begin-few = omega (arith, few-listed true edition-there there counted shape-there)
 
-    head-long : length lentHead ≡ lentBegin
-    head-long = contents-length lentCodes lentSizes (same-many n true edition-there there counted shape-there)
+  -- all parts, one by one
+  parts-are : newParts s others counted
+      ≡ listed s (newSchedule s others) (newIndex s others) b q (newCounts s others) v true edition-there there counted shape-there
+  parts-are =
+      ap (λ (l : List Part). (1 holds s) ∷ (2 holds newSchedule s others) ∷ (3 holds newIndex s others) ∷ l)
+      (counts-between edition-there there shape-there b q (newCounts s others) v counted)
 
-    -- what is kept, and the counts between: part 4, part 5, part 6 and part 7
-    behind-chain : chain (bodiesOf (withCounts counted (newCounts s others) others)) ≡ b ++ (q ++ (cond counted (newCounts s others) [] ++ v))
-    behind-chain =
-        ap (λ (l : List Part). chain (bodiesOf l)) (counts-between edition-there there shape-there b q (newCounts s others) v counted)
-        ∙ parts-chain (partIf edition-there 4 b) _
-        ∙ ap₂ _++_ (chain-if edition-there 4 b ∙ choice-lent b)
-        (parts-chain (partIf there 5 q) _
-        ∙ ap₂ _++_ (chain-if there 5 q ∙ none-lent there q lent)
-        (parts-chain (partIf counted 6 (newCounts s others)) _
-        ∙ ap₂ _++_ (chain-if counted 6 (newCounts s others)) (chain-if shape-there 7 v ∙ choice-lent v)))
+  lent-codes : codesOf (newParts s others counted) ≡ lentCodes
+  lent-codes =
+      ap codesOf parts-are
+      ∙ listed-codes s (newSchedule s others) (newIndex s others) b q (newCounts s others) v true edition-there there counted shape-there
 
-    -- the sheet up to parts 6 and 7, and with them
-    pub bare-is : bareFrom s b there q v counted ≡ whole s n few long lentHead (choiceIn b) (choiceIn v) q (b ++ q)
-    bare-is =
-        ap₂ (λ (l m : List ℕ). contentsOf l m ++ (s ++ (newSchedule s others ++ (newIndex s others ++ (b ++ q))))) lent-codes lent-sizes
-        ∙ ap (λ (l : List ℕ). lentHead ++ (s ++ l)) (sym (append-assoc (newSchedule s others) (newIndex s others) (b ++ q)))
-        ∙ rw (count-is s n few long, kept-edition-from b there q v, kept-shape-from b there q v, kept-popups-from b there q v, none-lent there q lent)
+  lent-sizes : sizesOf (bodiesOf (newParts s others counted)) ≡ lentSizes
+  lent-sizes =
+      ap (λ (l : List Part). sizesOf (bodiesOf l)) parts-are
+      ∙ listed-sizes s (newSchedule s others) (newIndex s others) b q (newCounts s others) v true edition-there there counted shape-there n
+      long (new-schedule-sized s n few long others) (λ e. new-index-sized s n few long others) (choice-one b (lent .edition-short)) (rows there (lent .popups-lent)) (λ e. new-counts-sized s n few long others) (choice-one v (lent .shape-short))
+    where
+      rows : (there : Bool) → PopupsLent there q n → there ≡ true → length q ≡ 4 * n
+      rows true l e = l .sized
+      rows false l e = absurd (false≢true e)
 
-    pub bare-whole : bareFrom s b there q v counted ++ (cond counted (newCounts s others) [] ++ v) ≡ scheduledFrom s others counted
-    unfolding join chain
-    bare-whole =
-        let head = contentsOf (codesOf (newParts s others counted)) (sizesOf (bodiesOf (newParts s others counted))) in
-        let c = cond counted (newCounts s others) [] in
-        regrouped head s (newSchedule s others) (newIndex s others) b q (c ++ v)
-        ∙ ap (λ (l : List ℕ). head ++ (s ++ (newSchedule s others ++ (newIndex s others ++ l)))) (sym behind-chain)
-      where
-        regrouped : (h a p t b q l : List ℕ) → (h ++ (a ++ (p ++ (t ++ (b ++ q))))) ++ l ≡ h ++ (a ++ (p ++ (t ++ (b ++ (q ++ l)))))
-        regrouped h a p t b q l = simp append-assoc
+  head-long : length lentHead ≡ lentBegin
+  head-long = contents-length lentCodes lentSizes (same-many n true edition-there there counted shape-there)
 
-    abbrev bare-size : ℕ
-    bare-size = lentBegin + 27 * n + length b + length q
+  -- what is kept, and the counts between: part 4, part 5, part 6 and part 7
+  behind-chain : chain (bodiesOf (withCounts counted (newCounts s others) others)) ≡ b ++ (q ++ (cond counted (newCounts s others) [] ++ v))
+  behind-chain =
+      ap (λ (l : List Part). chain (bodiesOf l)) (counts-between edition-there there shape-there b q (newCounts s others) v counted)
+      ∙ parts-chain (partIf edition-there 4 b) _
+      ∙ ap₂ _++_ (chain-if edition-there 4 b ∙ choice-lent b)
+      (parts-chain (partIf there 5 q) _
+      ∙ ap₂ _++_ (chain-if there 5 q ∙ none-lent there q (lent .popups-lent))
+      (parts-chain (partIf counted 6 (newCounts s others)) _
+      ∙ ap₂ _++_ (chain-if counted 6 (newCounts s others)) (chain-if shape-there 7 v ∙ choice-lent v)))
 
-    bare-long : length (bareFrom s b there q v counted) ≡ bare-size
-    bare-long = ap length bare-is ∙ omega (arith, whole-long s n few long lentHead (choiceIn b) (choiceIn v) q (b ++ q), head-long, length-append b q)
+  -- the sheet up to parts 6 and 7, and with them
+  bare-is : bareFrom s b there q v counted ≡ whole s n few long lentHead (choiceIn b) (choiceIn v) q (b ++ q)
+  bare-is =
+      ap₂ (λ (l m : List ℕ). contentsOf l m ++ (s ++ (newSchedule s others ++ (newIndex s others ++ (b ++ q))))) lent-codes lent-sizes
+      ∙ ap (λ (l : List ℕ). lentHead ++ (s ++ l)) (sym (append-assoc (newSchedule s others) (newIndex s others) (b ++ q)))
+      ∙ rw (count-is s n few long, kept-edition-from b there q v, kept-shape-from b there q v, kept-popups-from b there q v, none-lent there q (lent .popups-lent))
 
-    pub lent-size : scheduledSize n others counted ≡ lentBegin + 27 * n + length b + length q + cond counted 170 0 + length v
-    lent-size =
-        let c = cond counted (newCounts s others) [] in
-        omega (
-          arith,
-          sheet-long s n few long others counted (kept-uncounted b there q v),
-          ap length bare-whole,
-          length-append (bareFrom s b there q v counted) (c ++ v),
-          length-append c v,
-          bare-long,
-          sized counted,
-        )
-      where
-        sized : (counted : Bool) → length (cond counted (newCounts s others) []) ≡ cond counted 170 0
-        sized true = new-counts-sized others
-        sized false = refl
+  bare-whole : bareFrom s b there q v counted ++ (cond counted (newCounts s others) [] ++ v) ≡ scheduledFrom s others counted
+  unfolding join chain
+  bare-whole =
+      let head = contentsOf (codesOf (newParts s others counted)) (sizesOf (bodiesOf (newParts s others counted))) in
+      let c = cond counted (newCounts s others) [] in
+      regrouped head s (newSchedule s others) (newIndex s others) b q (c ++ v)
+      ∙ ap (λ (l : List ℕ). head ++ (s ++ (newSchedule s others ++ (newIndex s others ++ l)))) (sym behind-chain)
+    where
+      regrouped : (h a p t b q l : List ℕ) → (h ++ (a ++ (p ++ (t ++ (b ++ q))))) ++ l ≡ h ++ (a ++ (p ++ (t ++ (b ++ (q ++ l)))))
+      regrouped h a p t b q l = simp append-assoc
 
-    -- the contents, the marks, part 4 and part 5 are written, and all but the contents is lent
-    pub standing : (o₀ : List ℕ) → lentBegin + 27 * n + length b + length q ≤ length o₀ → {o₁ o₂ o₃ o₄ : List ℕ} {from end : ℕ} → o₁ ≡ sets o₀ 0 lentHead
-        → o₂ ≡ sets o₁ lentBegin s → o₃ ≡ sets o₂ (lentBegin + 27 * n) b → o₄ ≡ sets o₃ (lentBegin + 27 * n + length b) q → from ≡ lentBegin
-        → end ≡ lentBegin + 27 * n + length b + length q → Standing s n b there q v counted o₀ o₄ from end
-    standing o₀ room {o₁} {o₂} {o₃} {o₄} {from} {end} e f g h from-is end-is =
+  abbrev bare-size : ℕ
+  bare-size = lentBegin + 27 * n + length b + length q
+
+  bare-long : length (bareFrom s b there q v counted) ≡ bare-size
+  bare-long = ap length bare-is ∙ omega (arith, whole-long s n few long lentHead (choiceIn b) (choiceIn v) q (b ++ q), head-long, length-append b q)
+
+  pub lent-size : scheduledSize n others counted ≡ lentBegin + 27 * n + length b + length q + cond counted 170 0 + length v
+  lent-size =
+      let c = cond counted (newCounts s others) [] in
+      omega (
+        arith,
+        sheet-long s n few long others counted (kept-uncounted b there q v),
+        ap length bare-whole,
+        length-append (bareFrom s b there q v counted) (c ++ v),
+        length-append c v,
+        bare-long,
+        sized counted,
+      )
+    where
+      sized : (counted : Bool) → length (cond counted (newCounts s others) []) ≡ cond counted 170 0
+      sized true = new-counts-sized s n few long others
+      sized false = refl
+
+  -- the contents, the marks, part 4 and part 5 are written, and all but the contents is lent
+  pub standing : (o₀ : List ℕ) → lentBegin + 27 * n + length b + length q ≤ length o₀ → {o₁ o₂ o₃ o₄ : List ℕ} {from end : ℕ} → o₁ ≡ sets o₀ 0 lentHead
+      → o₂ ≡ sets o₁ lentBegin s → o₃ ≡ sets o₂ (lentBegin + 27 * n) b → o₄ ≡ sets o₃ (lentBegin + 27 * n + length b) q → from ≡ lentBegin
+      → end ≡ lentBegin + 27 * n + length b + length q → Standing s n b there q v counted o₀ o₄ from end
+  standing o₀ room {o₁} {o₂} {o₃} {o₄} {from} {end} e f g h from-is end-is =
+      let edition = choiceIn b in
+      let shape = choiceIn v in
+      let body = b ++ q in
+      let fits : length lentHead + 27 * n + length body ≤ length o₀ = omega (arith, head-long, length-append b q) in
+      let begins : from ≡ length lentHead = from-is ∙ sym head-long in
+      let ends : end ≡ length lentHead + 27 * n + length body = omega (arith, head-long, length-append b q) in
+      let stands = begun s n few long lentHead edition shape q body o₀ fits {o₁ = o₁} {o₂ = o₂} {o₃ = o₄} e (rw head-long f)
+      (rw (head-long, sets-append o₂ (lentBegin + 27 * n) b q, ← g) h) in
+      record {
+        marks = marks-first s n few long lentHead edition shape q body o₀ fits from end begins ends stands;
+        long = omega (arith, lent-long s n few long lentHead edition shape q body o₀ fits from end begins ends stands, length-append b q);
+        popups = kept-last s n few long lentHead edition shape q body o₀ fits from end begins ends stands (length b) ∙ drop-at b q (length b) refl;
+        put = λ t t-is. rw bare-is (results-put s n few long lentHead edition shape q body o₀ fits from end begins ends stands {t = t} t-is);
+      }
+
+  -- What is read of the sheet up to parts 6 and 7, for its counts: the marks, the schedule and the popups. And once the counts and part 7 are
+  -- written behind it, the buffer holds the sheet.
+  module _ (o₀ : List ℕ) where
+    abbrev held : List ℕ
+    held = over (bareFrom s b there q v counted) o₀
+
+    pub popups-read : {from end : ℕ} → from ≡ lentBegin + 27 * n + length b → end ≡ from + length q → take (end - from) (drop from held) ≡ q
+    popups-read {from} {end} from-is end-is =
+        let behind : from ≡ length lentHead + 27 * n + length b = omega (arith, head-long) in
+        let size : end - from ≡ length q = omega (arith, end-is) in
+        rw (bare-is, size, behind) (body-read s n few long lentHead (choiceIn b) (choiceIn v) q (b ++ q) o₀ b q refl)
+
+    pub counts-read : {start from end : ℕ} → start ≡ lentBegin → from ≡ lentBegin + 27 * n + length b → end ≡ from + length q
+        → countsOf (take (11 * n) (drop start held)) (take (14 * n) (drop (start + 11 * n) held)) (take (end - from) (drop from held)) n ≡ newCounts s others
+    counts-read {start} {from} {end} start-is from-is end-is =
         let edition = choiceIn b in
         let shape = choiceIn v in
-        let body = b ++ q in
-        let fits : length lentHead + 27 * n + length body ≤ length o₀ = omega (arith, head-long, length-append b q) in
-        let begins : from ≡ length lentHead = from-is ∙ sym head-long in
-        let ends : end ≡ length lentHead + 27 * n + length body = omega (arith, head-long, length-append b q) in
-        let stands = begun s n few long lentHead edition shape q body o₀ fits {o₁ = o₁} {o₂ = o₂} {o₃ = o₄} e (rw head-long f)
-        (rw (head-long, sets-append o₂ (lentBegin + 27 * n) b q, ← g) h) in
-        record {
-          marks = marks-first s n few long lentHead edition shape q body o₀ fits from end begins ends stands;
-          long = omega (arith, lent-long s n few long lentHead edition shape q body o₀ fits from end begins ends stands, length-append b q);
-          popups = kept-last s n few long lentHead edition shape q body o₀ fits from end begins ends stands (length b) ∙ drop-at b q (length b) refl;
-          put = λ t t-is. rw bare-is (results-put s n few long lentHead edition shape q body o₀ fits from end begins ends stands {t = t} t-is);
-        }
+        let at : start ≡ length lentHead = start-is ∙ sym head-long in
+        rw (popups-read from-is end-is, bare-is, at, marks-read s n few long lentHead edition shape q (b ++ q) o₀, schedule-read s n few long lentHead edition shape q (b ++ q) o₀)
+        (rw (count-is s n few long, kept-edition-from b there q v, kept-shape-from b there q v, kept-popups-from b there q v, none-lent there q (lent .popups-lent)))
 
-    -- What is read of the sheet up to parts 6 and 7, for its counts: the marks, the schedule and the popups. And once the counts and part 7 are
-    -- written behind it, the buffer holds the sheet.
-    module _ (o₀ : List ℕ) where
-      abbrev held : List ℕ
-      held = over (bareFrom s b there q v counted) o₀
-
-      pub popups-read : {from end : ℕ} → from ≡ lentBegin + 27 * n + length b → end ≡ from + length q → take (end - from) (drop from held) ≡ q
-      popups-read {from} {end} from-is end-is =
-          let behind : from ≡ length lentHead + 27 * n + length b = omega (arith, head-long) in
-          let size : end - from ≡ length q = omega (arith, end-is) in
-          rw (bare-is, size, behind) (body-read s n few long lentHead (choiceIn b) (choiceIn v) q (b ++ q) o₀ b q refl)
-
-      pub counts-read : {start from end : ℕ} → start ≡ lentBegin → from ≡ lentBegin + 27 * n + length b → end ≡ from + length q
-          → countsOf (take (11 * n) (drop start held)) (take (14 * n) (drop (start + 11 * n) held)) (take (end - from) (drop from held)) n ≡ newCounts s others
-      counts-read {start} {from} {end} start-is from-is end-is =
-          let edition = choiceIn b in
-          let shape = choiceIn v in
-          let at : start ≡ length lentHead = start-is ∙ sym head-long in
-          rw (popups-read from-is end-is, bare-is, at, marks-read s n few long lentHead edition shape q (b ++ q) o₀, schedule-read s n few long lentHead edition shape q (b ++ q) o₀)
-          (rw (count-is s n few long, kept-edition-from b there q v, kept-shape-from b there q v, kept-popups-from b there q v, none-lent there q lent))
-
-      -- `c` is what is written of counts, none where they are not wanted, and `at` where part 7 goes
-      pub sheet-put : scheduledSize n others counted ≤ length o₀ → {c o p : List ℕ} {end at : ℕ} → c ≡ cond counted (newCounts s others) []
-          → end ≡ lentBegin + 27 * n + length b + length q → o ≡ sets held end c → at ≡ end + length c → p ≡ sets o at v
-          → p ≡ over (scheduledFrom s others counted) o₀
-      sheet-put room {c} {o} {p} {end} {at} c-is end-is o-is at-is p-is =
-          let bare = bareFrom s b there q v counted in
-          let behind : end ≡ 0 + length bare = omega (arith, bare-long, end-is) in
-          let whole-is : bare ++ (c ++ v) ≡ scheduledFrom s others counted = ap (λ (l : List ℕ). bare ++ (l ++ v)) c-is ∙ bare-whole in
-          let fits : length (bare ++ (c ++ v)) ≤ length o₀ =
-          omega (arith, ap length whole-is, sheet-long s n few long others counted (kept-uncounted b there q v), room) in
-          p-is ∙ ap (λ (l : List ℕ). sets l at v) o-is ∙ ap (λ (k : ℕ). sets (sets held end c) k v) at-is
-          ∙ sym (sets-append held end c v)
-          ∙ ap (λ (l : List ℕ). sets l end (c ++ v)) (sym (over-sets bare o₀ (omega (arith, length-append bare (c ++ v), fits))))
-          ∙ ap (λ (k : ℕ). sets (sets o₀ 0 bare) k (c ++ v)) behind
-          ∙ sym (sets-append o₀ 0 bare (c ++ v)) ∙ over-sets (bare ++ (c ++ v)) o₀ fits ∙ ap (λ (l : List ℕ). over l o₀) whole-is
+    -- `c` is what is written of counts, none where they are not wanted, and `at` where part 7 goes
+    pub sheet-put : scheduledSize n others counted ≤ length o₀ → {c o p : List ℕ} {end at : ℕ} → c ≡ cond counted (newCounts s others) []
+        → end ≡ lentBegin + 27 * n + length b + length q → o ≡ sets held end c → at ≡ end + length c → p ≡ sets o at v
+        → p ≡ over (scheduledFrom s others counted) o₀
+    sheet-put room {c} {o} {p} {end} {at} c-is end-is o-is at-is p-is =
+        let bare = bareFrom s b there q v counted in
+        let behind : end ≡ 0 + length bare = omega (arith, bare-long, end-is) in
+        let whole-is : bare ++ (c ++ v) ≡ scheduledFrom s others counted = ap (λ (l : List ℕ). bare ++ (l ++ v)) c-is ∙ bare-whole in
+        let fits : length (bare ++ (c ++ v)) ≤ length o₀ =
+        omega (arith, ap length whole-is, sheet-long s n few long others counted (kept-uncounted b there q v), room) in
+        p-is ∙ ap (λ (l : List ℕ). sets l at v) o-is ∙ ap (λ (k : ℕ). sets (sets held end c) k v) at-is
+        ∙ sym (sets-append held end c v)
+        ∙ ap (λ (l : List ℕ). sets l end (c ++ v)) (sym (over-sets bare o₀ (omega (arith, length-append bare (c ++ v), fits))))
+        ∙ ap (λ (k : ℕ). sets (sets o₀ 0 bare) k (c ++ v)) behind
+        ∙ sym (sets-append o₀ 0 bare (c ++ v)) ∙ over-sets (bare ++ (c ++ v)) o₀ fits ∙ ap (λ (l : List ℕ). over l o₀) whole-is
 
 -- ---- the ways out
 

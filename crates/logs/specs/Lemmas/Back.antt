@@ -51,6 +51,36 @@ module _ (s : List ℕ) (at : ℕ) (z : ℤ) (place : isPlace z ≡ true) (e : t
   place-right : PlaceRight s at
   place-right = record { packed = same .0 ∙ packed-read z (place-short z place) .0; place = rw place-found place }
 
+-- ---- a piece of a row of `s` at `from`, found at `at` in `w`
+
+-- the same 7 bytes have the same radius and kind
+fields-same : (w s : List ℕ) (at p from q : ℕ) → take 7 (drop (at + p) w) ≡ take 7 (drop (from + q) s)
+    → (leAt 2 w (at + p) ≡ leAt 2 s (from + q)) × (leAt 1 w (at + (p + 4)) ≡ leAt 1 s (from + (q + 4)))
+fields-same w s at p from q e = (same 2 0 (omega arith) (omega arith) (omega arith), same 1 4 (omega arith) (omega arith) (omega arith))
+  where
+    same : (k j : ℕ) → j + k ≤ 7 → {a f : ℕ} → at + p + j ≡ a → from + q + j ≡ f → leAt k w a ≡ leAt k s f
+    same k j h e₁ e₂ =
+        rw (← e₁, ← e₂)
+        (field-le w (take 7 (drop (from + q) s)) 7 (at + p) e k j h ∙ sym (field-le s (take 7 (drop (from + q) s)) 7 (from + q) refl k j h))
+
+module _ (w s : List ℕ) (at from : ℕ) where
+  -- a coordinate's 16 bits are packed as it was
+  packed-again : PlaceRight s from → from + 3 ≤ length s → take 2 (drop at w) ≡ leBytes 2 (placeBits (coordinateAt s from))
+      → packed (signed 2 (leAt 2 w at)) ≡ take 3 (drop from s)
+  packed-again p fits e =
+      let z = coordinateAt s from in
+      let mag = place-mag z (p .place) in
+      ap (λ (u : ℕ). packed (signed 2 u)) (le-found 2 w at (placeBits z) (bits-bound z mag) e)
+      ∙ ap packed (signed-bits z mag) ∙ packed-back _ _ _ (p .packed) ∙ three s from fits
+
+  -- and a packed one has the bits it had
+  bits-again : Bytes s → from + 2 ≤ length s → take 3 (drop at w) ≡ packed (signed 2 (leAt 2 s from))
+      → leBytes 2 (placeBits (coordinateAt w at)) ≡ take 2 (drop from s)
+  bits-again bytes fits e =
+      let low = le-bound 2 s from bytes in
+      ap (λ (z : ℤ). leBytes 2 (placeBits z)) (place-found w at (signed 2 (leAt 2 s from)) (signed-place _ low) e)
+      ∙ ap (leBytes 2) (bits-signed _ low) ∙ write-back 2 s from bytes fits
+
 -- ---- logs into marks and back
 
 module _ (s : List ℕ) (n : ℕ) (right : LogRight s n) where
@@ -80,29 +110,15 @@ module _ (s : List ℕ) (n : ℕ) (right : LogRight s n) where
     unfolding isRadius
     mark-good =
         let r = right .each i l in
-        let t : List ℕ = take 7 (drop (13 * i + 6) s) in
-        let four : 13 * i + 6 + 0 ≡ 13 * i + 6 = omega arith in
-        let five : 11 * i + 4 + 0 ≡ 11 * i + 4 = omega arith in
-        let ten : 13 * i + 6 + 4 ≡ 13 * i + 10 = omega arith in
-        let eight : 11 * i + 4 + 4 ≡ 11 * i + 8 = omega arith in
-        let kind : leAt 1 marks (11 * i + 8) ≡ leAt 1 s (13 * i + 10) =
-        rw (← eight, ← ten) (field-le marks t 7 (11 * i + 4) (found .third) 1 4 (omega arith) ∙ sym (field-le s t 7 (13 * i + 6) refl 1 4 (omega arith))) in
-        let radius : leAt 2 marks (11 * i + 4) ≡ leAt 2 s (13 * i + 6) =
-        (rw five at (field-le marks t 7 (11 * i + 4) (found .third) 2 0 (omega arith))) ∙ sym (rw four at (field-le s t 7 (13 * i + 6) refl 2 0 (omega arith))) in
+        let (radius, kind) = fields-same marks s (11 * i) 4 (13 * i) 6 (found .third) in
         let small : leAt 2 marks (11 * i + 4) ≤ 16383 = omega (arith, r .radius) in
         record { kind = omega (arith, r .kind); radius = small; used = used-bound _ _ (le-leb _ 16383 small) }
 
     x-again : packed (xAt marks i) ≡ take 3 (drop (13 * i) s)
-    x-again =
-        let p = right .each i l .x in
-        ap (λ (u : ℕ). packed (signed 2 u)) (le-found 2 marks (11 * i) (placeBits x) (bits-bound x (place-mag x (p .place))) (found .first))
-        ∙ ap packed (signed-bits x (place-mag x (p .place))) ∙ packed-back _ _ _ (p .packed) ∙ three s (13 * i) (omega (arith, right .long))
+    x-again = packed-again marks s (11 * i) (13 * i) (right .each i l .x) (omega (arith, right .long)) (found .first)
 
     y-again : packed (yAt marks i) ≡ take 3 (drop (13 * i + 3) s)
-    y-again =
-        let p = right .each i l .y in
-        ap (λ (u : ℕ). packed (signed 2 u)) (le-found 2 marks (11 * i + 2) (placeBits y) (bits-bound y (place-mag y (p .place))) (found .second))
-        ∙ ap packed (signed-bits y (place-mag y (p .place))) ∙ packed-back _ _ _ (p .packed) ∙ three s (13 * i + 3) (omega (arith, right .long))
+    y-again = packed-again marks s (11 * i + 2) (13 * i + 3) (right .each i l .y) (omega (arith, right .long)) (found .second)
 
     record-again : recordOfMark marks i ≡ take 13 (drop (13 * i) s)
     record-again = ap₂ _++_ x-again (ap₂ _++_ y-again (found .third)) ∙ pieces s (13 * i) 3 3 7
@@ -144,15 +160,7 @@ module _ (s : List ℕ) (n : ℕ) (bytes : Bytes s) (good : GoodMarks s n) where
     record-right : RecordRight log i
     record-right =
         let r = good .each i l in
-        let t : List ℕ = take 7 (drop (11 * i + 4) s) in
-        let four : 13 * i + 6 + 0 ≡ 13 * i + 6 = omega arith in
-        let five : 11 * i + 4 + 0 ≡ 11 * i + 4 = omega arith in
-        let ten : 13 * i + 6 + 4 ≡ 13 * i + 10 = omega arith in
-        let eight : 11 * i + 4 + 4 ≡ 11 * i + 8 = omega arith in
-        let kind : leAt 1 log (13 * i + 10) ≡ leAt 1 s (11 * i + 8) =
-        rw (← eight, ← ten) (field-le log t 7 (13 * i + 6) (line .third) 1 4 (omega arith) ∙ sym (field-le s t 7 (11 * i + 4) refl 1 4 (omega arith))) in
-        let radius : leAt 2 log (13 * i + 6) ≡ leAt 2 s (11 * i + 4) =
-        (rw four at (field-le log t 7 (13 * i + 6) (line .third) 2 0 (omega arith))) ∙ sym (rw five at (field-le s t 7 (11 * i + 4) refl 2 0 (omega arith))) in
+        let (radius, kind) = fields-same log s (13 * i) 6 (11 * i) 4 (line .third) in
         record {
           x = place-right log (13 * i) (xAt s i) x-place (line .first);
           y = place-right log (13 * i + 3) (yAt s i) y-place (line .second);
@@ -161,14 +169,10 @@ module _ (s : List ℕ) (n : ℕ) (bytes : Bytes s) (good : GoodMarks s n) where
         }
 
     x-back : leBytes 2 (placeBits (coordinateAt log (13 * i))) ≡ take 2 (drop (11 * i) s)
-    x-back =
-        ap (λ (z : ℤ). leBytes 2 (placeBits z)) (place-found log (13 * i) (xAt s i) x-place (line .first))
-        ∙ ap (leBytes 2) (bits-signed _ (le-bound 2 s (11 * i) bytes)) ∙ write-back 2 s (11 * i) bytes (omega (arith, good .there))
+    x-back = bits-again log s (13 * i) (11 * i) bytes (omega (arith, good .there)) (line .first)
 
     y-back : leBytes 2 (placeBits (coordinateAt log (13 * i + 3))) ≡ take 2 (drop (11 * i + 2) s)
-    y-back =
-        ap (λ (z : ℤ). leBytes 2 (placeBits z)) (place-found log (13 * i + 3) (yAt s i) y-place (line .second))
-        ∙ ap (leBytes 2) (bits-signed _ (le-bound 2 s (11 * i + 2) bytes)) ∙ write-back 2 s (11 * i + 2) bytes (omega (arith, good .there))
+    y-back = bits-again log s (13 * i + 3) (11 * i + 2) bytes (omega (arith, good .there)) (line .second)
 
     mark-again : markOfRecord log i ≡ take 11 (drop (11 * i) s)
     mark-again = ap₂ _++_ x-back (ap₂ _++_ y-back (line .third)) ∙ pieces s (11 * i) 2 2 7

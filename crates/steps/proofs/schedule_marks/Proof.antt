@@ -31,10 +31,10 @@ size b =
 size-is : (b : tie.Start) → scheduledSize (b .args .n) (kept b) (b .args .counted) ≡ size b
 size-is b =
     ap (λ (k : ℕ). 27 * b .args .n + 32 + k + cond (b .args .counted) 180 0)
-    (lent-kept-size (now (b .args .edition)) (b .args .there) (now (b .args .popups) ++ now (b .args .last)) (now (b .args .shape)) (b .pre .2) (b .pre .3) (b .pre .4))
+    (lent-kept-size (b .pre))
 
 most : (b : tie.Start) → size b ≤ 31 * b .args .n + 244
-most b = omega (arith, b .pre .2, b .pre .3, rows (b .args .there), counts (b .args .counted))
+most b = omega (arith, b .pre .edition-short, b .pre .shape-short, rows (b .args .there), counts (b .args .counted))
   where
     rows : (there : Bool) → cond there (10 + 4 * b .args .n) 0 ≤ 10 + 4 * b .args .n
     rows true = omega arith
@@ -64,7 +64,7 @@ returns : tie.Need-returns
 returns c =
     let b = c .before .before .before .before .before .before .before .before .before .before .before .before in
     let h = c .before .before in (
-      no-room _ (b .args .n) (b .pre .0 .few) (b .pre .1) _ _ (uncounted b) _ _ (said-no (room-is b _ _ (h .before .scheduled-size .ensures) (h .has-room .ensures)) (c .before .if1 .taken)) (c .refused .ensures),
+      no-room _ (b .args .n) (b .pre .good .few) (b .pre .long) _ _ (uncounted b) _ _ (said-no (room-is b _ _ (h .before .scheduled-size .ensures) (h .has-room .ensures)) (c .before .if1 .taken)) (c .refused .ensures),
       record { long = refl; refused = λ h. refl },
     )
 
@@ -76,7 +76,7 @@ put-sheet-requires c κs =
     (b .pre, room)
 
 cast-t22 : tie.Need-cast-t22
-cast-t22 c = let b = c .before .before .before .before .before .before .before .before .before .before .before .before .before .before .before .before .before .before in omega (arith, c .before .before .before .before .before .before .before .before .before .scheduled-size .ensures, most b, b .pre .0 .few)
+cast-t22 c = let b = c .before .before .before .before .before .before .before .before .before .before .before .before .before .before .before .before .before .before in omega (arith, c .before .before .before .before .before .before .before .before .before .scheduled-size .ensures, most b, b .pre .good .few)
 
 same-length : tie.Need-same-length
 same-length c = search needs
@@ -89,7 +89,7 @@ returns-2 c =
     let b = c .before .before .before .before .before .before .before .before .before .before .before .before .before .before .before .before .before .before in
     let h = c .before .before .before .before .before .before .before .before in
     let size = h .before .scheduled-size .ensures in (
-      sheet-written _ (b .args .n) (b .pre .0 .few) (b .pre .1) _ _ (uncounted b) _ _ (said-yes (room-is b _ _ size (h .has-room .ensures)) (c .before .before .before .before .before .before .before .if1 .left))
+      sheet-written _ (b .args .n) (b .pre .good .few) (b .pre .long) _ _ (uncounted b) _ _ (said-yes (room-is b _ _ size (h .has-room .ensures)) (c .before .before .before .before .before .before .before .if1 .left))
           (ap {B = Answer} (λ (v : ℕ). record { number = 0; value = v }) (size ∙ sym (size-is b))) (c .before .before .before .before .put-sheet .ensures),
       record { long = search needs; refused = λ z. absurd (omega (arith, z)) },
     )

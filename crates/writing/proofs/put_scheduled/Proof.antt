@@ -11,8 +11,7 @@ use lib.ListN.{length}
 use Rattle.contents.specs.Contents.{contentsSize}
 use Rattle.jobs.specs.Jobs.{scheduledSize}
 use Rattle.jobs.specs.Steps.{keptFrom, codesFrom}
-use Rattle.jobs.specs.Laws.Listed.{few-listed}
-use Rattle.jobs.specs.Laws.Scheduling.{lent-good, lent-size, Standing, standing}
+use Rattle.jobs.specs.Laws.Scheduling.{begin-few, lent-good, lent-size, Standing, standing}
 use Rattle.writing.proofs.put_scheduled.Statement.{statement}
 use Rattle.writing.proofs.put_scheduled.Tie as tie
 
@@ -36,10 +35,10 @@ begin b = contentsSize (length (codesFrom true (ltb 0 (length (edition b))) (b .
 sized : (b : tie.Start)
     → scheduledSize (b .args .n) (keptFrom (edition b) (b .args .there) (popups b) (shape b)) (b .args .counted)
     ≡ begin b + 27 * b .args .n + length (edition b) + length (popups b) + cond (b .args .counted) 170 0 + length (shape b)
-sized b = lent-size (marks b) (b .args .n) (b .pre .0 .0 .few) (b .pre .0 .1) (edition b) (b .args .there) (popups b) (shape b) (b .args .counted) (b .pre .0 .2) (b .pre .0 .3) (b .pre .0 .4)
+sized b = lent-size (b .pre .0) (b .args .counted)
 
 few-parts : (b : tie.Start) → begin b ≤ 72
-few-parts b = omega (arith, few-listed true (ltb 0 (length (edition b))) (b .args .there) (b .args .counted) (ltb 0 (length (shape b))))
+few-parts b = begin-few (b .pre .0) (b .args .counted)
 
 abbrev start : tie.After-put-pieces2 → tie.Start
 start p = p .before .before .before .before .before .before .before .before .before .before .before .before .before .before .before .before .before .before .before .before .before .before
@@ -58,18 +57,18 @@ stands p =
     let b = start p in
     let h = p .before .before .before .before .before .before .before .before .before .before .before .before in
     let q = p .before .before .before .before in
-    standing (marks b) (b .args .n) (b .pre .0 .0 .few) (b .pre .0 .1) (edition b) (b .args .there) (popups b) (shape b) (b .args .counted) (b .pre .0 .2) (b .pre .0 .3) (b .pre .0 .4) (now (b .args .out)) (omega (arith, sized b, b .pre .1 .1))
+    standing (b .pre .0) (b .args .counted) (now (b .args .out)) (omega (arith, sized b, b .pre .1 .1))
     (h .put-head .ensures .1) (rw (h .put-head .ensures .0) at (p .before .before .before .before .before .before .before .before .put-pieces .ensures .1)) (rw (h .put-head .ensures .0) at (q .put .ensures .1))
     (rw (q .put .ensures .0, h .put-head .ensures .0) at (p .put-pieces2 .ensures .1)) (h .put-head .ensures .0) (ended p)
 
 put-head-requires : tie.Need-put-head-requires
 put-head-requires c κs =
-    let b = c .before .before .before .before .before .before .before .before .before in (b .pre .0 .0 .few, omega (arith, sized b, b .pre .1 .1))
+    let b = c .before .before .before .before .before .before .before .before .before in (b .pre .0 .good .few, omega (arith, sized b, b .pre .1 .1))
 
 put-pieces-requires : tie.Need-put-pieces-requires
 put-pieces-requires c κs =
     let b = c .before .before .before .before .before .before .before .before .before .before .before .before .before in
-    omega (arith, sized b, b .pre .1 .1, b .pre .0 .1, c .before .before .before .put-head .ensures .0, c .before .before .out .given)
+    omega (arith, sized b, b .pre .1 .1, b .pre .0 .long, c .before .before .before .put-head .ensures .0, c .before .before .out .given)
 
 mul-put : tie.Need-mul-put
 mul-put c = search needs
@@ -77,7 +76,7 @@ mul-put c = search needs
 add-put : tie.Need-add-put
 add-put c =
     let b = c .before .before .before .before .before .before .before .before .before .before .before .before .before .before .before .before .before in
-    omega (arith, few-parts b, b .pre .0 .0 .few, c .before .before .before .before .before .before .before .put-head .ensures .0)
+    omega (arith, few-parts b, b .pre .0 .good .few, c .before .before .before .before .before .before .before .put-head .ensures .0)
 
 put-requires : tie.Need-put-requires
 put-requires c κs =
@@ -116,11 +115,11 @@ put-results-requires c κs =
     let b = start p in
     let st = stands p in
     let at : p .before .before .before .before .put .result - p .before .before .before .before .before .before .before .before .before .before .before .before .put-head .result ≡ 27 * b .args .n + length (now (b .args .edition)) = from-start p in (
-      rw (st .marks) (b .pre .0 .0),
+      rw (st .marks) (b .pre .0 .good),
       omega (arith, b .pre .1 .0),
       omega (arith, at),
       omega (arith, at, st .long),
-      rw (at, st .popups) (lent-good (b .args .there) (b .pre .0 .4)),
+      rw (at, st .popups) (lent-good (b .args .there) (b .pre .0 .popups-lent)),
     )
 
 same-length : tie.Need-same-length

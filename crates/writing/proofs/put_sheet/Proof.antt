@@ -12,8 +12,7 @@ use Rattle.contents.specs.Contents.{Part, contentsSize, popupsPart}
 use Rattle.parts.specs.Questions.{markCount}
 use Rattle.jobs.specs.Jobs.{scheduledSize, newSchedule, newCounts}
 use Rattle.jobs.specs.Steps.{keptFrom, codesFrom, PopupsLent}
-use Rattle.jobs.specs.Laws.Listed.{few-listed}
-use Rattle.jobs.specs.Laws.Scheduling.{lent-good, lent-size, popups-read, counts-read, sheet-put}
+use Rattle.jobs.specs.Laws.Scheduling.{begin-few, lent-good, lent-size, popups-read, counts-read, sheet-put}
 use Rattle.counting.specs.Laws.{counts-length}
 use Rattle.writing.proofs.put_sheet.Statement.{statement}
 use Rattle.writing.proofs.put_sheet.Tie as tie
@@ -38,16 +37,16 @@ begin b = contentsSize (length (codesFrom true (ltb 0 (length (edition b))) (b .
 sized : (b : tie.Start)
     → scheduledSize (b .args .n) (keptFrom (edition b) (b .args .there) (popups b) (shape b)) (b .args .counted)
     ≡ begin b + 27 * b .args .n + length (edition b) + length (popups b) + cond (b .args .counted) 170 0 + length (shape b)
-sized b = lent-size (marks b) (b .args .n) (b .pre .0 .0 .few) (b .pre .0 .1) (edition b) (b .args .there) (popups b) (shape b) (b .args .counted) (b .pre .0 .2) (b .pre .0 .3) (b .pre .0 .4)
+sized b = lent-size (b .pre .0) (b .args .counted)
 
 few-parts : (b : tie.Start) → begin b ≤ 72
-few-parts b = omega (arith, few-listed true (ltb 0 (length (edition b))) (b .args .there) (b .args .counted) (ltb 0 (length (shape b))))
+few-parts b = begin-few (b .pre .0) (b .args .counted)
 
 few-bytes : (b : tie.Start) → length (now (b .args .popups)) + length (now (b .args .last)) ≤ 16384
-few-bytes b = omega (arith, length-append (now (b .args .popups)) (now (b .args .last)), few (b .args .there) (b .pre .0 .4))
+few-bytes b = omega (arith, length-append (now (b .args .popups)) (now (b .args .last)), few (b .args .there) (b .pre .0 .popups-lent))
   where
     few : (there : Bool) → PopupsLent there (popups b) (b .args .n) → length (popups b) ≤ 16384
-    few true l = omega (arith, l .sized, b .pre .0 .0 .few)
+    few true l = omega (arith, l .sized, b .pre .0 .good .few)
     few false l = omega (arith, l .sized)
 
 -- where the popups begin, and end
@@ -79,27 +78,27 @@ mul-from : tie.Need-mul-from
 mul-from c = search needs
 
 add-from : tie.Need-add-from
-add-from c = let b = c .before .before .before .before .before .before .before .before .before .before .before .before .before .before .before in omega (arith, few-parts b, few-bytes b, b .pre .0 .0 .few, b .pre .0 .2, c .before .before .before .before .put-scheduled .ensures .0)
+add-from c = let b = c .before .before .before .before .before .before .before .before .before .before .before .before .before .before .before in omega (arith, few-parts b, few-bytes b, b .pre .0 .good .few, b .pre .0 .edition-short, c .before .before .before .before .put-scheduled .ensures .0)
 
 add-from-2 : tie.Need-add-from-2
-add-from-2 c = let b = c .before .before .before .before .before .before .before .before .before .before .before .before .before .before .before in omega (arith, few-parts b, few-bytes b, b .pre .0 .0 .few, b .pre .0 .2, c .before .before .before .before .put-scheduled .ensures .0)
+add-from-2 c = let b = c .before .before .before .before .before .before .before .before .before .before .before .before .before .before .before in omega (arith, few-parts b, few-bytes b, b .pre .0 .good .few, b .pre .0 .edition-short, c .before .before .before .before .put-scheduled .ensures .0)
 
 add-put-counts : tie.Need-add-put-counts
-add-put-counts c = let b = c .before .before .before .before .before .before .before .before .before .before .before .before .before .before .before .before in omega (arith, few-parts b, few-bytes b, b .pre .0 .0 .few, b .pre .0 .2, c .before .before .before .before .before .put-scheduled .ensures .0)
+add-put-counts c = let b = c .before .before .before .before .before .before .before .before .before .before .before .before .before .before .before .before in omega (arith, few-parts b, few-bytes b, b .pre .0 .good .few, b .pre .0 .edition-short, c .before .before .before .before .before .put-scheduled .ensures .0)
 
 add-put-counts-2 : tie.Need-add-put-counts-2
-add-put-counts-2 c = let b = c .before .before .before .before .before .before .before .before .before .before .before .before .before .before .before .before in omega (arith, few-parts b, few-bytes b, b .pre .0 .0 .few, b .pre .0 .2, c .before .before .before .before .before .put-scheduled .ensures .0)
+add-put-counts-2 c = let b = c .before .before .before .before .before .before .before .before .before .before .before .before .before .before .before .before in omega (arith, few-parts b, few-bytes b, b .pre .0 .good .few, b .pre .0 .edition-short, c .before .before .before .before .before .put-scheduled .ensures .0)
 
 put-counts-requires : tie.Need-put-counts-requires
 put-counts-requires c κs =
     let b = c .before .before .before .before .before .before .before .before .before .before .before .before .before .before .before .before in
     let p = c .before .before .before .before .before in
     let at = p .put-scheduled .ensures .0 in (
-      b .pre .0 .0 .few,
+      b .pre .0 .good .few,
       omega arith,
       omega arith,
       omega (arith, sized b, b .pre .1 .1, at, length-append (now (b .args .popups)) (now (b .args .last)), c .before .before .out .given),
-      rw (p .put-scheduled .ensures .1, popups-read (marks b) (b .args .n) (b .pre .0 .0 .few) (b .pre .0 .1) (edition b) (b .args .there) (popups b) (shape b) (b .args .counted) (b .pre .0 .2) (b .pre .0 .3) (b .pre .0 .4) (now (b .args .out)) (from-is b at) (end-is b at)) (lent-good (b .args .there) (b .pre .0 .4)),
+      rw (p .put-scheduled .ensures .1, popups-read (b .pre .0) (b .args .counted) (now (b .args .out)) (from-is b at) (end-is b at)) (lent-good (b .args .there) (b .pre .0 .popups-lent)),
     )
 
 put-requires : tie.Need-put-requires
@@ -120,9 +119,9 @@ returns c =
     let p = c .before .before .before .before .before .before .before .before .before .before .before .before in
     let k = c .before .before .before .before .before .before in
     let at = p .put-scheduled .ensures .0 in
-    let counts = if-same (b .args .counted) (counts-read (marks b) (b .args .n) (b .pre .0 .0 .few) (b .pre .0 .1) (edition b) (b .args .there) (popups b) (shape b) (b .args .counted) (b .pre .0 .2) (b .pre .0 .3) (b .pre .0 .4) (now (b .args .out)) at (from-is b at) (end-is b at)) in
+    let counts = if-same (b .args .counted) (counts-read (b .pre .0) (b .args .counted) (now (b .args .out)) at (from-is b at) (end-is b at)) in
     let sized = if-sized (b .args .counted) (marks b) (keptFrom (edition b) (b .args .there) (popups b) (shape b)) in
-    sheet-put (marks b) (b .args .n) (b .pre .0 .0 .few) (b .pre .0 .1) (edition b) (b .args .there) (popups b) (shape b) (b .args .counted) (b .pre .0 .2) (b .pre .0 .3) (b .pre .0 .4) (now (b .args .out)) (b .pre .1 .1) counts (ended b at) (rw (p .put-scheduled .ensures .1) at (k .put-counts .ensures .1))
+    sheet-put (b .pre .0) (b .args .counted) (now (b .args .out)) (b .pre .1 .1) counts (ended b at) (rw (p .put-scheduled .ensures .1) at (k .put-counts .ensures .1))
     (k .put-counts .ensures .0 ∙ omega (arith, ap length counts, sized)) (c .before .before .put .ensures .1)
 
 pub put-sheet-spec : {M : Type 1} → statement M

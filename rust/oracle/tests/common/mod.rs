@@ -8,7 +8,7 @@ use oracle::mark::{write_marks, Mark};
 use oracle::popup::write_popups;
 use oracle::process::schedule_in_rank_order;
 use oracle::rank::Edition;
-use oracle::record::{write_records, Record};
+use oracle::record::{read_records, write_records, Record};
 use oracle::reel::Reel;
 use oracle::sample::{marks, popups, Layout, Popups};
 use oracle::shape::Shape;
@@ -96,6 +96,11 @@ pub fn with_counts(sheet: &[u8]) -> Vec<u8> {
     with_part(sheet, 6, &part_6(opened.reel(), records))
 }
 
+/// The records of a sheet that has part 2.
+pub fn records(sheet: &[u8]) -> Vec<Record> {
+    read_records(split(sheet).unwrap().get(2).unwrap())
+}
+
 /// The sheet that scheduling a sheet writes.
 pub fn schedule_large(sheet: &[u8]) -> Result<Vec<u8>, u32> {
     schedule(sheet, WORK, LONGEST)
@@ -139,5 +144,21 @@ pub fn each_popping_up(numbers: &[usize], mut visit: impl FnMut(&[Mark], &[u32])
                 visit(&sample, &popups(how, &sample, seed));
             }
         }
+    }
+}
+
+/// Calls `visit` with the marks in both editions and of both shapes, without popups and
+/// popping up in these ways.
+pub fn each_reel(marks: &[Mark], ways: &[Popups], seed: u64, mut visit: impl FnMut(Reel)) {
+    let drawn: Vec<Vec<u32>> = ways.iter().map(|&it| popups(it, marks, seed)).collect();
+    for (edition, shape) in Edition::ALL
+        .into_iter()
+        .flat_map(|edition| Shape::ALL.map(|shape| (edition, shape)))
+    {
+        let reel = edition.reel(marks).with_shape(shape);
+        visit(reel);
+        drawn
+            .iter()
+            .for_each(|popups| visit(reel.with_popups(popups)));
     }
 }

@@ -1,7 +1,10 @@
 //! What the tests of several jobs see in the same way.
 
+use oracle::fraction::Removal;
 use oracle::mark::{read_marks, Mark};
 use oracle::record::{read_records, Record};
+use oracle::reel::Reel;
+use oracle::rules::keep_both;
 use oracle::sample::P1;
 use oracle::sheet::split;
 use rollmap::{Code, Refusal, View, Work, Zoom, MARK_BYTES, NO_POPUP};
@@ -61,6 +64,28 @@ pub fn records_among(sheet: &[u8], p: u16) -> Vec<Record> {
         }
     };
     numbers.iter().map(counted).collect()
+}
+
+/// Sees that a list of removal values keeps both rules exactly where it is ours, and answers
+/// whether it is.
+pub fn is_ours_if_kept(reel: Reel, ours: &[Removal], list: &[Removal]) -> bool {
+    let mut pairs = ours.iter().zip(list);
+    let same = pairs.all(|(own, other)| own.equals(*other));
+    assert_eq!(keep_both(reel, list).is_ok(), same, "{reel:?} {list:?}");
+    same
+}
+
+/// Sees that a record by which one of these marks removes another, where their pair value
+/// has it, is taken exactly where it outranks the other.
+pub fn every_eliminator(beyond: &Beyond, marks: &[Mark]) {
+    let (n, reel) = (marks.len(), beyond.reel(marks));
+    for (m, other) in (0..n).flat_map(|m| (0..n).map(move |other| (m, other))) {
+        let mut records = vec![Record::NEVER; n];
+        records[m] = Record::removed(other, reel.pair_value(m, other));
+        let number = check(&beyond.with_records(marks, &records));
+        let expected = if reel.outranks(other, m) { 0 } else { 8 };
+        assert_eq!(number, expected, "{reel:?} {m} {other}");
+    }
 }
 
 // ---- rows
@@ -154,7 +179,7 @@ pub fn come_and_go(beyond: &Beyond, all: &[Mark], m: usize) {
 /// library's own. Both together have these parts beyond 3. Answers the sheet of both.
 pub fn come_in_buffers_of_its_own(beyond: &Beyond, two: &[Mark; 2]) -> Vec<u8> {
     let none = beyond.without(1).without(0);
-    let empty = rollmap::schedule_to_vec(&none.bare(&[])).unwrap();
+    let empty = none.scheduled_here(&[]);
     assert_eq!(empty, none.scheduled(&[]));
     let one = rollmap::add_to_vec(&empty, bound(&two[0]), beyond.popup(0)).unwrap();
     let both = rollmap::add_to_vec(&one, bound(&two[1]), beyond.popup(1)).unwrap();

@@ -476,6 +476,11 @@ impl Beyond {
         self.put_behind(three_parts(marks, records))
     }
 
+    /// The sheet that the library schedules of these marks with the parts.
+    pub fn scheduled_here(&self, marks: &[Mark]) -> Vec<u8> {
+        rollmap::schedule_to_vec(&self.bare(marks)).unwrap()
+    }
+
     /// The sheet that scheduling these marks with the parts writes.
     pub fn scheduled(&self, marks: &[Mark]) -> Vec<u8> {
         self.with_records(marks, &schedule_in_rank_order(self.reel(marks)))

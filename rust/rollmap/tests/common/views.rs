@@ -2,15 +2,17 @@
 //! is asked.
 
 use oracle::fraction::Removal;
+use oracle::map::is_set;
 use oracle::mark::Mark;
+use oracle::process::schedule_in_rank_order;
 use oracle::record::{removals, Record};
-use oracle::sample::Generator;
+use oracle::sample::{marks, Generator, Layout};
 use oracle::shape::Shape;
 use oracle::view::{map_and_count, Edges, Window};
 use oracle::zoom::{removal_zoom_in_64ths, zoom_in_64ths};
 use rollmap::{Code, Turn, View, Zoom, FARTHEST_EDGE};
 
-use super::{number, Beyond, Lent};
+use super::{foreign_records, number, Beyond, Lent};
 
 /// All places at stop 0, without a turn.
 pub const WHOLE: View = View::whole(Zoom::Stop(0));
@@ -154,6 +156,84 @@ impl Scheduled {
         assert_view(&self.sheet, view, expected.0.len(), &Ok(expected));
         count
     }
+
+    /// Answers so many views with this turn that are taken.
+    pub fn some_views(&self, generator: &mut Generator, turn: Turn, times: usize) {
+        for _ in 0..times {
+            let view = self.some_view(generator, turn);
+            self.view(view);
+        }
+    }
+}
+
+/// Answers so many views with each of these turns, of the sheet of these marks and parts
+/// beyond 3 with our records, with foreign ones, and with those by which nobody goes.
+pub fn view_ours_and_foreign(
+    generator: &mut Generator,
+    beyond: &Beyond,
+    marks: &[Mark],
+    turns: &[Turn],
+    times: usize,
+) {
+    let reel = beyond.reel(marks);
+    let lists = [
+        schedule_in_rank_order(reel),
+        foreign_records(generator, reel),
+        vec![Record::NEVER; marks.len()],
+    ];
+    for records in lists {
+        let scheduled = Scheduled::with(beyond.clone(), marks.to_vec(), &records);
+        for &turn in turns {
+            scheduled.some_views(generator, turn, times);
+        }
+    }
+}
+
+/// How often a label touched a view's rectangle from outside, was shown, and was not, by the
+/// quarters of the view's turn.
+pub type Reached = [[usize; 3]; 4];
+
+/// Answers views of samples with these parts beyond 3, in which nobody goes, with these turns
+/// one after the other, 300 a sample: a label just reaches the rectangle, or just misses it.
+/// Calls `visit` with its mark, the view, and whether it is shown.
+pub fn each_beside_a_label(
+    generator: &mut Generator,
+    beyond: &Beyond,
+    seed: u64,
+    turns: &[Turn],
+    mut visit: impl FnMut(&Mark, View, bool),
+) -> Reached {
+    let shape = beyond.shape();
+    let mut reached = Reached::default();
+    for (layout, n) in Layout::ALL
+        .into_iter()
+        .flat_map(|layout| [1, 2, 9, 120].map(|n| (layout, n)))
+    {
+        let never = vec![Record::NEVER; n];
+        let scheduled = Scheduled::with(beyond.clone(), marks(layout, n, seed), &never);
+        for &turn in turns.iter().cycle().take(300) {
+            // At a whole zoom a label reaches a whole number of map units.
+            let zoom = match generator.below(2) {
+                0 => wheel(64 * (1 + generator.below(9))),
+                _ => some_zoom(generator),
+            };
+            let k = in_64ths(zoom);
+            let (beside, number) = beside_a_label(generator, shape, &scheduled.marks, turn, k);
+            let asked = View { zoom, ..beside };
+            let mark = &scheduled.marks[number];
+            let expected = scheduled.expected(asked);
+            let shown = is_set(&expected.0, number);
+            let seen = [touches(shape, mark, asked, k), shown, !shown];
+            let counts = &mut reached[usize::from(turn.quarters())];
+            for (count, seen) in counts.iter_mut().zip(seen) {
+                *count += usize::from(seen);
+            }
+            visit(mark, asked, shown);
+            assert_view(&scheduled.sheet, asked, expected.0.len() - 1, &Err(13));
+            assert_view(&scheduled.sheet, asked, expected.0.len(), &Ok(expected));
+        }
+    }
+    reached
 }
 
 // ---- windows
@@ -217,7 +297,7 @@ pub fn anywhere(generator: &mut Generator, turn: Turn) -> View {
 /// A rectangle whose nearest place is as far from a turned mark as its label of this shape
 /// reaches at k/64, as near as whole numbers allow, or one unit further; with the mark's
 /// number.
-pub fn beside_a_label(
+fn beside_a_label(
     generator: &mut Generator,
     shape: Shape,
     marks: &[Mark],
@@ -257,7 +337,7 @@ pub fn beside_a_label(
 }
 
 /// Whether a turned mark's label of this shape at k/64 touches the rectangle from outside.
-pub fn touches(shape: Shape, mark: &Mark, view: View, k: u32) -> bool {
+fn touches(shape: Shape, mark: &Mark, view: View, k: u32) -> bool {
     let label = mark.label().turned(view.turn.quarters());
     let dx = i64::from(label.x - label.x.clamp(view.x0, view.x1));
     let dy = i64::from(label.y - label.y.clamp(view.y0, view.y1));
