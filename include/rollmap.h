@@ -16,6 +16,12 @@
  * written, and then the lower number. Without part 4 the first edition holds. Whatever goes
  * by rank goes by the sheet's own edition.
  *
+ * So marks of lower priority never move those of higher. Take two sheets that
+ * rollmap_schedule, rollmap_add or rollmap_take_out wrote, of the same edition and shape,
+ * which hold the same marks of priority p and above, in the same order and with the same
+ * popups, whatever stands below p: these marks have the same removal values and, counted
+ * among themselves, the same eliminators.
+ *
  * Part 7 names the shape of the labels: disks, or upright squares, whose radius is half a
  * side. Without part 7 they are disks. Two places are as far apart as the straight line
  * between them is long, and for squares as the larger of the differences of their x and of
