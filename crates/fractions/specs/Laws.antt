@@ -31,6 +31,14 @@ less-atMost {f} {g} {h} d p q = elim (order h f) [ inl r ↦ (let s = atMost-tra
 pub atMost-less : {f g h : Fraction} → 0 < f .den → AtMost f g → Less g h → Less f h
 atMost-less {f} {g} {h} d p q = elim (order h f) [ inl r ↦ (let s = atMost-trans d r p in omega arith) | inr r ↦ r ]
 
+-- what is below another has a denominator
+pub less-positive : {f g : Fraction} → Less f g → 0 < f .den
+less-positive {f} {g} l =
+    elim (decLe 1 (f .den)) [
+      | yes h ↦ h
+      | no h ↦ (let z : f .den ≡ 0 = omega arith in let x : f .num * g .den < g .num * 0 = rw z at (l .cross) in absurd (omega arith))
+    ]
+
 pub same-trans : {f g h : Fraction} → 0 < g .den → Same f g → Same g h → Same f h
 same-trans {f} {g} {h} d p q =
     let up : AtMost f h = atMost-trans {g = g} d (omega arith) (omega arith) in

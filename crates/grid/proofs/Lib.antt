@@ -1,3 +1,2 @@
-pub mod Entries
-pub mod Chains
-pub mod Boxes
+mod Regions
+mod Table

@@ -1,95 +1,89 @@
--- The table of cells: 80 cells, each with a chain of the rows that were put into it, a box around their places and their largest radius.
--- `w` is the lent buffer and `at` where the table begins in it; its entries have 2 bytes: for each cell its last row, the number of its rows,
--- the four sides of its box and its largest radius; then for each row the row before it in its cell. A row is given by one more than its
--- place, so that 0 means 'none'. Any row may be put into any cell.
-use Prim.Native.Nat.{ℕ, suc, _+_, _*_, _<_, _≤_}
+-- The table of regions. `w` is the lent buffer and `at` where the table begins in it. Of so many groups it has, one behind the other: a region of 24
+-- bytes for each of the 16 cells of each group; such a region for each group; and a link of 2 bytes for each row, to the row before it in its
+-- cell. A row is given by one more than its place, so that 0 means 'none'. Any row may be put into any cell, or into none.
+use Prim.Native.Nat.{ℕ, suc, _+_, _*_, _/_, _<_, _≤_}
 use mathlib.Core.Path.{_≡_}
 use mathlib.Core.Bool.{cond}
-use mathlib.Core.List.{List}
+use mathlib.Core.List.{List, _++_}
 use lib.Dec.{eqb}
 use lib.ListN.{length}
-use Rattle.numbers.specs.Little.{leAt}
-use Rattle.marks.specs.declared.Label.{Label}
-use Rattle.marks.specs.Marks.{shifted}
+use Rattle.numbers.specs.Little.{leAt, leBytes}
+use Rattle.fractions.specs.Order.{Small}
+use Rattle.grid.specs.declared.Region.{Region}
 
--- how many cells there are
-abbrev pub cellCount : ℕ
-cellCount = 80
+-- ---- where things stand
 
--- Where the entries of each kind begin: a cell's last row is the entry of its number.
-abbrev pub countsFrom : ℕ
-countsFrom = 80
+-- the cells of so many groups, and with the groups themselves the regions
+abbrev pub cellCount : ℕ → ℕ
+cellCount groups = 16 * groups
 
-abbrev pub westFrom : ℕ
-westFrom = 160
+abbrev pub regionCount : ℕ → ℕ
+regionCount groups = 17 * groups
 
-abbrev pub eastFrom : ℕ
-eastFrom = 240
+-- the region of the group that cell c is in
+abbrev pub groupRegion : ℕ → ℕ → ℕ
+groupRegion groups c = cellCount groups + c / 16
 
-abbrev pub southFrom : ℕ
-southFrom = 320
+abbrev pub regionSize : ℕ
+regionSize = 24
 
-abbrev pub northFrom : ℕ
-northFrom = 400
+-- the bytes of all regions
+abbrev pub tableSize : ℕ → ℕ
+tableSize groups = 408 * groups
 
-abbrev pub radiiFrom : ℕ
-radiiFrom = 480
+-- ---- regions: the four sides, the radius, the last row, and the latest removal value
 
-abbrev pub linksFrom : ℕ
-linksFrom = 560
+unfoldable pub regionAt : List ℕ → ℕ → ℕ → Region
+regionAt w at i =
+    record {
+      west = leAt 2 w (at + regionSize * i);
+      east = leAt 2 w (at + regionSize * i + 2);
+      south = leAt 2 w (at + regionSize * i + 4);
+      north = leAt 2 w (at + regionSize * i + 6);
+      radius = leAt 2 w (at + regionSize * i + 8);
+      last = leAt 2 w (at + regionSize * i + 10);
+      latest = record { num = leAt 8 w (at + regionSize * i + 12); den = leAt 4 w (at + regionSize * i + 20) };
+    }
 
--- the bytes of the entries of all cells; those of the rows' links stand behind them
-abbrev pub tableSize : ℕ
-tableSize = 1120
+unfoldable pub sideBytes : Region → List ℕ
+sideBytes r = leBytes 2 (r .west) ++ (leBytes 2 (r .east) ++ (leBytes 2 (r .south) ++ leBytes 2 (r .north)))
 
-abbrev pub tableAt : List ℕ → ℕ → ℕ → ℕ
-tableAt w at i = leAt 2 w (at + 2 * i)
+unfoldable pub regionBytes : Region → List ℕ
+regionBytes r =
+    sideBytes r ++ (leBytes 2 (r .radius) ++ (leBytes 2 (r .last) ++ (leBytes 8 (r .latest .num) ++ leBytes 4 (r .latest .den))))
 
-abbrev pub headAt : List ℕ → ℕ → ℕ → ℕ
-headAt w at c = tableAt w at c
-
-abbrev pub rowCountAt : List ℕ → ℕ → ℕ → ℕ
-rowCountAt w at c = tableAt w at (countsFrom + c)
-
-abbrev pub widestAt : List ℕ → ℕ → ℕ → ℕ
-widestAt w at c = tableAt w at (radiiFrom + c)
-
-abbrev pub linkAt : List ℕ → ℕ → ℕ → ℕ
-linkAt w at q = tableAt w at (linksFrom + q)
+-- no row: nobody is removed later than 0
+abbrev pub emptyRegion : Region
+emptyRegion =
+    record { west = 0; east = 0; south = 0; north = 0; radius = 0; last = 0; latest = record { num = 0; den = 1 } }
 
 -- ---- the chains
 
--- no entry leads past the p rows that were put in
-pub record EntriesLow (w : List ℕ) (at p : ℕ) : Type 0 where
-  pub room : at + tableSize + 2 * p ≤ length w
-  pub head-low : (c : ℕ) → c < cellCount → headAt w at c ≤ p
-  pub link-low : (j : ℕ) → j < p → linkAt w at j ≤ j
-  pub count-low : (c : ℕ) → c < cellCount → rowCountAt w at c ≤ p
-  pub radius-low : (c : ℕ) → c < cellCount → widestAt w at c ≤ 16383
+abbrev pub linkFrom : ℕ → ℕ → ℕ → ℕ
+linkFrom at groups q = at + tableSize groups + 2 * q
 
--- row q is in cell `cell q`: a cell's head is its last row, and a row's link is the row before it in its cell
-pub record Chained (w : List ℕ) (at p : ℕ) (cell : ℕ → ℕ) : Type 0 where
-  pub cell-low : (q : ℕ) → q < p → cell q < cellCount
-  pub head-in : (c : ℕ) → c < cellCount → (i : ℕ) → headAt w at c ≡ suc i → cell i ≡ c
-  pub head-all : (q : ℕ) → q < p → q < headAt w at (cell q)
-  pub link-in : (j : ℕ) → j < p → (i : ℕ) → linkAt w at j ≡ suc i → cell i ≡ cell j
-  pub link-all : (j : ℕ) → j < p → (q : ℕ) → q < j → cell q ≡ cell j → q < linkAt w at j
+abbrev pub linkAt : List ℕ → ℕ → ℕ → ℕ → ℕ
+linkAt w at groups q = leAt 2 w (linkFrom at groups q)
+
+abbrev pub lastAt : List ℕ → ℕ → ℕ → ℕ
+lastAt w at c = regionAt w at c .last
+
+-- no entry leads past the p rows that were put in, and no product of a comparison is too large
+pub record EntriesLow (w : List ℕ) (at groups p : ℕ) : Type 0 where
+  pub room : at + tableSize groups + 2 * p ≤ length w
+  pub last-low : (c : ℕ) → c < cellCount groups → lastAt w at c ≤ p
+  pub link-low : (j : ℕ) → j < p → linkAt w at groups j ≤ j
+  pub radius-low : (i : ℕ) → i < regionCount groups → regionAt w at i .radius ≤ 16383
+  pub latest-small : (i : ℕ) → i < regionCount groups → Small (regionAt w at i .latest)
+  pub latest-some : (i : ℕ) → i < regionCount groups → 0 < regionAt w at i .latest .num + regionAt w at i .latest .den
+
+-- Row q is in cell `cell q`, or in none where that is no cell: a cell's last row is its last one, and a row's link is the row before it in its cell.
+pub record Chained (w : List ℕ) (at groups p : ℕ) (cell : ℕ → ℕ) : Type 0 where
+  pub last-in : (c : ℕ) → c < cellCount groups → (i : ℕ) → lastAt w at c ≡ suc i → cell i ≡ c
+  pub last-all : (q : ℕ) → q < p → cell q < cellCount groups → q < lastAt w at (cell q)
+  pub link-in : (j : ℕ) → j < p → cell j < cellCount groups → (i : ℕ) → linkAt w at groups j ≡ suc i → cell i ≡ cell j
+  pub link-all : (j : ℕ) → j < p → cell j < cellCount groups → (q : ℕ) → q < j → cell q ≡ cell j → q < linkAt w at groups j
 
 -- `cell`, but row p is in cell c
 abbrev pub assign : (ℕ → ℕ) → ℕ → ℕ → ℕ → ℕ
 assign cell p c q = cond (eqb q p) c (cell q)
-
--- ---- the boxes
-
--- The shifted place (u, v) lies in the box of cell c, and r is at most its largest radius. The lower sides are kept as their distance from
--- 65,535, so that every side of an empty box is 0, and each grows.
-pub record Boxed (w : List ℕ) (at c u v r : ℕ) : Type 0 where
-  pub west : 65535 ≤ tableAt w at (westFrom + c) + u
-  pub east : u ≤ tableAt w at (eastFrom + c)
-  pub south : 65535 ≤ tableAt w at (southFrom + c) + v
-  pub north : v ≤ tableAt w at (northFrom + c)
-  pub radius : r ≤ widestAt w at c
-
--- the same of a label
-abbrev pub Inside : List ℕ → ℕ → ℕ → Label → Type 0
-Inside w at c a = Boxed w at c (shifted (a .x)) (shifted (a .y)) (a .radius)

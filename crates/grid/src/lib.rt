@@ -1,58 +1,130 @@
-// Rows by place: 64 cells over the square in which the data lies, and 16 larger ones for marks of large radius. Each cell has a chain of its
-// rows, a box around their places and their largest radius, so that a search can pass over a cell in which nothing touches soon enough.
-// Nothing but speed rests on the choice of a row's cell. The table stands in lent bytes `w`, from `at` on.
+// Rows by place: regions, which are cells and groups of 16 cells. Each cell has a chain of its rows, and each cell and each group a box around the
+// places of its rows, their largest radius and their latest removal value, so that a search can pass over what touches too late, or holds nobody
+// that lives until it touches. Nothing but speed rests on the choice of a row's cell. The table stands in lent bytes `w`, from `at` on: the
+// regions of the cells, those of the groups, and then a link for each row.
 use fractions::Fraction;
 use marks::Label;
 ghost use mathlib.Core.Path.{_≡_};
-ghost use Prim.Native.Nat.{_+_, _*_, _<_, _≤_, max};
-ghost use lib.IntN.{natAbs};
+ghost use Prim.Native.Nat.{_+_, _-_, _*_, _/_, _<_, _≤_, max};
+ghost use lib.IntN.{pos};
 ghost use lib.ListN.{length};
-ghost use Rattle.grid.specs.Table.{cellCount, linksFrom, tableSize, tableAt, headAt, rowCountAt, widestAt, linkAt, EntriesLow};
-ghost use Rattle.grid.specs.Plan.{Divides};
-ghost use Rattle.grid.specs.Steps.{Put, Cleared, Widened, Linked, Added, AwayFrom, OffBox, Bound};
+ghost use lib.Seq.{sets};
+ghost use Rattle.fractions.specs.Order.{Small};
+ghost use Rattle.grid.specs.Table.{cellCount, regionCount, regionSize, tableSize, regionAt, sideBytes, linkFrom, linkAt, lastAt, emptyRegion};
+ghost use Rattle.grid.specs.Boxes.{outside, boundOf, laterOf, widened};
+ghost use Rattle.grid.specs.Steps.{LinkPut, RegionPut, Cleared, Added};
 
-// How many cells there are.
-pub const CELLS: usize = 80;
+// The cells of a group.
+pub const GROUP_SIZE: usize = 16;
 
-// Where the entries of each kind begin: a cell's last row stands at its number, a row's link at LINKS and its number.
-const COUNTS: usize = 80;
+// The regions of a group: its cells and itself.
+const GROUP_REGIONS: usize = 17;
 
-const WEST: usize = 160;
+// The bytes of a region, and where the fields behind its west side begin.
+const REGION_SIZE: usize = 24;
 
-const EAST: usize = 240;
+const EAST: usize = 2;
 
-const SOUTH: usize = 320;
+const SOUTH: usize = 4;
 
-const NORTH: usize = 400;
+const NORTH: usize = 6;
 
-const RADII: usize = 480;
+const RADIUS: usize = 8;
 
-const LINKS: usize = 560;
+const LAST: usize = 10;
 
-// ---- entries
+const LATEST_NUM: usize = 12;
 
-fn get(w: &[u8], at: usize, i: usize) -> u16
-    requires { ⌜ at + 2 * i + 2 ≤ length (now w) ⌝ }
-    ensures { λ r. ⌜ r ≡ tableAt (now (w .entry)) at i ⌝ }
-{
-    numbers::read_u16(w, at + 2 * i)
+const LATEST_DEN: usize = 20;
+
+// The bytes of the regions of a group.
+pub const GROUP_BYTES: usize = 408;
+
+// ---- regions
+
+// What is known of the rows of a region: the sides of a box around their places, which are shifted to be at least 0, their largest radius and
+// their latest removal value; and of a cell one more than its last row, or 0. The lower sides are kept as their distance from 65,535, so that every
+// side of an empty box is 0, and each grows.
+pub struct Region {
+    pub west: u16,
+    pub east: u16,
+    pub south: u16,
+    pub north: u16,
+    pub radius: u16,
+    pub last: u16,
+    pub latest: Fraction,
 }
 
-fn put(w: &mut [u8], at: usize, i: usize, v: u16)
-    requires { ⌜ at + 2 * i + 2 ≤ length (now w) ⌝ }
-    ensures { λ _. ⌜ Put (now (w .entry)) (now (w .exit)) at i v ⌝ }
+// Region i of the table at `at`.
+pub fn region_at(w: &[u8], at: usize, i: usize) -> Region
+    requires { ⌜ at + regionSize * i + regionSize ≤ length (now w) ⌝ }
+    ensures { λ r. ⌜ r ≡ regionAt (now (w .entry)) at i ⌝ }
 {
-    numbers::write(w, at + 2 * i, 2, v as u64);
+    let from = at + REGION_SIZE * i;
+    Region {
+        west: numbers::read_u16(w, from),
+        east: numbers::read_u16(w, from + EAST),
+        south: numbers::read_u16(w, from + SOUTH),
+        north: numbers::read_u16(w, from + NORTH),
+        radius: numbers::read_u16(w, from + RADIUS),
+        last: numbers::read_u16(w, from + LAST),
+        latest: Fraction {
+            num: numbers::read(w, from + LATEST_NUM, 8),
+            den: numbers::read_u32(w, from + LATEST_DEN),
+        },
+    }
+}
+
+// Writes the sides of a region that stands at `from`.
+fn put_sides(w: &mut [u8], from: usize, r: Region)
+    requires { ⌜ from + 8 ≤ length (now w) ⌝ }
+    ensures { λ _. ⌜ now (w .exit) ≡ sets (now (w .entry)) from (sideBytes r) ⌝ }
+{
+    numbers::write(w, from, 2, r.west as u64);
+    numbers::write(w, from + EAST, 2, r.east as u64);
+    numbers::write(w, from + SOUTH, 2, r.south as u64);
+    numbers::write(w, from + NORTH, 2, r.north as u64);
+}
+
+// Writes region i of the table at `at`.
+fn put_region(w: &mut [u8], at: usize, i: usize, r: Region)
+    requires { ⌜ at + regionSize * i + regionSize ≤ length (now w) ⌝ }
+    ensures { λ _. ⌜ RegionPut (now (w .entry)) (now (w .exit)) at i r ⌝ }
+{
+    let from = at + REGION_SIZE * i;
+    let latest = r.latest;
+    put_sides(w, from, r);
+    numbers::write(w, from + RADIUS, 2, r.radius as u64);
+    numbers::write(w, from + LAST, 2, r.last as u64);
+    numbers::write(w, from + LATEST_NUM, 8, latest.num);
+    numbers::write(w, from + LATEST_DEN, 4, latest.den as u64);
+}
+
+// A region without a row. No row is removed later than its latest removal value, which is 0.
+fn empty() -> Region
+    ensures { λ r. ⌜ r ≡ emptyRegion ⌝ }
+{
+    let latest = Fraction { num: 0, den: 1 };
+    Region {
+        west: 0,
+        east: 0,
+        south: 0,
+        north: 0,
+        radius: 0,
+        last: 0,
+        latest: latest,
+    }
 }
 
 // No row is in any cell.
-pub fn clear(w: &mut [u8], at: usize)
-    requires { ⌜ at + tableSize ≤ length (now w) ⌝ }
-    ensures { λ _. ⌜ Cleared (now (w .entry)) (now (w .exit)) at linksFrom ⌝ }
+pub fn clear(w: &mut [u8], at: usize, groups: usize)
+    requires { ⌜ at + tableSize groups ≤ length (now w) ⌝ }
+    ensures { λ _. ⌜ Cleared (now (w .entry)) (now (w .exit)) at groups (regionCount groups) ⌝ }
 {
+    let count = GROUP_REGIONS * groups;
     let mut i = 0;
-    while i < LINKS {
-        put(w, at, i, 0);
+    while i < count {
+        put_region(w, at, i, empty());
         i += 1;
     }
 }
@@ -61,38 +133,26 @@ pub fn clear(w: &mut [u8], at: usize)
 
 // One more than the last row of cell c, or 0.
 pub fn last_row(w: &[u8], at: usize, c: usize) -> usize
-    requires { ⌜ (c < cellCount) × (at + tableSize ≤ length (now w)) ⌝ }
-    ensures { λ r. ⌜ r ≡ headAt (now (w .entry)) at c ⌝ }
+    requires { ⌜ at + regionSize * c + regionSize ≤ length (now w) ⌝ }
+    ensures { λ r. ⌜ r ≡ lastAt (now (w .entry)) at c ⌝ }
 {
-    get(w, at, c) as usize
+    numbers::read_u16(w, at + REGION_SIZE * c + LAST) as usize
 }
 
 // One more than the row before row q in its cell, or 0.
-pub fn previous_row(w: &[u8], at: usize, q: usize) -> usize
-    requires { ⌜ at + tableSize + 2 * q + 2 ≤ length (now w) ⌝ }
-    ensures { λ r. ⌜ r ≡ linkAt (now (w .entry)) at q ⌝ }
+pub fn previous_row(w: &[u8], at: usize, groups: usize, q: usize) -> usize
+    requires { ⌜ linkFrom at groups q + 2 ≤ length (now w) ⌝ }
+    ensures { λ r. ⌜ r ≡ linkAt (now (w .entry)) at groups q ⌝ }
 {
-    get(w, at, LINKS + q) as usize
+    numbers::read_u16(w, at + GROUP_BYTES * groups + 2 * q) as usize
 }
 
-// How many rows cell c has.
-pub fn row_count(w: &[u8], at: usize, c: usize) -> usize
-    requires { ⌜ (c < cellCount) × (at + tableSize ≤ length (now w)) ⌝ }
-    ensures { λ r. ⌜ r ≡ rowCountAt (now (w .entry)) at c ⌝ }
+// Makes `before` the link of row q: one more than the row before it in its cell, or 0, also for a row that is in no cell.
+pub fn put_link(w: &mut [u8], at: usize, groups: usize, q: usize, before: u16)
+    requires { ⌜ linkFrom at groups q + 2 ≤ length (now w) ⌝ }
+    ensures { λ _. ⌜ LinkPut (now (w .entry)) (now (w .exit)) at groups q before ⌝ }
 {
-    get(w, at, COUNTS + c) as usize
-}
-
-// Row p becomes the last of cell c.
-fn link(w: &mut [u8], at: usize, p: usize, c: usize)
-    requires { ⌜ (p < 4096) × (c < cellCount) × (at + tableSize + 2 * p + 2 ≤ length (now w)) × EntriesLow (now w) at p ⌝ }
-    ensures { λ _. ⌜ Linked (now (w .entry)) (now (w .exit)) at p c ⌝ }
-{
-    let head = get(w, at, c);
-    let rows = get(w, at, COUNTS + c);
-    put(w, at, LINKS + p, head);
-    put(w, at, c, p as u16 + 1);
-    put(w, at, COUNTS + c, rows + 1);
+    numbers::write(w, at + GROUP_BYTES * groups + 2 * q, 2, before as u64);
 }
 
 // ---- boxes
@@ -100,220 +160,87 @@ fn link(w: &mut [u8], at: usize, p: usize, c: usize)
 fn larger(a: u16, b: u16) -> u16
     ensures { λ r. ⌜ r ≡ max a b ⌝ }
 {
-    if a < b {
-        return b;
+    if a < b { b } else { a }
+}
+
+// The later of two removal values.
+fn later_of(f: Fraction, g: Fraction) -> Fraction
+    requires { ⌜ Small f × Small g ⌝ }
+    ensures { λ r. ⌜ r ≡ laterOf f g ⌝ }
+{
+    if fractions::less_small(f, g) {
+        return g;
     }
-    a
+    f
 }
 
-// The entry i becomes at least v.
-fn raise(w: &mut [u8], at: usize, i: usize, v: u16)
-    requires { ⌜ at + 2 * i + 2 ≤ length (now w) ⌝ }
-    ensures { λ _. ⌜ Put (now (w .entry)) (now (w .exit)) at i (max (tableAt (now (w .entry)) at i) v) ⌝ }
+// A region with one row more, of this label and removal value, and with this last row.
+fn taking_in(r: Region, label: Label, value: Fraction, last: u16) -> Region
+    requires { ⌜ Small (r .latest) × Small value ⌝ }
+    ensures { λ s. ⌜ s ≡ widened r label value last ⌝ }
 {
-    let old = get(w, at, i);
-    put(w, at, i, larger(old, v));
-}
-
-// The box of cell c takes in the shifted place x, y, and its largest radius r.
-fn widen_box(w: &mut [u8], at: usize, c: usize, x: u16, y: u16, r: u16)
-    requires { ⌜ (c < cellCount) × (at + tableSize ≤ length (now w)) × (r ≤ 16383) ⌝ }
-    ensures { λ _. ⌜ Widened (now (w .entry)) (now (w .exit)) at c x y r ⌝ }
-{
-    raise(w, at, WEST + c, 65535 - x);
-    raise(w, at, EAST + c, x);
-    raise(w, at, SOUTH + c, 65535 - y);
-    raise(w, at, NORTH + c, y);
-    raise(w, at, RADII + c, r);
-}
-
-// Row p, with this label, goes into cell c.
-pub fn add(w: &mut [u8], at: usize, p: usize, c: usize, label: Label)
-    requires { ⌜ (p < 4096) × (c < cellCount) × (label .radius ≤ 16383) × (at + tableSize + 2 * p + 2 ≤ length (now w)) ⌝ }
-    requires { ⌜ EntriesLow (now w) at p ⌝ }
-    ensures { λ _. ⌜ Added (now (w .entry)) (now (w .exit)) at p c label ⌝ }
-{
-    widen_box(
-        w,
-        at,
-        c,
-        marks::shifted(label.x),
-        marks::shifted(label.y),
-        label.radius,
-    );
-    link(w, at, p, c);
-}
-
-// How far a lies from the range from 65,535 - low to high.
-fn away_from(a: u16, low: u16, high: u16) -> i32
-    ensures { λ r. ⌜ AwayFrom a low high (natAbs r) ⌝ }
-{
-    let least = 65535 - low;
-    if a < least {
-        return (least - a) as i32;
-    }
-    if high < a {
-        return (a - high) as i32;
-    }
-    0
-}
-
-// The distance of the shifted place x, y from the box of cell c, by the shape of the labels.
-fn off_box(w: &[u8], at: usize, c: usize, shape: u8, x: u16, y: u16) -> u64
-    requires { ⌜ (c < cellCount) × (at + tableSize ≤ length (now w)) ⌝ }
-    ensures { λ d. ⌜ OffBox shape (now (w .entry)) at c x y d ⌝ }
-{
-    let dx = away_from(x, get(w, at, WEST + c), get(w, at, EAST + c));
-    let dy = away_from(y, get(w, at, SOUTH + c), get(w, at, NORTH + c));
-    marks::distance(shape, dx, dy)
-}
-
-// The touching value of a label and one at the nearest place of the box of cell c, with its largest radius.
-pub fn bound(w: &[u8], at: usize, c: usize, shape: u8, label: Label) -> Fraction
-    requires { ⌜ (c < cellCount) × (at + tableSize ≤ length (now w)) × (label .radius ≤ 16383) × (widestAt (now w) at c ≤ 16383) ⌝ }
-    ensures { λ f. ⌜ Bound shape (now (w .entry)) at c label f ⌝ }
-{
-    let num = off_box(
-        w,
-        at,
-        c,
-        shape,
-        marks::shifted(label.x),
-        marks::shifted(label.y),
-    );
-    let radii = get(w, at, RADII + c) as u32 + label.radius as u32;
-    let den = radii * radii;
-    Fraction { num: num, den: den }
-}
-
-// ---- the choice of a cell
-
-// What the rows fill: the sides as a box has them, and the sum of the radii.
-pub struct Cover {
-    pub west: u16,
-    pub east: u16,
-    pub south: u16,
-    pub north: u16,
-    pub radii: u64,
-}
-
-// The same with one label more. Of the sides nothing is said, since nothing but speed rests on them.
-pub fn extended(e: Cover, label: Label) -> Cover
-    requires { ⌜ e .radii ≤ 4294967296 ⌝ }
-    ensures { λ f. ⌜ f .radii ≡ e .radii + label .radius ⌝ }
-{
-    let u = marks::shifted(label.x);
-    let v = marks::shifted(label.y);
-    let radii = e.radii + label.radius as u64;
-    Cover {
-        west: larger(e.west, 65535 - u),
-        east: larger(e.east, u),
-        south: larger(e.south, 65535 - v),
-        north: larger(e.north, v),
-        radii: radii,
+    let x = marks::shifted(label.x);
+    let y = marks::shifted(label.y);
+    let latest = r.latest;
+    Region {
+        west: larger(r.west, 65535 - x),
+        east: larger(r.east, x),
+        south: larger(r.south, 65535 - y),
+        north: larger(r.north, y),
+        radius: larger(r.radius, label.radius),
+        last: last,
+        latest: later_of(latest, value),
     }
 }
 
-// Where the 64 cells lie: the least corner, the size of a cell, how many stand in a column, and the radius above which a mark is large.
-pub struct Plan {
-    pub x: u16,
-    pub y: u16,
-    pub width: u64,
-    pub height: u64,
-    pub rows: u8,
-    pub large: u64,
+// Row p, with this label and removal value, goes into cell c and its group.
+pub fn add(
+    w: &mut [u8],
+    at: usize,
+    groups: usize,
+    p: usize,
+    c: usize,
+    label: Label,
+    value: Fraction,
+)
+    requires { ⌜ (p < 4096) × (c < cellCount groups) × (linkFrom at groups p + 2 ≤ length (now w)) × Small value ⌝ }
+    requires { ⌜ Small (regionAt (now w) at c .latest) × Small (regionAt (now w) at (cellCount groups + c / 16) .latest) ⌝ }
+    ensures { λ _. ⌜ Added (now (w .entry)) (now (w .exit)) at groups p c label value ⌝ }
+{
+    let g = GROUP_SIZE * groups + c / GROUP_SIZE;
+    let own = region_at(w, at, c);
+    let group = region_at(w, at, g);
+    put_link(w, at, groups, p, own.last);
+    put_region(w, at, c, taking_in(own, label, value, p as u16 + 1));
+    put_region(w, at, g, taking_in(group, label, value, 0));
 }
 
-// The length of a range, which its ends give as a box has them.
-fn length_of(low: u16, high: u16) -> u64
-    ensures { λ r. ⌜ r ≤ 65536 ⌝ }
+// ---- bounds
+
+// How far a lies above b: 0 where it does not.
+fn above(a: u16, b: u16) -> u32
+    ensures { λ r. ⌜ r ≡ a - b ⌝ }
 {
-    let sum = low as u64 + high as u64;
-    if sum < 65535 {
-        return 1;
-    }
-    sum - 65534
+    if b < a { (a - b) as u32 } else { 0 }
 }
 
-// How many of the 64 cells stand along a side of this length, with the other side as long as `other`: cells are about square. The numbers
-// along both sides make 64.
-fn cells_along(side: u64, other: u64) -> u8
-    requires { ⌜ (side ≤ 65536) × (other ≤ 65536) ⌝ }
-    ensures { λ r. ⌜ 0 < r ⌝ }
+// How far a lies from the numbers from 65,535 - low to high: 0 among them. One of the two differences is 0 where there is one.
+fn gap(low: u16, high: u16, a: u16) -> i32
+    ensures { λ r. ⌜ (r ≡ pos (outside low high a)) × (outside low high a ≤ 65535) ⌝ }
 {
-    if 2 * other <= side {
-        return if 32 * other <= side {
-            64
-        } else if 8 * other <= side {
-            32
-        } else {
-            16
-        };
-    }
-    if 32 * side <= other {
-        1
-    } else if 8 * side <= other {
-        2
-    } else if 2 * side <= other {
-        4
-    } else {
-        8
-    }
+    (above(65535 - low, a) + above(a, high)) as i32
 }
 
-// The cells over what n rows fill. A mark is large from four times the average radius on.
-pub fn plan_of(e: Cover, n: usize) -> Plan
-    requires { ⌜ (e .radii ≤ 4294967296) × (n ≤ 4096) ⌝ }
-    ensures { λ r. ⌜ Divides r ⌝ }
+// The touching value of a label and one at the nearest place of a region's box, with its largest radius.
+pub fn bound(r: Region, shape: u8, label: Label) -> Fraction
+    requires { ⌜ (r .radius ≤ 16383) × (label .radius ≤ 16383) ⌝ }
+    ensures { λ f. ⌜ (f ≡ boundOf shape r label) × Small f ⌝ }
 {
-    let across = length_of(e.west, e.east);
-    let down = length_of(e.south, e.north);
-    let columns = cells_along(across, down);
-    let rows = cells_along(down, across);
-    let large = 4 * e.radii / (n as u64 + 1);
-    Plan {
-        x: 65535 - e.west,
-        y: 65535 - e.south,
-        width: across / columns as u64 + 1,
-        height: down / rows as u64 + 1,
-        rows: rows,
-        large: large,
+    let dx = gap(r.west, r.east, marks::shifted(label.x));
+    let dy = gap(r.south, r.north, marks::shifted(label.y));
+    let radii = r.radius as u32 + label.radius as u32;
+    Fraction {
+        num: marks::distance(shape, dx, dy),
+        den: radii * radii,
     }
-}
-
-// How many whole cells of this size lie between `low` and a.
-fn cells_between(low: u16, a: u16, size: u64) -> usize
-    requires { ⌜ 0 < size ⌝ }
-    ensures { λ r. ⌜ r ≤ 65535 ⌝ }
-{
-    if a < low {
-        return 0;
-    }
-    ((a - low) as u64 / size) as usize
-}
-
-// One of the 64 cells. No place that was planned for lies beyond the last.
-fn among_cells(c: usize) -> usize
-    ensures { λ r. ⌜ r < 64 ⌝ }
-{
-    if c < 64 {
-        return c;
-    }
-    63
-}
-
-// The cell of a label, or for a large radius one behind these for each four of them.
-pub fn cell_of(plan: Plan, label: Label) -> usize
-    requires { ⌜ Divides plan ⌝ }
-    ensures { λ c. ⌜ c < cellCount ⌝ }
-{
-    let large = plan.large;
-    let rows = plan.rows as usize;
-    let column = cells_between(plan.x, marks::shifted(label.x), plan.width);
-    let row = cells_between(plan.y, marks::shifted(label.y), plan.height);
-    let cell = among_cells(rows * column + row);
-    if large < label.radius as u64 {
-        return 64 + cell / 4;
-    }
-    cell
 }

@@ -5,14 +5,18 @@ use mathlib.Core.List.{List, [], _∷_, _++_}
 use lib.Dec.{ltb, eqb}
 use Rattle.lists.specs.Blocks.{upTo}
 use Rattle.numbers.specs.Little.{leBytes}
+use Rattle.fractions.specs.declared.Value.{Value}
 use Rattle.fractions.specs.Order.{later, level}
 use Rattle.marks.specs.Marks.{xAt, yAt, shifted}
 use Rattle.elimination.specs.Records.{valueAt}
 use Rattle.index.specs.Tree.{treeOf}
 
 -- "The root is the mark removed last ('never' beats all; equal values, lower number)."
+abbrev pub outlasts : Value → ℕ → Value → ℕ → Bool
+outlasts v a w b = later v w || (level v w && ltb a b)
+
 unfoldable pub beats : List ℕ → ℕ → ℕ → Bool
-beats p a b = later (valueAt p a) (valueAt p b) || (level (valueAt p a) (valueAt p b) && ltb a b)
+beats p a b = outlasts (valueAt p a) a (valueAt p b) b
 
 -- a mark's x or y, shifted to be at least 0
 unfoldable pub coordinate : List ℕ → Bool → ℕ → ℕ

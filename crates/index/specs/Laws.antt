@@ -1,5 +1,5 @@
 -- What the other crates cite of the index. `s` is part 1, `p` part 2, `t` part 3 and n the number of marks; the proofs are in Lemmas.
-use Prim.Native.Nat.{ℕ, _*_, _<_, _≤_}
+use Prim.Native.Nat.{ℕ, _+_, _*_, _<_, _≤_}
 use native.Mathlib.Omega.{arith}
 use mathlib.Core.Path.{_≡_, _∙_}
 use mathlib.Core.Bool.{Bool, true, false, not}
@@ -7,10 +7,9 @@ use mathlib.Core.Logic.{_↔_, _≢_}
 use mathlib.Core.List.{List, [], _∷_, _++_}
 use lib.ListN.{length, take, drop}
 use lib.Dec.{eqb}
-use Rattle.lists.specs.Counting.{count, _≈_, times, non, below, keyed}
+use Rattle.lists.specs.Counting.{count, _≈_, times, non, below}
 use Rattle.lists.specs.Blocks.{upTo, block}
 use Rattle.lists.specs.BlockLaws.{upTo-times}
-use Rattle.lists.specs.Sorting.{Rising}
 use Rattle.numbers.specs.Little.{leBytes, Bytes}
 use Rattle.numbers.specs.Laws.{le-bytes, bytes-append}
 use Rattle.fractions.specs.declared.Fraction.{Fraction}
@@ -127,9 +126,10 @@ module _ (e : ℕ → ℕ) (lo size : ℕ) (some : size ≢ 0) where
   pub block-others : othersOf e lo size ≡ leftOf e lo size ++ rightOf e lo size
   block-others = Blocks.block-others e lo size some
 
--- The keys of the two sides of any cut of a rising list are separated, where no two of them are equal.
-pub rising-split : (k : ℕ → ℕ) (h : ℕ) (l : List ℕ) → Rising k l → ((v : ℕ) → count (keyed k v) l ≤ 1) → Split k (take h l) (drop h l)
-rising-split = Separated.rising-split
+-- The keys of the two sides of a cut of a block are separated, where each on the left is below each on the right.
+pub apart-split : (k e : ℕ → ℕ) (lo m h : ℕ) → h ≤ m → ((i j : ℕ) → lo ≤ i → i < lo + h → lo + h ≤ j → j < lo + m → k (e i) < k (e j))
+    → Split k (take h (block e lo m)) (drop h (block e lo m))
+apart-split = Separated.apart-split
 
 -- Trees over the halves of a list whose members r beats are, joined under r, a tree.
 module _ (beats : ℕ → ℕ → Bool) (key : Bool → ℕ → ℕ) (ord : Order beats) where

@@ -1,4 +1,5 @@
 // Part 3 of a sheet, the index: its check. `marks`, `schedule` and `index` are the bytes of parts 1, 2 and 3; an `axis` is true for x.
+use fractions::Value;
 ghost use mathlib.Core.Path.{_≡_};
 ghost use mathlib.Core.Bool.{true};
 ghost use mathlib.Core.Logic.{_↔_};
@@ -7,20 +8,17 @@ ghost use lib.ListN.{length};
 ghost use Rattle.lists.specs.Blocks.{block};
 ghost use Rattle.marks.specs.Marks.{markSize};
 ghost use Rattle.elimination.specs.Records.{recordSize};
-ghost use Rattle.index.specs.Index.{beats, coordinate, axisKey, indexEntrySize, isIndex};
+ghost use Rattle.index.specs.Index.{outlasts, beats, coordinate, axisKey, indexEntrySize, isIndex};
 ghost use Rattle.index.specs.Valid.{heads};
 ghost use Rattle.index.specs.Blocks.{entryAt};
 ghost use Rattle.index.specs.Check.{keyBound, findingOf, joinSpans, side, joinFindings, HeadCheckable, BlockCheckable, Checkable, AllBelow};
 
 // ---- who is removed later
 
-// Is a removed later than b, or at an equal value with the lower number?
-pub fn beats(schedule: &[u8], a: usize, b: usize) -> bool
-    requires { ⌜ (recordSize * a + recordSize ≤ length (now schedule)) × (recordSize * b + recordSize ≤ length (now schedule)) ⌝ }
-    ensures { λ r. ⌜ r ≡ beats (now (schedule .entry)) a b ⌝ }
+// Is mark a with the removal value v removed later than b with w, or at an equal value with the lower number?
+pub fn outlasts(v: Value, a: usize, w: Value, b: usize) -> bool
+    ensures { λ r. ⌜ r ≡ outlasts v a w b ⌝ }
 {
-    let v = elimination::value_at(schedule, a);
-    let w = elimination::value_at(schedule, b);
     if fractions::later(v, w) {
         return true;
     }
@@ -28,6 +26,16 @@ pub fn beats(schedule: &[u8], a: usize, b: usize) -> bool
         return a < b;
     }
     false
+}
+
+// The same of the values that their records name.
+pub fn beats(schedule: &[u8], a: usize, b: usize) -> bool
+    requires { ⌜ (recordSize * a + recordSize ≤ length (now schedule)) × (recordSize * b + recordSize ≤ length (now schedule)) ⌝ }
+    ensures { λ r. ⌜ r ≡ beats (now (schedule .entry)) a b ⌝ }
+{
+    let v = elimination::value_at(schedule, a);
+    let w = elimination::value_at(schedule, b);
+    outlasts(v, a, w, b)
 }
 
 // ---- the keys by x and by y

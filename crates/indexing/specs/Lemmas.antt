@@ -3,6 +3,6 @@ pub mod Frame
 pub mod Numbers
 pub mod Reorder
 pub mod Best
-pub mod Sort
+pub mod Part
 pub mod Build
 pub mod Result

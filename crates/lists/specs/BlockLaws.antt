@@ -258,3 +258,17 @@ all-numbers (suc n) l d len a p =
 
     rest : length (without n l) ≡ n
     rest = omega (arith, without-length n l, d n, most)
+
+-- the places in another order: what stands at n different places below n is what stands at all of them
+pub block-permuted : (e order : ℕ → ℕ) (n : ℕ) → ((q : ℕ) → q < n → order q < n) → ((q p : ℕ) → q < p → p < n → order q ≡ order p → ⊥)
+    → block (λ q. e (order q)) 0 n ≈ block e 0 n
+block-permuted e order n inside differ p =
+    block-count p (λ m. p (e m)) (λ q. e (order q)) order 0 0 n (λ i h. refl)
+    ∙ all-numbers n (block order 0 n) once (block-length order 0 n) small (λ m. p (e m))
+    ∙ sym (block-count p (λ m. p (e m)) e (λ i. i) 0 0 n (λ i h. refl))
+  where
+    once : Distinct (block order 0 n)
+    once = block-once (λ x. x) order 0 n (λ q p c d f. differ q p d (omega arith))
+
+    small : count (non (below n)) (block order 0 n) ≡ 0
+    small = block-all (below n) order 0 n (λ i a b. lt-ltb (order i) n (inside i (omega arith)))

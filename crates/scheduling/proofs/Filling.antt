@@ -13,7 +13,8 @@ use Rattle.lists.specs.Sorting.{Ranks}
 use Rattle.numbers.specs.Little.{Bytes}
 use Rattle.numbers.specs.Laws.{number-kept}
 use Rattle.sorting.specs.Laws.{sorted-ranks}
-use Rattle.marks.specs.Marks.{usedAt, larger, touching, rankKey, touchingOf}
+use Rattle.marks.specs.Marks.{radiusAt, kindAt, usedAt, larger, touching, rankKey, touchingOf}
+use Rattle.marks.specs.Laws.{used-positive}
 use Rattle.marks.specs.Pairs.{popupAt, pairOf, pairValue, GoodPopups}
 use Rattle.marks.specs.PairLaws.{popup-none}
 use Rattle.marks.specs.declared.Label.{Label}
@@ -121,6 +122,8 @@ module _ {edition : ℕ} {s u w : List ℕ} {n : ℕ} (o : InRank edition s u w 
   rows-small popped radii popups none =
       record {
         radius = λ q h. subst (λ (a : Label). a .radius ≤ 16383) (sym (o .label-is q h)) (radii (rowNumber w q) (o .ranking .inside q h));
+        some = λ q h.
+            subst (λ (a : Label). 0 < a .radius) (sym (o .label-is q h)) (used-positive (radiusAt s (rowNumber w q)) (kindAt s (rowNumber w q)));
         popup = λ q h. rw (o .popup-is q h) (popups .each (rowNumber w q) (o .ranking .inside q h));
         plain = λ e q h. o .popup-is q h ∙ unpopped u (rowNumber w q) (none e);
       }

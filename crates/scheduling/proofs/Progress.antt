@@ -5,7 +5,8 @@ use mathlib.Core.Bool.{Bool}
 use mathlib.Core.List.{List}
 use mathlib.Core.Logic.{_≢_}
 use native.Mathlib.Omega.{arith}
-use native.Mathlib.Nat.{add-zero}
+use native.Mathlib.Nat.{add-zero, mul-le-mul}
+use native.Mathlib.Decide.{ℕ-discrete}
 use borrow.Author.Count.{below-more}
 use borrow.Author.Tests.{eq-eqb, ne-eqb}
 use lib.ListN.{length}
@@ -14,10 +15,12 @@ use Rattle.lists.specs.Stores.{Kept}
 use Rattle.lists.specs.StoreLaws.{kept-none}
 use Rattle.numbers.specs.Little.{leAt}
 use Rattle.numbers.specs.Laws.{number-kept}
+use Rattle.fractions.specs.declared.Fraction.{Fraction}
 use Rattle.fractions.specs.Order.{Small}
 use Rattle.marks.specs.declared.Label.{Label}
 use Rattle.marks.specs.Marks.{larger, touchingOf}
 use Rattle.marks.specs.Pairs.{pairOf}
+use Rattle.marks.specs.PairLaws.{pair-positive}
 use Rattle.elimination.specs.declared.Record.{Record}
 use Rattle.elimination.specs.Marks.{Marks}
 use Rattle.elimination.specs.Process.{Removal, stays, put}
@@ -25,20 +28,25 @@ use Rattle.elimination.specs.Records.{recordSize, numOffset, denOffset, recordB
 use Rattle.elimination.specs.Settled.{SettledAt}
 use Rattle.elimination.specs.Laws.{visited, all-settled}
 use Rattle.elimination.specs.Theorems.{settled-process}
-use Rattle.searching.specs.Rows.{rowSize, rowXOffset, rowYOffset, rowRadiusOffset, rowPopupOffset, rowRecordOffset, rowNumber, rowLabel, rowValue, rowsPair, rowRecord, Stored, StoredAt}
+use Rattle.searching.specs.Rows.{rowSize, rowXOffset, rowYOffset, rowRadiusOffset, rowPopupOffset, rowRecordOffset, rowNumber, rowLabel, rowPopup, rowValue, rowsTouch, rowsPair, rowRecord, Stored, StoredAt}
 use Rattle.searching.specs.Scan.{Above, Scanned}
-use Rattle.searching.specs.Search.{SearchFor}
+use Rattle.searching.specs.Search.{SearchFor, Zeroed}
 use Rattle.scheduling.specs.Settling.{RowsSmall, SameFields, Scannable, Settles, Ordered, Processed}
 use Rattle.scheduling.proofs.Bytes.{record-back, put-kept, off-field, off-popup}
 
 -- ---- one row
 
--- the record that was put is read back; u is w but for bytes behind the rows
+-- the record that was put is read back
+pub record-is : (u : List ℕ) {v : List ℕ} (p : ℕ) (t : Record) → rowSize * p + rowSize ≤ length u → t .eliminator < 65536 → t .num < 2 ^ 64 → t .den < 4294967296
+    → v ≡ sets u (rowSize * p + rowRecordOffset) (recordBytes t) → rowRecord v p ≡ t
+record-is u p t room he hn hd e = rw e (record-back u (rowSize * p + rowRecordOffset) t (omega arith) he hn hd)
+
+-- u is w but for bytes behind the rows
 pub settles : {shape : ℕ} {w u v : List ℕ} {n p b : ℕ} {t : Record} → p < n → rowSize * n ≤ length w → t .num < 2 ^ 64 → t .den < 4294967296
     → Kept w u (rowSize * n) b → v ≡ sets u (rowSize * p + rowRecordOffset) (recordBytes t) → Scanned shape w p t → Settles shape n w v p
 settles {shape} {w} {u} {v} {n} {p} {b} {t} hp room hn hd ku e sc =
     let k : Kept u v (rowSize * p + rowRecordOffset) (rowSize * p + rowSize) = put-kept p t e in
-    let is : rowRecord v p ≡ t = rw e (record-back u (rowSize * p + rowRecordOffset) t (omega (arith, ku .long)) (sc .number) hn hd) in
+    let is = record-is u p t (omega (arith, ku .long)) (sc .number) hn hd e in
     record {
       long = k .long ∙ ku .long;
       kept = λ m a l o. number-kept k m a o ∙ number-kept ku m a (omega arith);
@@ -75,13 +83,14 @@ module _ {n : ℕ} {w v : List ℕ} (s : SameFields n w v) where
   pub radius-same : (q : ℕ) → q < n → rowLabel v q .radius ≡ rowLabel w q .radius
   radius-same q h = s .field q rowRadiusOffset h (omega arith)
 
-  touch-same : (shape q p : ℕ) → q < n → p < n → rowsPair shape v q p ≡ rowsPair shape w q p
+  pub touch-same : (shape q p : ℕ) → q < n → p < n → rowsPair shape v q p ≡ rowsPair shape w q p
   touch-same shape q p hq hp = ap₂ pairOf (ap₂ (touchingOf shape) (label-same q hq) (label-same p hp)) (ap₂ larger (s .popup q hq) (s .popup p hp))
 
   pub small-same : {popped : Bool} → RowsSmall popped w n → RowsSmall popped v n
   small-same g =
       record {
         radius = λ q h. rw (radius-same q h) (g .radius q h);
+        some = λ q h. rw (radius-same q h) (g .some q h);
         popup = λ q h. rw (s .popup q h) (g .popup q h);
         plain = λ e q h. rw (s .popup q h) (g .plain e q h);
       }
@@ -94,6 +103,7 @@ pub record Progress (shape n p : ℕ) (w v : List ℕ) : Type 0 where
   pub small : (q : ℕ) → q < p → Small (rowValue v q)
   pub settled : (M : Marks) (order : ℕ → ℕ) → Ordered shape M order w n
       → (s : ℕ → Removal) × ((q : ℕ) → q < p → StoredAt v q (s (order q))) × ((q : ℕ) → q < p → SettledAt M s (order q))
+  pub zeroed : ((q : ℕ) → q < n → 0 < rowLabel w q .radius) → Zeroed shape v p
 
 pub start : (shape n : ℕ) (w : List ℕ) → Progress shape n 0 w w
 start shape n w =
@@ -101,6 +111,7 @@ start shape n w =
       fields = same-kept (kept-none w (rowSize * n) 0);
       small = λ q h. absurd (omega arith);
       settled = λ M order o. ((λ _. stays), (λ q h. absurd (omega arith)), (λ q h. absurd (omega arith)));
+      zeroed = λ some. record { removed = λ q b l h. absurd (omega arith) };
     }
 
 pub ready : {popped : Bool} {shape n p : ℕ} {w v : List ℕ} → n ≤ 4096 → rowSize * n ≤ length w → RowsSmall popped w n → p < n → Progress shape n p w v → Scannable popped v n p
@@ -178,12 +189,39 @@ module _ {shape n p : ℕ} {w v u : List ℕ} (hp : p < n) (g : Progress shape n
               (omega arith),
         )
 
+  -- rows with a radius have pair values with a denominator
+  rows-positive : ((q : ℕ) → q < n → 0 < rowLabel w q .radius) → (q : ℕ) → q < p → 0 < rowsPair shape v q p .den
+  unfolding touchingOf
+  rows-positive some q h =
+      pair-positive (rowsTouch shape v q p) (larger (rowPopup v q) (rowPopup v p))
+      (labels-positive (rowLabel v q) (rowLabel v p) (rw (radius-same (g .fields) q (omega arith)) (some q (omega arith))))
+    where
+      labels-positive : (a b : Label) → 0 < a .radius → 0 < touchingOf shape a b .den
+      labels-positive a b z = let k : 1 ≤ a .radius + b .radius = omega arith in let m = mul-le-mul k k in omega (arith, m)
+
+  zeroed-on : ((q : ℕ) → q < n → 0 < rowLabel w q .radius) → Zeroed shape u (p + 1)
+  zeroed-on some =
+      record {
+        removed = λ q b l h e z.
+            let pair : rowsPair shape u q b ≡ rowsPair shape v q b = touch-same still shape q b (omega arith) (omega arith) in
+            let e′ : rowsPair shape v q b .num ≡ 0 = ap (λ (f : Fraction). f .num) (sym pair) ∙ e in
+            let z′ : 0 < rowValue v q .num = subst (λ (r : Record). 0 < r .num) (record-off q (omega arith)) z in
+            elim (ℕ-discrete b p) [
+              | yes i ↦ rw i (x .scanned .zero-there (rows-positive some) q (omega (arith, i)) (rw i at e′) z′)
+              | no i ↦ (let k : b < p = omega arith in ap (λ (r : Record). r .num) (record-off b k) ∙ g .zeroed some .removed q b l k e′ z′)
+            ];
+      }
+    where
+      still : SameFields n v u
+      still = same-more (same-kept (kept-none v (rowSize * n) 0)) x
+
   pub advance : Progress shape n (p + 1) w u
   advance =
       record {
         fields = same-more (g .fields) x;
         small = below-more _ _ (λ q h. subst (λ (t : Record). Small (fractionOf t)) (sym (record-off q h)) (g .small q h)) (x .scanned .small);
         settled = settled-on;
+        zeroed = zeroed-on;
       }
 
 pub finish : {shape n p : ℕ} {w v : List ℕ} → p ≡ n → Progress shape n p w v → Processed shape n w v

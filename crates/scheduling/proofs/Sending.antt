@@ -11,7 +11,7 @@ use lib.ListN.{length, take, take-append-drop}
 use lib.Seq.{sets, take-add}
 use Rattle.lists.specs.Stores.{Clear, Kept}
 use Rattle.lists.specs.StoreLaws.{kept-none, kept-wide, kept-then, kept-sets}
-use Rattle.fractions.specs.declared.Fraction.{Fraction}
+use Rattle.elimination.specs.declared.Record.{Record}
 use Rattle.elimination.specs.Process.{Removal, stays, gone, process}
 use Rattle.elimination.specs.Schedule.{record-length}
 use Rattle.elimination.specs.Records.{recordSize, recordBytes, removalRecord, records}
@@ -54,7 +54,7 @@ numbered-like s num =
     }
 
 send-stored : (w : List ℕ) (q : ℕ) (r : Removal) → StoredAt w q r → sendAt w q ≡ recordBytes (removalRecord r)
-send-stored w q stays e = rw (eq-eqb (rowRecord w q .den) 0 (ap (λ (f : Fraction). f .den) e))
+send-stored w q stays e = rw (eq-eqb (rowRecord w q .den) 0 (ap (λ (r : Record). r .den) e))
 send-stored w q (gone h f) (a, e, z) = rw (ne-eqb (rowRecord w q .den) 0 (λ d. omega arith), a, e)
 
 -- the slots one after the other are the records

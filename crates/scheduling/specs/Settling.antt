@@ -14,9 +14,10 @@ use Rattle.searching.specs.Scan.{Scanned}
 
 -- ---- one row
 
--- the fields of the n rows are such that no product of a comparison is too large, and where `popped` is false none has a popup
+-- the fields of the n rows are such that no product of a comparison is too large, no radius is 0, and where `popped` is false none has a popup
 pub record RowsSmall (popped : Bool) (w : List ℕ) (n : ℕ) : Type 0 where
   pub radius : (q : ℕ) → q < n → rowLabel w q .radius ≤ 16383
+  pub some : (q : ℕ) → q < n → 0 < rowLabel w q .radius
   pub popup : (q : ℕ) → q < n → rowPopup w q ≤ 65536
   pub plain : popped ≡ false → (q : ℕ) → q < n → rowPopup w q ≡ 0
 

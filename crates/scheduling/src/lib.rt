@@ -4,8 +4,9 @@
 // many, a grid of cells serves the search; it stands behind the rows, where the keys stood.
 use elimination::RECORD_SIZE;
 use elimination::Record;
-use grid::Cover;
-use grid::Plan;
+use fractions::Fraction;
+use grid::GROUP_SIZE;
+use marks::Label;
 use marks::MARK_SIZE;
 use marks::Y_OFFSET;
 use searching::POPUP_BYTES;
@@ -26,16 +27,19 @@ ghost use Rattle.marks.specs.Pairs.{popupSize, GoodPopups};
 ghost use Rattle.marks.specs.Good.{GoodMarks};
 ghost use Rattle.elimination.specs.Records.{recordSize};
 ghost use Rattle.elimination.specs.Reel.{scheduleOf};
-ghost use Rattle.grid.specs.Plan.{Divides};
+ghost use Rattle.fractions.specs.Order.{Small};
+ghost use Rattle.grid.specs.Table.{cellCount, tableSize, linkFrom, EntriesLow};
 ghost use Rattle.searching.specs.Rows.{rowSize, rowRecordOffset, rowNumber};
+ghost use Rattle.searching.specs.Search.{Zeroed};
 ghost use Rattle.searching.specs.Cells.{Gridded};
+ghost use Rattle.scheduling.specs.Planning.{Planned, Entered};
 ghost use Rattle.scheduling.specs.Settling.{RowsSmall, Scannable, Settles, Processed};
 ghost use Rattle.scheduling.specs.Sending.{sentRecord, sendAt, RowsNumbered, Spread, Published};
 ghost use Rattle.scheduling.specs.Filling.{workSize, Schedulable, rowBytes, Keyed, numberAt, RowsPut, Ranked};
 ghost use Rattle.scheduling.specs.Behind.{scheduleEnd, withSchedule};
 
 // From this many rows on a grid pays.
-const MANY: usize = 256;
+const MANY: usize = 160;
 
 // So many bytes a mark are before the keys.
 const KEYS: usize = 24;
@@ -63,23 +67,235 @@ fn settle_rows(w: &mut [u8], n: usize, shape: u8, popped: bool)
     }
 }
 
-// The same as `settle` by cells; then row p goes into its cell.
-fn settle_in_grid(w: &mut [u8], n: usize, p: usize, plan: Plan, shape: u8, popped: bool)
-    requires { ⌜ Scannable popped (now w) n p × Gridded (now w) (rowSize * n) p × (workSize n ≤ length (now w)) × (256 ≤ n) × Divides plan ⌝ }
-    ensures { λ _. ⌜ Settles shape n (now (w .entry)) (now (w .exit)) p × Gridded (now (w .exit)) (rowSize * n) (p + 1) ⌝ }
+// ---- the choice of a cell, on which nothing but speed rests
+
+// What the rows fill: the least and the greatest shifted places, the least ones as their distance from 65,535, and the sum of the radii.
+struct Cover {
+    west: u16,
+    east: u16,
+    south: u16,
+    north: u16,
+    radii: u64,
+}
+
+fn larger(a: u16, b: u16) -> u16 {
+    if a < b { b } else { a }
+}
+
+// The same with one label more.
+fn extended(e: Cover, label: Label) -> Cover
+    requires { ⌜ e .radii ≤ 4294967296 ⌝ }
+    ensures { λ f. ⌜ f .radii ≡ e .radii + label .radius ⌝ }
 {
-    let at = ROW_SIZE * n;
-    let label = searching::row_label(w, p);
-    let c = grid::cell_of(plan, label);
-    let found = searching::best_in_grid(w, at, p, c, shape, label, popped);
-    grid::add(w, at, p, c, label);
-    elimination::put_record(w, ROW_SIZE * p + ROW_RECORD, found);
+    let u = marks::shifted(label.x);
+    let v = marks::shifted(label.y);
+    let radii = e.radii + label.radius as u64;
+    Cover {
+        west: larger(e.west, 65535 - u),
+        east: larger(e.east, u),
+        south: larger(e.south, 65535 - v),
+        north: larger(e.north, v),
+        radii: radii,
+    }
+}
+
+// Where the cells lie: the least corner; the size of a cell; how many groups there are, and how many of them stand in a column; whether cells stand
+// in one strip instead; and the radius above which a mark is large. The last group is for large marks.
+struct Plan {
+    x: u16,
+    y: u16,
+    width: u32,
+    height: u32,
+    groups: usize,
+    rows: u8,
+    strip: bool,
+    large: u64,
+}
+
+// So many groups of cells for n rows, for which there is room behind the rows and their links.
+fn groups_for(n: usize) -> usize
+    requires { ⌜ (100 ≤ n) × (n ≤ 4096) ⌝ }
+    ensures { λ g. ⌜ (2 ≤ g) × (g ≤ 9) × (tableSize g ≤ 5 * n + 1024) ⌝ }
+{
+    if n < 400 {
+        return 3;
+    }
+    if n < 768 {
+        return 5;
+    }
+    9
+}
+
+// The length of a range, which its ends give as a cover has them.
+fn length_of(low: u16, high: u16) -> u32
+    ensures { λ r. ⌜ r ≤ 65536 ⌝ }
+{
+    let sum = low as u32 + high as u32;
+    if sum < 65535 {
+        return 1;
+    }
+    sum - 65534
+}
+
+// How many of so many groups of 4 by 4 cells, 2, 4 or 8, stand side by side, so that cells are about square.
+fn columns_for(across: u32, down: u32, small: u32) -> u8
+    requires { ⌜ (across ≤ 65536) × (down ≤ 65536) × (small ≤ 8) ⌝ }
+    ensures { λ r. ⌜ (0 < r) × (r ≤ 8) ⌝ }
+{
+    if 8 <= small {
+        if 4 * down <= across {
+            return 8;
+        }
+        return if down <= across {
+            4
+        } else if down <= 4 * across {
+            2
+        } else {
+            1
+        };
+    }
+    if 4 <= small {
+        return if 2 * down <= across {
+            4
+        } else if down <= 2 * across {
+            2
+        } else {
+            1
+        };
+    }
+    if down <= across { 2 } else { 1 }
+}
+
+// How many of so many groups then stand in a column.
+fn rows_for(small: u32, columns: u8) -> u8
+    requires { ⌜ (small ≤ 8) × (0 < columns) ⌝ }
+    ensures { λ r. ⌜ (0 < r) × (r ≤ 8) ⌝ }
+{
+    let rows = small / columns as u32;
+    if rows == 0 {
+        return 1;
+    }
+    rows as u8
+}
+
+// A cell of this many in a range of this length.
+fn cell_size(length: u32, cells: u32) -> u32
+    requires { ⌜ (length ≤ 65536) × (0 < cells) ⌝ }
+    ensures { λ r. ⌜ 0 < r ⌝ }
+{
+    length / cells + 1
+}
+
+// The cells over what n rows fill. Where that is narrow, they stand in one strip. A mark is large from three times the average radius on.
+fn plan_of(e: Cover, n: usize) -> Plan
+    requires { ⌜ (e .radii ≤ 4294967296) × (160 ≤ n) × (n ≤ 4096) ⌝ }
+    ensures { λ r. ⌜ Planned r n ⌝ }
+{
+    let across = length_of(e.west, e.east);
+    let down = length_of(e.south, e.north);
+    let groups = groups_for(n);
+    let small = groups as u32 - 1;
+    let large = 3 * e.radii / (n as u64 + 1);
+    let x = 65535 - e.west;
+    let y = 65535 - e.south;
+    if 32 * down <= across {
+        let width = cell_size(across, 16 * small);
+        return Plan {
+            x: x,
+            y: y,
+            width: width,
+            height: 65536,
+            groups: groups,
+            rows: 1,
+            strip: true,
+            large: large,
+        };
+    }
+    if 32 * across <= down {
+        let height = cell_size(down, 16 * small);
+        return Plan {
+            x: x,
+            y: y,
+            width: 65536,
+            height: height,
+            groups: groups,
+            rows: 1,
+            strip: true,
+            large: large,
+        };
+    }
+    let columns = columns_for(across, down, small);
+    let rows = rows_for(small, columns);
+    let width = cell_size(across, 4 * columns as u32);
+    let height = cell_size(down, 4 * rows as u32);
+    Plan {
+        x: x,
+        y: y,
+        width: width,
+        height: height,
+        groups: groups,
+        rows: rows,
+        strip: false,
+        large: large,
+    }
+}
+
+// How many whole cells of this size lie between `low` and a.
+fn cells_between(low: u16, a: u16, size: u32) -> usize
+    requires { ⌜ 0 < size ⌝ }
+    ensures { λ r. ⌜ r ≤ 65535 ⌝ }
+{
+    if a < low {
+        return 0;
+    }
+    ((a - low) as u32 / size) as usize
+}
+
+// The cell of a column and a row of cells, in groups of 4 by 4, of which so many stand in a column.
+fn in_groups(column: usize, row: usize, rows: u8) -> usize
+    requires { ⌜ (column ≤ 65535) × (row ≤ 65535) ⌝ }
+    ensures { λ r. ⌜ r ≤ 134217728 ⌝ }
+{
+    let group = column / 4 * rows as usize + row / 4;
+    16 * group + 4 * (column % 4) + row % 4
+}
+
+// One of so many cells. No place that was planned for lies beyond the last.
+fn among(c: usize, cells: usize) -> usize
+    requires { ⌜ 0 < cells ⌝ }
+    ensures { λ r. ⌜ r < cells ⌝ }
+{
+    if c < cells {
+        return c;
+    }
+    cells - 1
+}
+
+// The cell of a label, or for a large radius one of the last group.
+fn cell_of(plan: Plan, n: usize, label: Label) -> usize
+    requires { ⌜ Planned plan n ⌝ }
+    ensures { λ c. ⌜ c < cellCount (plan .groups) ⌝ }
+{
+    let large = plan.large;
+    let groups = plan.groups;
+    let small = groups - 1;
+    let column = cells_between(plan.x, marks::shifted(label.x), plan.width);
+    let row = cells_between(plan.y, marks::shifted(label.y), plan.height);
+    let cell = if plan.strip {
+        column + row
+    } else {
+        in_groups(column, row, plan.rows)
+    };
+    if large < label.radius as u64 {
+        return among(GROUP_SIZE * small + cell / small, GROUP_SIZE * groups);
+    }
+    among(cell, GROUP_SIZE * small)
 }
 
 // The cells over the places of the rows.
 fn plan_grid(w: &[u8], n: usize) -> Plan
-    requires { ⌜ (n ≤ 4096) × (rowSize * n ≤ length (now w)) ⌝ }
-    ensures { λ r. ⌜ Divides r ⌝ }
+    requires { ⌜ (160 ≤ n) × (n ≤ 4096) × (rowSize * n ≤ length (now w)) ⌝ }
+    ensures { λ r. ⌜ Planned r n ⌝ }
 {
     let mut e = Cover {
         west: 0,
@@ -90,18 +306,46 @@ fn plan_grid(w: &[u8], n: usize) -> Plan
     };
     let mut q = 0;
     while q < n {
-        e = grid::extended(e, searching::row_label(w, q));
+        e = extended(e, searching::row_label(w, q));
         q += 1;
     }
-    grid::plan_of(e, n)
+    plan_of(e, n)
+}
+
+// ---- the removals of all rows by cells
+
+// Row p goes into its cell c, unless it is removed at 0: then it removes nobody, and no search needs to meet it.
+fn enter(w: &mut [u8], at: usize, groups: usize, p: usize, c: usize, label: Label, value: Fraction)
+    requires { ⌜ (p < 4096) × (c < cellCount groups) × (linkFrom at groups p + 2 ≤ length (now w)) × Small value × EntriesLow (now w) at groups p ⌝ }
+    ensures { λ _. ⌜ Entered (now (w .entry)) (now (w .exit)) at groups p c label value ⌝ }
+{
+    if value.num == 0 {
+        grid::put_link(w, at, groups, p, 0);
+    } else {
+        grid::add(w, at, groups, p, c, label, value);
+    }
+}
+
+// The same as `settle` by cells; then row p goes into its cell.
+fn settle_in_grid(w: &mut [u8], n: usize, p: usize, plan: Plan, shape: u8, popped: bool)
+    requires { ⌜ Scannable popped (now w) n p × Planned plan n × Gridded (now w) (rowSize * n) (plan .groups) p × (workSize n ≤ length (now w)) × Zeroed shape (now w) p ⌝ }
+    ensures { λ _. ⌜ Settles shape n (now (w .entry)) (now (w .exit)) p × Gridded (now (w .exit)) (rowSize * n) (plan .groups) (p + 1) ⌝ }
+{
+    let at = ROW_SIZE * n;
+    let groups = plan.groups;
+    let label = searching::row_label(w, p);
+    let c = cell_of(plan, n, label);
+    let found = searching::best_in_grid(w, at, groups, p, c, shape, label, popped);
+    enter(w, at, groups, p, c, label, elimination::fraction_of(found));
+    elimination::put_record(w, ROW_SIZE * p + ROW_RECORD, found);
 }
 
 fn settle_by_cells(w: &mut [u8], n: usize, shape: u8, popped: bool)
-    requires { ⌜ (256 ≤ n) × (n ≤ 4096) × (workSize n ≤ length (now w)) × RowsSmall popped (now w) n ⌝ }
+    requires { ⌜ (160 ≤ n) × (n ≤ 4096) × (workSize n ≤ length (now w)) × RowsSmall popped (now w) n ⌝ }
     ensures { λ _. ⌜ Processed shape n (now (w .entry)) (now (w .exit)) ⌝ }
 {
     let plan = plan_grid(w, n);
-    grid::clear(w, ROW_SIZE * n);
+    grid::clear(w, ROW_SIZE * n, plan.groups);
     let mut p = 0;
     while p < n {
         settle_in_grid(w, n, p, plan, shape, popped);
@@ -220,7 +464,7 @@ fn put_ranked(marks: &[u8], edition: u8, popups: &[u8], work: &mut [u8], n: usiz
     ensures { λ _. ⌜ Ranked edition (now (marks .entry)) (now (popups .entry)) n (now (work .entry)) (now (work .exit)) ⌝ }
 {
     put_keys(marks, edition, work, n);
-    sorting::sort(work, KEYS * n, 0, n);
+    radix::sort(work, KEYS * n, 0, n);
     put_rows(marks, popups, work, n);
 }
 

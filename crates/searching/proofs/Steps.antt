@@ -1,10 +1,11 @@
 -- The steps of a search in any order: a row is passed over, or takes the place of the best one. Assumes nothing.
-use Prim.Native.Nat.{ℕ, _+_, _<_, _≤_}
+use Prim.Native.Nat.{ℕ, _+_, _*_, _<_, _≤_}
 use mathlib.Core.Path.{_≡_, refl, sym, ap, _∙_, subst}
 use mathlib.Core.Bool.{Bool, true, false, cond, true≢false, false≢true}
 use mathlib.Core.List.{List}
 use mathlib.Core.Logic.{_⊎_, inl, inr}
 use native.Mathlib.Omega.{arith}
+use native.Mathlib.Nat.{mul-le-mul}
 use native.Mathlib.Decide.{ℕ-discrete}
 use borrow.Author.Tests.{ltb-true, ltb-false}
 use lib.Dec.{ltb}
@@ -17,14 +18,15 @@ use Rattle.elimination.specs.Process.{Removal, stays, gone, when}
 use Rattle.elimination.specs.RankOrder.{Stands, Found}
 use Rattle.elimination.specs.Records.{fractionOf}
 use Rattle.searching.specs.declared.Leader.{Leader}
-use Rattle.searching.specs.Rows.{rowNumber, rowRecord, rowValue, rowsPair, never, Stored}
+use Rattle.searching.specs.Rows.{rowNumber, rowRecord, rowValue, rowsPair, never, rowNever, Stored}
 use Rattle.searching.specs.Scan.{Above, Scanned}
-use Rattle.searching.specs.Search.{leaderValue, none, Admitted, precedes, StandsAt, Positive, Before, Real, Adds, Only, Higher}
+use Rattle.searching.proofs.Zero.{zero-factor}
+use Rattle.searching.specs.Search.{leaderValue, none, Admitted, precedes, StandsAt, Positive, Before, Leads, Real, Adds, Only, Higher}
 
 -- ---- the tests, on a stored value
 
 later-less : (r : Removal) (t : Record) {g : Fraction} → 0 < g .den → Stored r t → Later (when r) g → Less g (fractionOf t)
-later-less stays t d e l = rw e (omega arith)
+later-less stays t d e l = let f : fractionOf t ≡ never = ap fractionOf e in rw f (omega arith)
 later-less (gone h k) t d (a, e, z) l = rw e at l
 
 less-later : (r : Removal) (t : Record) {g : Fraction} → Stored r t → Less g (fractionOf t) → Later (when r) g
@@ -34,7 +36,7 @@ less-later (gone h k) t (a, e, z) l = rw e l
 pub not-less : {f g : Fraction} → less f g ≡ false → Less f g → ⊥
 not-less {f} {g} e l = true≢false (sym (less-iff f g .1 l) ∙ e)
 
-at-most : {f g : Fraction} → less f g ≡ false → AtMost g f
+pub at-most : {f g : Fraction} → less f g ≡ false → AtMost g f
 at-most {f} {g} e = elim (order g f) [ inl a ↦ a | inr l ↦ absurd (not-less e l) ]
 
 precedes-yes : (f : Fraction) (j : ℕ) (g : Fraction) (k : ℕ) → precedes f g (ltb j k) ≡ true → Less f g ⊎ (AtMost f g × AtMost g f × (j < k))
@@ -143,21 +145,22 @@ module _ {shape : ℕ} {w : List ℕ} {p q : ℕ} {c : Leader} {v : Fraction} (b
 
 -- ---- all rows were taken in
 
-module _ {shape : ℕ} {w : List ℕ} {p : ℕ} (c : Leader) (t : Record) (t-is : fractionOf t ≡ leaderValue c) (who : t .eliminator ≡ rowNumber w (c .row))
-    (M : Marks) (order : ℕ → ℕ) (s : ℕ → Removal) (ok : Proper M) (rows : Above shape M order s w p) (bef : (q : ℕ) → q < p → Before shape w p c q) where
+module _ {shape : ℕ} {w : List ℕ} {p : ℕ} (c : Leader) (M : Marks) (order : ℕ → ℕ) (s : ℕ → Removal) (ok : Proper M) (rows : Above shape M order s w p)
+    (bef : (q : ℕ) → q < p → Before shape w p c q) where
   stood : (q : ℕ) → q < p → Stands M order s (order p) q → StandsAt shape w p q
   stood q h y = rw (rows .value q h) (later-less (s (order q)) (rowRecord w q) (ok .positive _ _) (rows .removal q h) y)
 
-  done : Real shape w p c → (r : Removal) × Stored r t × Found M order s (order p) p r
-  done (inl e) = (
-    stays,
-    t-is ∙ e,
-    λ q h y.
-        let z : 0 < rowsPair shape w q p .den = rw (rows .value q h) (ok .positive _ _) in
-        let u : AtMost never (rowsPair shape w q p) = rw e at (bef q h .atMost (stood q h y)) in
-        omega arith,
-  )
-  done (inr x) =
+  -- nobody was found
+  nobody : leaderValue c ≡ never → Found M order s (order p) p stays
+  nobody e q h y =
+      let z : 0 < rowsPair shape w q p .den = rw (rows .value q h) (ok .positive _ _) in
+      let u : AtMost never (rowsPair shape w q p) = rw e at (bef q h .atMost (stood q h y)) in
+      omega arith
+
+  -- a row was found
+  somebody : (t : Record) → fractionOf t ≡ leaderValue c → t .eliminator ≡ rowNumber w (c .row) → Leads shape w p c
+      → (r : Removal) × Stored r t × Found M order s (order p) p r
+  somebody t t-is who x =
       let a : ℕ = c .row in
       let v = rows .value a (x .below) in
       let f : leaderValue c ≡ M .value (order a) (order p) = x .exact ∙ v in (
@@ -176,14 +179,56 @@ module _ {shape : ℕ} {w : List ℕ} {p : ℕ} (c : Leader) (t : Record) (t-is 
         ),
       )
 
-pub searched : {shape : ℕ} {w : List ℕ} {p : ℕ} {c : Leader} (t : Record) → fractionOf t ≡ leaderValue c → t .eliminator ≡ rowNumber w (c .row)
-    → t .eliminator < 65536 → Admitted p c → Adds shape w p (Higher p) none c → Scanned shape w p t
-searched {shape} {w} {p} {c} t t-is who small ad x =
+-- a leader that leads has a denominator
+lead-positive : {shape : ℕ} {w : List ℕ} {p : ℕ} {c : Leader} → Positive shape w p → Leads shape w p c → 0 < c .den
+lead-positive {shape} {w} {p} {c} pos x =
+    let g : c .den ≡ rowsPair shape w (c .row) p .den = ap (λ (f : Fraction). f .den) (x .exact) in rw g (pos (c .row) (x .below))
+
+-- where a row that stands touches at 0, the value found is 0
+zero-found : {shape : ℕ} {w : List ℕ} {p : ℕ} {c : Leader} → Adds shape w p (Higher p) none c → Positive shape w p → (q : ℕ) → q < p
+    → rowsPair shape w q p .num ≡ 0 → 0 < rowValue w q .num → c .num ≡ 0
+zero-found {shape} {w} {p} {c} x pos q h e v =
+    let (re, _, bef) = x .step pos (inl refl) in
+    let m : 1 * 1 ≤ rowValue w q .num * rowsPair shape w q p .den = mul-le-mul v (pos q h) in
+    let z : rowsPair shape w q p .num * rowValue w q .den ≡ 0 * rowValue w q .den = ap (λ n. n * rowValue w q .den) e in
+    let a = bef q h h .atMost (record { cross = omega (arith, z, m) }) in
+    let u : c .num * rowsPair shape w q p .den ≤ 0 * c .den = rw e at (a .cross) in
+    zero-factor (c .num) (rowsPair shape w q p .den) (pos q h) (omega (arith, u))
+
+pub searched-nobody : {shape : ℕ} {w : List ℕ} {p : ℕ} {c : Leader} → c .den ≡ 0 → Adds shape w p (Higher p) none c → Scanned shape w p rowNever
+searched-nobody {shape} {w} {p} {c} zero-den x =
     record {
-      small = rw t-is (ad .small);
-      number = small;
+      small = record { num-small = omega arith; den-small = omega arith };
+      some = omega arith;
+      number = omega arith;
+      zero-there = λ pos q h e v.
+          let z = zero-found x pos q h e v in
+          elim (x .step pos (inl refl) .0) [
+            | inl u ↦ absurd (let o : c .num ≡ 1 = ap (λ (f : Fraction). f .num) u in omega (arith, z, o))
+            | inr y ↦ absurd (omega (arith, zero-den, lead-positive pos y))
+          ];
       found = λ M order s ok rows.
           let pos : Positive shape w p = λ q h. rw (rows .value q h) (ok .positive _ _) in
           let (re, _, bef) = x .step pos (inl refl) in
-          done c t t-is who M order s ok rows (λ q h. bef q h h) re;
+          elim re [
+            | inl e ↦ (stays, refl, nobody c M order s ok rows (λ q h. bef q h h) e)
+            | inr y ↦ absurd (omega (arith, zero-den, lead-positive pos y))
+          ];
+    }
+
+pub searched : {shape : ℕ} {w : List ℕ} {p : ℕ} {c : Leader} (t : Record) → fractionOf t ≡ leaderValue c → t .eliminator ≡ rowNumber w (c .row)
+    → t .eliminator < 65536 → Admitted p c → 0 < c .den → Adds shape w p (Higher p) none c → Scanned shape w p t
+searched {shape} {w} {p} {c} t t-is who small ad some x =
+    record {
+      small = rw t-is (ad .small);
+      some = (let d : t .den ≡ c .den = ap (λ (f : Fraction). f .den) t-is in omega arith);
+      number = small;
+      zero-there = λ pos q h e v. ap (λ (f : Fraction). f .num) t-is ∙ zero-found x pos q h e v;
+      found = λ M order s ok rows.
+          let pos : Positive shape w p = λ q h. rw (rows .value q h) (ok .positive _ _) in
+          let (re, _, bef) = x .step pos (inl refl) in
+          elim re [
+            | inl e ↦ absurd (let z : c .den ≡ 0 = ap (λ (f : Fraction). f .den) e in omega arith)
+            | inr y ↦ somebody c M order s ok rows (λ q h. bef q h h) t t-is who y
+          ];
     }

@@ -1,23 +1,40 @@
--- The rows above p in the cells of the grid at `at`, and what the search of a cell adds.
-use Prim.Native.Nat.{ℕ, suc, _+_, _<_, _≤_}
+-- The rows above p in the cells of the grid at `at`, and what the search of cells and of groups of cells adds.
+use Prim.Native.Nat.{ℕ, suc, _+_, _-_, _/_, _%_, _<_, _≤_}
 use mathlib.Core.Path.{_≡_}
+use mathlib.Core.Bool.{Bool, false, cond}
 use mathlib.Core.List.{List}
-use mathlib.Core.Logic.{_≢_, _⊎_}
-use Rattle.grid.specs.Table.{cellCount, EntriesLow, Chained, Inside}
+use lib.Dec.{leb}
+use Rattle.fractions.specs.Order.{less}
+use Rattle.marks.specs.declared.Label.{Label}
+use Rattle.grid.specs.declared.Region.{Region}
+use Rattle.grid.specs.Table.{cellCount, groupRegion, regionAt, EntriesLow, Chained}
+use Rattle.grid.specs.Boxes.{Holds, boundOf}
 use Rattle.searching.specs.declared.Leader.{Leader}
-use Rattle.searching.specs.Rows.{rowLabel}
-use Rattle.searching.specs.Search.{Adds}
+use Rattle.searching.specs.Rows.{rowLabel, rowValue}
+use Rattle.searching.specs.Search.{leaderValue, Adds}
 
--- row q is in the cell `cell q`, and in that cell's box
-pub record InGrid (w : List ℕ) (at p : ℕ) (cell : ℕ → ℕ) : Type 0 where
-  pub chained : Chained w at p cell
-  pub inside : (q : ℕ) → q < p → Inside w at (cell q) (rowLabel w q)
+-- row q may be in this region
+abbrev pub HoldsRow : Region → List ℕ → ℕ → Type 0
+HoldsRow r w q = Holds r (rowLabel w q) (rowValue w q)
 
--- each row is in some cell
-pub record Gridded (w : List ℕ) (at p : ℕ) : Type 0 where
-  pub ready : EntriesLow w at p
+-- Row q is in the cell `cell q` and in its group, or else, where that is no cell, it is removed at 0: such a row removes nobody.
+pub record InGrid (w : List ℕ) (at groups p : ℕ) (cell : ℕ → ℕ) : Type 0 where
+  pub chained : Chained w at groups p cell
+  pub own : (q : ℕ) → q < p → cell q < cellCount groups → HoldsRow (regionAt w at (cell q)) w q
+  pub group : (q : ℕ) → q < p → cell q < cellCount groups → HoldsRow (regionAt w at (groupRegion groups (cell q))) w q
+  pub left-out : (q : ℕ) → q < p → cellCount groups ≤ cell q → rowValue w q .num ≡ 0
+
+-- each row is in some cell, or in none
+pub record Gridded (w : List ℕ) (at groups p : ℕ) : Type 0 where
+  pub ready : EntriesLow w at groups p
   pub cell : ℕ → ℕ
-  pub in-grid : InGrid w at p cell
+  pub in-grid : InGrid w at groups p cell
+
+-- ---- regions that are left out
+
+-- A region may hold a row that goes before the leader: something in it may touch as soon, and may live until then.
+unfoldable pub mayLead : ℕ → Region → Label → Leader → Bool
+mayLead shape r a c = cond (less (leaderValue c) (boundOf shape r a)) false (less (boundOf shape r a) (r .latest))
 
 -- ---- a chain, from row h - 1 down
 
@@ -26,33 +43,36 @@ abbrev pub Tail : (ℕ → ℕ) → ℕ → ℕ → ℕ → Type 0
 Tail cell c h q = (cell q ≡ c) × (h ≤ q)
 
 -- `best` goes before the rows of cell c from h on, and row h - 1 is the next one
-pub record Walked (shape : ℕ) (w : List ℕ) (at p c h : ℕ) (from best : Leader) : Type 0 where
-  pub next : (cell : ℕ → ℕ) → InGrid w at p cell → (i : ℕ) → h ≡ suc i → cell i ≡ c
-  pub adds : (cell : ℕ → ℕ) → InGrid w at p cell → Adds shape w p (Tail cell c h) from best
+pub record Walked (shape : ℕ) (w : List ℕ) (at groups p c h : ℕ) (from best : Leader) : Type 0 where
+  pub next : (cell : ℕ → ℕ) → InGrid w at groups p cell → (i : ℕ) → h ≡ suc i → cell i ≡ c
+  pub adds : (cell : ℕ → ℕ) → InGrid w at groups p cell → Adds shape w p (Tail cell c h) from best
 
 -- ---- cells
 
 -- from c to d: d goes before the rows of the cells T as well
-pub record CellAdded (shape : ℕ) (w : List ℕ) (at p : ℕ) (T : ℕ → Type 0) (c d : Leader) : Type 0 where
-  pub adds : (cell : ℕ → ℕ) → InGrid w at p cell → Adds shape w p (λ q. T (cell q)) c d
+pub record CellAdded (shape : ℕ) (w : List ℕ) (at groups p : ℕ) (T : ℕ → Type 0) (c d : Leader) : Type 0 where
+  pub adds : (cell : ℕ → ℕ) → InGrid w at groups p cell → Adds shape w p (λ q. T (cell q)) c d
 
 abbrev pub Own : ℕ → ℕ → Type 0
 Own c d = d ≡ c
 
-abbrev pub Other : ℕ → ℕ → ℕ → Type 0
-Other skip c d = (d ≡ c) × (d ≢ skip)
+-- the cells of group g
+abbrev pub InGroup : ℕ → ℕ → Type 0
+InGroup g d = d / 16 ≡ g
 
--- the cells from lo to below hi but for `skip`
-abbrev pub Range : ℕ → ℕ → ℕ → ℕ → Type 0
-Range lo hi skip d = (lo ≤ d) × (d < hi) × (d ≢ skip)
+-- ---- cells and groups in turn
 
--- ---- the two passes: the cell `own`, and then all others
+-- the i-th of the numbers below `size`, which are counted down from `start`, and then from the greatest
+abbrev pub countedDown : ℕ → ℕ → ℕ → ℕ
+countedDown size start i = cond (leb i start) (start - i) (size + start - i)
 
--- the cells that are taken in before a pass
-abbrev pub Passed : ℕ → ℕ → ℕ → Type 0
-Passed own pass d = ((0 < pass) × (d ≡ own)) ⊎ ((1 < pass) × (d < cellCount))
+-- one of the first i of them
+abbrev pub InTurn : ℕ → ℕ → ℕ → ℕ → Type 0
+InTurn size start i d = (j : ℕ) × (j < i) × (countedDown size start j ≡ d)
 
--- the cells that a pass takes in are these
-abbrev pub Passing : ℕ → ℕ → ℕ → ℕ → ℕ → Type 0
-Passing own pass lo hi skip =
-    ((pass ≡ 0) × (lo ≡ own) × (hi ≡ own + 1) × (skip ≡ cellCount)) ⊎ ((0 < pass) × (lo ≡ 0) × (hi ≡ cellCount) × (skip ≡ own))
+-- the first i cells of group g, and the cells of the first i groups
+abbrev pub FirstCells : ℕ → ℕ → ℕ → ℕ → Type 0
+FirstCells g start i d = (d / 16 ≡ g) × InTurn 16 start i (d % 16)
+
+abbrev pub FirstGroups : ℕ → ℕ → ℕ → ℕ → Type 0
+FirstGroups groups start i d = InTurn groups start i (d / 16)

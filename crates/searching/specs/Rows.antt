@@ -67,9 +67,13 @@ rowsPair shape w q p = pairOf (rowsTouch shape w q p) (larger (rowPopup w q) (ro
 abbrev pub never : Fraction
 never = record { num = 1; den = 0 }
 
+-- the record of such a mark among the rows
+abbrev pub rowNever : Record
+rowNever = record { num = 1; den = 0; eliminator = 65535 }
+
 -- the record that stands for a removal
 abbrev pub Stored : Removal → Record → Type 0
-Stored stays t = fractionOf t ≡ never
+Stored stays t = t ≡ rowNever
 Stored (gone h g) t = (h ≡ t .eliminator) × (g ≡ fractionOf t) × (0 < t .den)
 
 abbrev pub StoredAt : List ℕ → ℕ → Removal → Type 0

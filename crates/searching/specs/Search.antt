@@ -25,6 +25,11 @@ pub record SearchFor (popped : Bool) (w : List ℕ) (p : ℕ) (a : Label) : Type
   pub above : (q : ℕ) → q < p → Complete w q
   pub plain : popped ≡ false → (q : ℕ) → q ≤ p → rowPopup w q ≡ 0
 
+-- Of two rows above p that touch at 0, the lower-ranked one is removed at 0, unless the higher-ranked one is itself: so of the rows at one place only
+-- one can remove another.
+pub record Zeroed (shape : ℕ) (w : List ℕ) (p : ℕ) : Type 0 where
+  pub removed : (q b : ℕ) → q < b → b < p → rowsPair shape w q b .num ≡ 0 → 0 < rowValue w q .num → rowValue w b .num ≡ 0
+
 -- ---- the best row so far
 
 abbrev pub leaderValue : Leader → Fraction

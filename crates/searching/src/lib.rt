@@ -3,6 +3,8 @@
 // rows are searched in any order: all of them, or cell by cell of a grid, which leaves out those that are too far to matter.
 use elimination::Record;
 use fractions::Fraction;
+use grid::GROUP_SIZE;
+use grid::Region;
 use marks::Label;
 ghost use mathlib.Core.Path.{_≡_};
 ghost use Prim.Native.Nat.{_+_, _-_, _*_, _<_, _≤_};
@@ -13,11 +15,14 @@ ghost use Rattle.marks.specs.Marks.{touchingOf};
 ghost use Rattle.grid.specs.Table.{cellCount, EntriesLow};
 ghost use Rattle.searching.specs.Rows.{rowSize, rowLabel, rowPopup, rowRecord, rowValue};
 ghost use Rattle.searching.specs.Scan.{Scanned};
-ghost use Rattle.searching.specs.Search.{leaderValue, none, precedes, Comparable, Admitted, SearchFor, Adds, AddsBy, FoundBy, Only, Higher, OneOf};
-ghost use Rattle.searching.specs.Cells.{Gridded, CellAdded, Own, Other, Range};
+ghost use Rattle.searching.specs.Search.{leaderValue, none, precedes, Comparable, Admitted, SearchFor, Zeroed, Adds, AddsBy, FoundBy, Only, Higher, OneOf};
+ghost use Rattle.searching.specs.Cells.{Gridded, CellAdded, Own, InGroup, mayLead, countedDown};
 
 // Among so few rows a scan of all is as fast as a search by cells.
-const FEW: usize = 192;
+const FEW: usize = 32;
+
+// What a record has for an eliminator where nobody removes the mark.
+const NOBODY: u32 = 65535;
 
 // The bytes of a row, and where the fields behind its number begin.
 pub const ROW_SIZE: usize = 25;
@@ -117,15 +122,15 @@ fn better_pair(w: &[u8], q: usize, p: usize, v: Fraction, best: Leader, tie: boo
     requires { ⌜ Comparable (now w) p q v × (q < p) × Admitted p best × (tie ≡ ltb q (best .row)) ⌝ }
     ensures { λ t. ⌜ Admitted p t × AddsBy (now (w .entry)) p q v best t × OneOf q best t ⌝ }
 {
-    if precedes(v, leader_value(best), tie) {
-        if fractions::less_small(v, row_value(w, q)) {
-            let taken = q as u32;
-            return Leader {
-                num: v.num,
-                den: v.den,
-                row: taken,
-            };
-        }
+    let sooner = precedes(v, leader_value(best), tie);
+    let stands = fractions::less_small(v, row_value(w, q));
+    if sooner & stands {
+        let taken = q as u32;
+        return Leader {
+            num: v.num,
+            den: v.den,
+            row: taken,
+        };
     }
     best
 }
@@ -182,6 +187,7 @@ fn scan_rows(w: &[u8], p: usize, shape: u8, label: Label, popped: bool) -> Leade
 fn scan_cell(
     w: &[u8],
     at: usize,
+    groups: usize,
     p: usize,
     c: usize,
     shape: u8,
@@ -189,8 +195,8 @@ fn scan_cell(
     from: Leader,
     popped: bool,
 ) -> Leader
-    requires { ⌜ SearchFor popped (now w) p label × EntriesLow (now w) at p × (c < cellCount) × Admitted p from ⌝ }
-    ensures { λ t. ⌜ Admitted p t × CellAdded shape (now (w .entry)) at p (Own c) from t ⌝ }
+    requires { ⌜ SearchFor popped (now w) p label × EntriesLow (now w) at groups p × (c < cellCount groups) × Admitted p from ⌝ }
+    ensures { λ t. ⌜ Admitted p t × CellAdded shape (now (w .entry)) at groups p (Own c) from t ⌝ }
 {
     let mut best = from;
     let mut h = grid::last_row(w, at, c);
@@ -198,127 +204,179 @@ fn scan_cell(
         let q = h - 1;
         let row = best.row as usize;
         best = better(w, q, p, shape, label, best, q < row, popped);
-        h = grid::previous_row(w, at, q);
+        h = grid::previous_row(w, at, groups, q);
     }
     best
 }
 
-// The same, but the cell `skip`, an empty cell and one too far to hold a better row are left out.
-fn scan_other(
+// May a region hold a row that goes before the best so far? Not where nothing in it touches as soon, nor where all in it are gone when they would
+// touch.
+fn may_lead(r: Region, shape: u8, label: Label, best: Leader) -> bool
+    requires { ⌜ Small (leaderValue best) × (r .radius ≤ 16383) × Small (r .latest) × (label .radius ≤ 16383) ⌝ }
+    ensures { λ b. ⌜ b ≡ mayLead shape r label best ⌝ }
+{
+    let bound = grid::bound(r, shape, label);
+    if fractions::less_small(leader_value(best), bound) {
+        return false;
+    }
+    let latest = r.latest;
+    fractions::less_small(bound, latest)
+}
+
+// The same as `scan_cell`, but a cell that holds no better row is left out.
+fn scan_near(
     w: &[u8],
     at: usize,
+    groups: usize,
     p: usize,
-    skip: usize,
     c: usize,
     shape: u8,
     label: Label,
     best: Leader,
     popped: bool,
 ) -> Leader
-    requires { ⌜ SearchFor popped (now w) p label × EntriesLow (now w) at p × (c < cellCount) × Admitted p best ⌝ }
-    ensures { λ t. ⌜ Admitted p t × CellAdded shape (now (w .entry)) at p (Other skip c) best t ⌝ }
+    requires { ⌜ SearchFor popped (now w) p label × EntriesLow (now w) at groups p × (c < cellCount groups) × Admitted p best ⌝ }
+    ensures { λ t. ⌜ Admitted p t × CellAdded shape (now (w .entry)) at groups p (Own c) best t ⌝ }
 {
-    if c == skip {
-        return best;
+    if may_lead(grid::region_at(w, at, c), shape, label, best) {
+        return scan_cell(w, at, groups, p, c, shape, label, best, popped);
     }
-    if grid::last_row(w, at, c) == 0 {
-        return best;
-    }
-    let value = leader_value(best);
-    let bound = grid::bound(w, at, c, shape, label);
-    if fractions::less_small(value, bound) {
-        return best;
-    }
-    scan_cell(w, at, p, c, shape, label, best, popped)
+    best
 }
 
-// The rows of the cells from `lo` to below `hi` but for the cell `skip`. The cells of the large marks, which touch soonest, come first.
+// The i-th of `size` numbers from 0 on, which are counted down from `start`, and then from the greatest.
+fn counted_down(size: usize, start: usize, i: usize) -> usize
+    requires { ⌜ (start < size) × (i < size) × (size ≤ 65536) ⌝ }
+    ensures { λ r. ⌜ (r ≡ countedDown size start i) × (r < size) ⌝ }
+{
+    if i <= start {
+        start - i
+    } else {
+        size + start - i
+    }
+}
+
+// The rows of the cells of group g, beginning with the one that has the place `first` in it. A best of value 0 is the best of all: of the rows at
+// one place only one can remove another.
 fn scan_cells(
     w: &[u8],
     at: usize,
+    groups: usize,
     p: usize,
-    lo: usize,
-    hi: usize,
-    skip: usize,
+    g: usize,
+    first: usize,
     shape: u8,
     label: Label,
     from: Leader,
     popped: bool,
 ) -> Leader
-    requires { ⌜ SearchFor popped (now w) p label × EntriesLow (now w) at p × (hi ≤ cellCount) × Admitted p from ⌝ }
-    ensures { λ t. ⌜ Admitted p t × CellAdded shape (now (w .entry)) at p (Range lo hi skip) from t ⌝ }
+    requires { ⌜ SearchFor popped (now w) p label × EntriesLow (now w) at groups p × (g < groups) × (first < 16) × Admitted p from × Zeroed shape (now w) p ⌝ }
+    ensures { λ t. ⌜ Admitted p t × CellAdded shape (now (w .entry)) at groups p (InGroup g) from t ⌝ }
 {
     let mut best = from;
-    let mut c = hi;
-    while lo < c {
-        c -= 1;
-        best = scan_other(w, at, p, skip, c, shape, label, best, popped);
+    let mut i = 0;
+    while i < GROUP_SIZE {
+        let c = GROUP_SIZE * g + counted_down(GROUP_SIZE, first, i);
+        best = scan_near(w, at, groups, p, c, shape, label, best, popped);
+        if best.num == 0 {
+            return best;
+        }
+        i += 1;
     }
     best
 }
 
-// The best of all rows above p by cells, for a mark that belongs into the cell `own`: what lies near comes first, so that the rest is soon too
-// far. Its own cell and then all others go through one loop, so that the loop over rows is compiled into it.
+// The same, but a group that holds no better row is left out.
+fn scan_group(
+    w: &[u8],
+    at: usize,
+    groups: usize,
+    p: usize,
+    g: usize,
+    first: usize,
+    shape: u8,
+    label: Label,
+    best: Leader,
+    popped: bool,
+) -> Leader
+    requires { ⌜ SearchFor popped (now w) p label × EntriesLow (now w) at groups p × (g < groups) × (first < 16) × Admitted p best × Zeroed shape (now w) p ⌝ }
+    ensures { λ t. ⌜ Admitted p t × CellAdded shape (now (w .entry)) at groups p (InGroup g) best t ⌝ }
+{
+    let region = grid::region_at(w, at, GROUP_SIZE * groups + g);
+    if may_lead(region, shape, label, best) {
+        return scan_cells(w, at, groups, p, g, first, shape, label, best, popped);
+    }
+    best
+}
+
+// The best of all rows above p by cells, for a mark that belongs into the cell `own`: its own cell and group come first, since with what lies near
+// the rest is soon too far.
 fn scan_grid(
     w: &[u8],
     at: usize,
+    groups: usize,
     p: usize,
     own: usize,
     shape: u8,
     label: Label,
     popped: bool,
 ) -> Leader
-    requires { ⌜ SearchFor popped (now w) p label × Gridded (now w) at p × (own < cellCount) ⌝ }
+    requires { ⌜ SearchFor popped (now w) p label × Gridded (now w) at groups p × (own < cellCount groups) × (groups ≤ 4096) × Zeroed shape (now w) p ⌝ }
     ensures { λ t. ⌜ Admitted p t × Adds shape (now (w .entry)) p (Higher p) none t ⌝ }
 {
+    let group = own / GROUP_SIZE;
+    let first = own % GROUP_SIZE;
     let mut best = Leader {
         num: 1,
         den: 0,
         row: 0,
     };
-    let mut lo = own;
-    let mut hi = own + 1;
-    let mut skip = grid::CELLS;
-    let mut pass = 0usize;
-    while pass < 2 {
-        best = scan_cells(w, at, p, lo, hi, skip, shape, label, best, popped);
-        lo = 0;
-        hi = grid::CELLS;
-        skip = own;
-        pass += 1;
+    let mut i = 0;
+    while i < groups {
+        let g = counted_down(groups, group, i);
+        best = scan_group(w, at, groups, p, g, first, shape, label, best, popped);
+        if best.num == 0 {
+            return best;
+        }
+        i += 1;
     }
     best
 }
 
-// The best of all rows above p. Where they are few, or most of them are in the cell that the mark belongs into, all are scanned.
+// The best of all rows above p. Where they are few, all are scanned.
 fn search(
     w: &[u8],
     at: usize,
+    groups: usize,
     p: usize,
     own: usize,
     shape: u8,
     label: Label,
     popped: bool,
 ) -> Leader
-    requires { ⌜ SearchFor popped (now w) p label × Gridded (now w) at p × (own < cellCount) ⌝ }
+    requires { ⌜ SearchFor popped (now w) p label × Gridded (now w) at groups p × (own < cellCount groups) × (groups ≤ 4096) × Zeroed shape (now w) p ⌝ }
     ensures { λ t. ⌜ Admitted p t × Adds shape (now (w .entry)) p (Higher p) none t ⌝ }
 {
     if p < FEW {
         return scan_rows(w, p, shape, label, popped);
     }
-    if p < 2 * grid::row_count(w, at, own) {
-        return scan_rows(w, p, shape, label, popped);
-    }
-    scan_grid(w, at, p, own, shape, label, popped)
+    scan_grid(w, at, groups, p, own, shape, label, popped)
 }
 
 // ---- what was found
 
-// What was found for row p, as its record.
+// What was found for row p, as its record. Where nobody was found, 1/0 stands for 'never' among the rows.
 fn found_of(w: &[u8], p: usize, best: Leader) -> Record
     requires { ⌜ (rowSize * p + rowSize ≤ length (now w)) × Admitted p best ⌝ }
     ensures { λ t. ⌜ FoundBy (now (w .entry)) p best t ⌝ }
 {
+    if best.den == 0 {
+        return Record {
+            num: 1,
+            den: 0,
+            eliminator: NOBODY,
+        };
+    }
     let row = best.row as usize;
     let number = numbers::read_u16(w, ROW_SIZE * row) as u32;
     Record {
@@ -336,18 +394,19 @@ pub fn best_of(w: &[u8], p: usize, shape: u8, label: Label, popped: bool) -> Rec
     found_of(w, p, scan_rows(w, p, shape, label, popped))
 }
 
-// The same by the grid at `at`, for a mark that belongs into the cell `own`.
+// The same by the grid at `at` of so many groups, for a mark that belongs into the cell `own`.
 pub fn best_in_grid(
     w: &[u8],
     at: usize,
+    groups: usize,
     p: usize,
     own: usize,
     shape: u8,
     label: Label,
     popped: bool,
 ) -> Record
-    requires { ⌜ SearchFor popped (now w) p label × Gridded (now w) at p × (own < cellCount) ⌝ }
+    requires { ⌜ SearchFor popped (now w) p label × Gridded (now w) at groups p × (own < cellCount groups) × (groups ≤ 4096) × Zeroed shape (now w) p ⌝ }
     ensures { λ t. ⌜ Scanned shape (now (w .entry)) p t ⌝ }
 {
-    found_of(w, p, search(w, at, p, own, shape, label, popped))
+    found_of(w, p, search(w, at, groups, p, own, shape, label, popped))
 }

@@ -33,8 +33,25 @@ const LINE: Data = ("line", Layout::Line);
 const ONE_PLACE: Data = ("one place", Layout::OnePlace);
 const HUGE_RADIUS: Data = ("huge radius", Layout::HugeRadius);
 const FEW_HUGE: Data = ("1 % huge radius", Layout::FewHuge);
+const WITHIN_10: Data = ("within 10 units", Layout::Within10);
+const HOUSE_RADII: Data = ("house radii", Layout::HouseRadii);
+const LOG_RADII: Data = ("radii by logarithm", Layout::LogRadii);
 
 /// The data that scheduling is timed on.
+const SCHEDULED: [Data; 10] = [
+    UNIFORM,
+    CLUSTERED,
+    REEL,
+    LINE,
+    ONE_PLACE,
+    WITHIN_10,
+    HOUSE_RADII,
+    HUGE_RADIUS,
+    FEW_HUGE,
+    LOG_RADII,
+];
+
+/// The data that it is timed on by editions, with popups and as squares.
 const DATA: [Data; 6] = [UNIFORM, CLUSTERED, LINE, ONE_PLACE, HUGE_RADIUS, FEW_HUGE];
 
 /// The data that changes are timed on.
@@ -125,7 +142,10 @@ fn introduction() -> String {
          ({PAIR_ROUNDS} where all pairs are sorted, and as worded), {CHANGE_ROUNDS} of changes and \
          {QUICK_ROUNDS} of the rest, in which the contenders take turns. Buffers and arrays \
          are allocated before and not cleared between rounds: they hold what the round before \
-         left. A ratio above 1 says that the proved library takes longer."
+         left. Plain Rust sorts rank keys and halves the marks of the index by the standard \
+         library, with `sort_unstable` and `select_nth_unstable`; the proved library has a radix \
+         sort and a selection of its own. A ratio above 1 says that the proved library takes \
+         longer."
     )
 }
 
@@ -203,7 +223,7 @@ fn scheduling() {
             "times faster than all pairs",
         ],
     );
-    for (name, layout) in DATA {
+    for (name, layout) in SCHEDULED {
         let sheet = sheet_of(layout, MOST);
         let [proved, cells, scan] = time_scheduling(&sheet, MOST, 1);
         let pairs = time_pairs(&sheet, &scheduled(layout, MOST));

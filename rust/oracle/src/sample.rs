@@ -785,11 +785,18 @@ pub enum Layout {
     FewHuge,
     /// At the ends and the middle of the range of places, with extreme radii.
     Extreme,
+    /// Within 10 units of the middle: many at each place.
+    Within10,
+    /// Anywhere, all with the house radii of their kinds.
+    HouseRadii,
+    /// Anywhere, with radii from 1 to the largest, of which each power of two is as likely as
+    /// the next.
+    LogRadii,
 }
 
 impl Layout {
     /// Every layout.
-    pub const ALL: [Self; 9] = [
+    pub const ALL: [Self; 12] = [
         Self::Uniform,
         Self::Clustered,
         Self::Reel,
@@ -799,6 +806,9 @@ impl Layout {
         Self::HugeRadius,
         Self::FewHuge,
         Self::Extreme,
+        Self::Within10,
+        Self::HouseRadii,
+        Self::LogRadii,
     ];
 }
 
@@ -1075,10 +1085,12 @@ fn mark(generator: &mut Generator, layout: Layout, sites: &[(i16, i16)], n: usiz
             generator.choose(&[0, 65_535]),
         ),
         Layout::OnePlace | Layout::Line => (small, generator.below(4) as u16),
-        Layout::Uniform | Layout::Clustered | Layout::Reel => (
+        Layout::Uniform | Layout::Clustered | Layout::Reel | Layout::Within10 => (
             generator.choose(&[0, small, small]),
             generator.below(65_536) as u16,
         ),
+        Layout::HouseRadii => (0, generator.below(65_536) as u16),
+        Layout::LogRadii => (radius_by_log(generator), generator.below(65_536) as u16),
     };
     Mark {
         x,
@@ -1095,9 +1107,12 @@ fn place(generator: &mut Generator, layout: Layout, sites: &[(i16, i16)], n: usi
     let side = 1 + n.isqrt() as u32;
     let (site_x, site_y) = sites[0];
     match layout {
-        Layout::Uniform | Layout::HugeRadius | Layout::FewHuge => {
-            (anywhere(generator), anywhere(generator))
-        }
+        Layout::Uniform
+        | Layout::HugeRadius
+        | Layout::FewHuge
+        | Layout::HouseRadii
+        | Layout::LogRadii => (anywhere(generator), anywhere(generator)),
+        Layout::Within10 => (anywhere(generator) % 10, anywhere(generator) % 10),
         Layout::Clustered => {
             let (x, y) = generator.choose(sites);
             (
@@ -1117,6 +1132,12 @@ fn place(generator: &mut Generator, layout: Layout, sites: &[(i16, i16)], n: usi
             (generator.choose(&ends), generator.choose(&ends))
         }
     }
+}
+
+/// A radius from 1 to the largest; each power of two is as likely as the next.
+fn radius_by_log(generator: &mut Generator) -> u16 {
+    let power = 1 << generator.below(LARGEST_RADIUS.count_ones());
+    (power + generator.below(power)) as u16
 }
 
 /// A coordinate from the whole range.
@@ -1213,5 +1234,18 @@ mod tests {
         assert!(extreme
             .iter()
             .any(|mark| mark.x == i16::MIN && mark.y == i16::MAX));
+        let within = marks(Layout::Within10, 99, 5);
+        assert!(within
+            .iter()
+            .all(|mark| mark.x.abs() < 10 && mark.y.abs() < 10));
+        let house = marks(Layout::HouseRadii, 99, 5);
+        assert!(house.iter().all(|mark| mark.radius == 0));
+        let by_log = marks(Layout::LogRadii, 999, 5);
+        for power in (0..14).map(|bits| 1 << bits) {
+            let found = by_log
+                .iter()
+                .filter(|mark| (power..2 * power).contains(&mark.radius));
+            assert!((40..110).contains(&found.count()), "{power}");
+        }
     }
 }

@@ -51,6 +51,14 @@ impl Axis {
 #[derive(Clone, Copy, Debug, PartialEq, Eq, PartialOrd, Ord)]
 pub struct AxisKey(u32);
 
+impl AxisKey {
+    /// The mark's number.
+    #[inline]
+    pub fn number(self) -> u16 {
+        self.0 as u16
+    }
+}
+
 /// Whether mark number `a` is a root before mark number `b`, given the order of their
 /// removal values: it is removed later, or at an equal value and has the lower number.
 #[inline]

@@ -1,6 +1,6 @@
--- Any cut of a list that rises, no two of its keys equal, has a number between the keys of the two sides; and `separated` tells whether two
--- lists have one.
-use Prim.Native.Nat.{ℕ, zero, suc, _≤_, _<_}
+-- Any cut of a list that rises, no two of its keys equal, has a number between the keys of the two sides, and so has a cut of a block with
+-- each key on the left below each on the right; and `separated` tells whether two lists have one.
+use Prim.Native.Nat.{ℕ, zero, suc, _+_, _-_, _≤_, _<_}
 use native.Mathlib.Omega.{arith}
 use mathlib.Core.Path.{_≡_, refl}
 use mathlib.Core.Bool.{true, false}
@@ -10,6 +10,8 @@ use lib.Dec.{ltb, leb}
 use borrow.Author.Tests.{ltb-true, ltb-false, leb-true, leb-false, lt-ltb, le-ltb, le-leb}
 use Rattle.lists.specs.TestLaws.{by-cases, bit-false, bit-not-true, bit-zero, bit-not-zero}
 use Rattle.lists.specs.Counting.{count, non, under, keyed}
+use Rattle.lists.specs.Blocks.{block}
+use Rattle.lists.specs.BlockLaws.{block-take, block-drop, block-all, none-pass}
 use Rattle.lists.specs.CountLaws.{count-cut, times-self, over-le, under-zero, under-more}
 use Rattle.lists.specs.Sorting.{Rising}
 use Rattle.index.specs.Valid.{top, low, separated, Split}
@@ -54,6 +56,22 @@ module _ (k : ℕ → ℕ) where
   pub under-top : (l : List ℕ) (t : ℕ) → count (non (under k t)) l ≡ 0 → top k l ≤ t
   under-top [] t h = omega arith
   under-top (x ∷ l) t h = omega (arith, under-top l t (omega arith), ltb-true (k x) t (bit-not-zero (ltb (k x) t) (omega arith)))
+
+  pub apart-split : (e : ℕ → ℕ) (lo m h : ℕ) → h ≤ m → ((i j : ℕ) → lo ≤ i → i < lo + h → lo + h ≤ j → j < lo + m → k (e i) < k (e j))
+      → Split k (take h (block e lo m)) (drop h (block e lo m))
+  apart-split e lo m h g apart =
+      rw (block-take e lo m h g, block-drop e lo m h g)
+      (record {
+        between = top k left;
+        left = top-under left (top k left) (omega arith);
+        right = none-pass (under k (top k left)) e (lo + h) (m - h) (λ j a b. le-ltb (k (e j)) (top k left) (above j a (omega arith)));
+      })
+    where
+      left : List ℕ
+      left = block e lo h
+
+      above : (j : ℕ) → lo + h ≤ j → j < lo + m → top k left ≤ k (e j)
+      above j a b = under-top left (k (e j)) (block-all (under k (k (e j))) e lo h (λ i c d. lt-ltb (k (e i)) (k (e j)) (apart i j c d a b)))
 
   low-over : (c : ℕ) (l : List ℕ) (t : ℕ) → t ≤ low k c l → (count (under k t) l ≡ 0) × (t ≤ c)
   low-over c [] t h = (refl, h)

@@ -20,7 +20,7 @@ row-label-requires c κs = search needs
 extended-requires : tie.Need-extended-requires Inv-loop μ-loop
 extended-requires c κs =
     let l = c .before .before in
-    omega (arith, c .before .loop-test .taken, l .loop .inv .1, l .before .before .pre .0)
+    omega (arith, c .before .loop-test .taken, l .loop .inv .1, l .before .before .pre .1)
 
 add-q : tie.Need-add-q Inv-loop μ-loop
 add-q c = search needs
@@ -34,7 +34,9 @@ loop-again c =
     (omega arith, omega (arith, c .extended .ensures, c .before .row-label .ok, l .loop .inv .1))
 
 plan-of-requires : tie.Need-plan-of-requires Inv-loop μ-loop
-plan-of-requires c κs = (omega (arith, c .before .loop .inv, c .before .before .before .pre .0), c .before .before .before .pre .0)
+plan-of-requires c κs =
+    let a = c .before .before .before in
+    (omega (arith, c .before .loop .inv, a .pre .1), a .pre .0, a .pre .1)
 
 returns : tie.Need-returns Inv-loop μ-loop
 returns c = c .plan-of .ensures

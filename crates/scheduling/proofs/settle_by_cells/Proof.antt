@@ -4,16 +4,16 @@ use Rattle.scheduling.proofs.Progress.{same-kept, small-same, processed
 use native.Mathlib.Omega.{arith}
 use Prim.Native.Nat.{_≤_, _-_, _*_}
 use borrow.Author.Needs.{needs}
-use Rattle.grid.specs.Plan.{Divides}
 use Rattle.searching.specs.Rows.{rowSize}
 use Rattle.searching.specs.Cells.{Gridded}
+use Rattle.scheduling.specs.Planning.{Planned}
 use Rattle.scheduling.proofs.Cells.{gridded-none}
 use Rattle.scheduling.proofs.Progress.{Progress, start, ready, advance, finish}
 use Rattle.scheduling.proofs.settle_by_cells.Statement.{statement}
 use Rattle.scheduling.proofs.settle_by_cells.Tie as tie
 
 abbrev Inv-loop : tie.InvT-loop
-Inv-loop w₀ n shape popped plan p₀ w p = (p ≤ n) × Progress shape n p w₀ w × Gridded w (rowSize * n) p × Divides plan
+Inv-loop w₀ n shape popped plan p₀ w p = (p ≤ n) × Progress shape n p w₀ w × Gridded w (rowSize * n) (plan .groups) p × Planned plan n
 
 abbrev μ-loop : tie.MeasureT-loop
 μ-loop w₀ n shape popped plan p₀ w p = n - p
@@ -25,14 +25,17 @@ mul-clear : tie.Need-mul-clear Inv-loop μ-loop
 mul-clear c = search needs
 
 clear-requires : tie.Need-clear-requires Inv-loop μ-loop
-clear-requires c κs = search needs
+clear-requires c κs =
+    let g = c .before in
+    let a = g .before .before .before in
+    omega (arith, a .pre, g .plan-grid .ensures .room)
 
 loop-holds : tie.Need-loop-holds Inv-loop μ-loop
 loop-holds c =
     let k = c .before .before in
     let g = k .before .before in
     let a = g .before .before .before in
-    (omega arith, start _ _ _, gridded-none (omega (arith, a .pre)) (k .clear .ensures), g .plan-grid .ensures)
+    (omega arith, start _ _ _, gridded-none (omega (arith, a .pre, g .plan-grid .ensures .room)) (k .clear .ensures), g .plan-grid .ensures)
 
 settle-in-grid-requires : tie.Need-settle-in-grid-requires Inv-loop μ-loop
 settle-in-grid-requires c κs =
@@ -42,10 +45,10 @@ settle-in-grid-requires c κs =
     let a = k .before .before .before .before .before in
     let s = same-kept (k .clear .ensures .kept) in (
       ready (a .pre .1) (omega (arith, a .pre .2, s .long)) (small-same s (a .pre .3)) (i .loop-test .taken) (l .loop .inv .1),
+      l .loop .inv .3,
       l .loop .inv .2,
       omega (arith, a .pre .2, s .long, l .loop .inv .1 .fields .long),
-      a .pre .0,
-      l .loop .inv .3,
+      l .loop .inv .1 .zeroed (small-same s (a .pre .3) .some),
     )
 
 add-p : tie.Need-add-p Inv-loop μ-loop

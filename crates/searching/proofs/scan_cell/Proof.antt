@@ -10,19 +10,19 @@ use Rattle.searching.proofs.scan_cell.Statement.{statement}
 use Rattle.searching.proofs.scan_cell.Tie as tie
 
 abbrev Inv-loop : tie.InvT-loop
-Inv-loop w at p c shape label popped best₀ h₀ best h = (h ≤ p) × Admitted p best × Walked shape w at p c h best₀ best
+Inv-loop w at groups p c shape label popped best₀ h₀ best h = (h ≤ p) × Admitted p best × Walked shape w at groups p c h best₀ best
 
 abbrev μ-loop : tie.MeasureT-loop
-μ-loop w at p c shape label popped best₀ h₀ best h = h
+μ-loop w at groups p c shape label popped best₀ h₀ best h = h
 
 last-row-requires : tie.Need-last-row-requires Inv-loop μ-loop
-last-row-requires c κs = let a = c .before in (a .pre .2, omega (arith, a .pre .1 .room))
+last-row-requires c κs = let a = c .before in omega (arith, a .pre .2, a .pre .1 .room)
 
 loop-holds : tie.Need-loop-holds Inv-loop μ-loop
 loop-holds c =
     let a = c .before .before in
     let e = c .last-row .ensures in
-    (rw e (a .pre .1 .head-low (a .args .c) (a .pre .2)), a .pre .3, rw e (walk-start _ (a .pre .2)))
+    (rw e (a .pre .1 .last-low (a .args .c) (a .pre .2)), a .pre .3, rw e (walk-start _ (a .pre .2)))
 
 sub-q : tie.Need-sub-q Inv-loop μ-loop
 sub-q c = search needs
@@ -59,7 +59,7 @@ loop-again c =
     let e = c .previous-row .ensures in (
       omega (arith, n, e, l .loop .inv .0),
       b .better .ensures .0,
-      rw e (walk-next (i .loop-test .taken) (l .loop .inv .0) (l .loop .inv .2) (b .better .ensures .1)),
+      rw e (walk-next (l .before .before .before .pre .2) (i .loop-test .taken) (l .loop .inv .0) (l .loop .inv .2) (b .better .ensures .1)),
     )
 
 returns : tie.Need-returns Inv-loop μ-loop

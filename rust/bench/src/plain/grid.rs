@@ -1,128 +1,214 @@
-//! Rows by place, in the cells of the proved library: 64 over the square in which the
-//! data lies, and 16 larger ones for marks of large radius. A cell has a chain of its
-//! rows, the box around their places and their largest radius.
+//! Rows by place, in the regions of the proved library: cells in groups of 16. A cell has
+//! a chain of its rows. Cells and groups have a box around the places of their rows, the
+//! largest radius of these and their latest removal value.
 
 use oracle::label::Label;
 use oracle::shape::Shape;
 
 use super::value::Value;
 
-/// The cells by place, and those of the large marks behind them.
-const PLACES: usize = 64;
-const CELLS: usize = 80;
+/// The cells of a group, and how many of them stand along a side of it.
+const GROUP_SIZE: usize = 16;
+const GROUP_SIDE: usize = 4;
 
-/// One cell. A row's number is kept plus one, so that 0 is no row.
+/// What is known of some rows: the box around their places, their largest radius and
+/// their latest removal value.
 #[derive(Clone, Copy)]
-struct Cell {
-    last: u16,
-    count: u16,
+struct Region {
     low: [i32; 2],
     high: [i32; 2],
     radius: u32,
+    latest: Value,
+}
+
+impl Region {
+    /// No rows: none is removed later than at 0.
+    const EMPTY: Self = Self {
+        low: [i16::MAX as i32; 2],
+        high: [i16::MIN as i32; 2],
+        radius: 0,
+        latest: Value::ZERO,
+    };
+
+    /// Takes in a row of this label and removal value.
+    #[inline]
+    fn take_in(&mut self, Label { x, y, radius }: Label, value: Value) {
+        self.low = [self.low[0].min(x), self.low[1].min(y)];
+        self.high = [self.high[0].max(x), self.high[1].max(y)];
+        self.radius = self.radius.max(radius);
+        if value.later_than(self.latest) {
+            self.latest = value;
+        }
+    }
+
+    /// The touching value of a label of a shape and one at the nearest place of the box, with
+    /// the largest radius.
+    #[inline]
+    fn bound(&self, label: Label, shape: Shape) -> Value {
+        let gap = |axis: usize, at: i32| {
+            let (below, above) = (self.low[axis] - at, at - self.high[axis]);
+            below.max(0) + above.max(0)
+        };
+        let reach = u64::from(self.radius + label.radius);
+        Value {
+            numerator: shape.squared_distance(gap(0, label.x), gap(1, label.y)),
+            denominator: reach * reach,
+        }
+    }
+
+    /// Whether one of the rows may touch a label of a shape no later than at a value, and
+    /// before it is gone.
+    #[inline]
+    fn may_touch(&self, label: Label, shape: Shape, best: Value) -> bool {
+        let bound = self.bound(label, shape);
+        !bound.later_than(best) && self.latest.later_than(bound)
+    }
+}
+
+/// One cell. The number of its last row is kept plus one, so that 0 is no row.
+#[derive(Clone, Copy)]
+struct Cell {
+    region: Region,
+    last: u16,
 }
 
 impl Cell {
     const EMPTY: Self = Self {
+        region: Region::EMPTY,
         last: 0,
-        count: 0,
-        low: [i32::MAX; 2],
-        high: [i32::MIN; 2],
-        radius: 0,
     };
-
-    /// The touching value of a label of a shape and the nearest place of the box, with the
-    /// largest radius of the cell.
-    #[inline]
-    fn bound(&self, label: Label, shape: Shape) -> Value {
-        let nearest = Label {
-            x: label.x.clamp(self.low[0], self.high[0]),
-            y: label.y.clamp(self.low[1], self.high[1]),
-            radius: self.radius,
-        };
-        nearest.touching_value(label, shape).into()
-    }
 }
 
-/// Where the cells lie: the least corner, the size of a cell, how many stand in a column,
-/// and the radius above which a mark is large.
+/// A group of cells.
+#[derive(Clone, Copy)]
+struct Group {
+    region: Region,
+    cells: [Cell; GROUP_SIZE],
+}
+
+impl Group {
+    const EMPTY: Self = Self {
+        region: Region::EMPTY,
+        cells: [Cell::EMPTY; GROUP_SIZE],
+    };
+}
+
+/// Where the cells lie: the least corner, the size of a cell, how many groups there are for
+/// marks that are not large, and the radius above which one is. A further group is for those.
 #[derive(Clone, Copy, Default)]
 struct Plan {
     low: [i32; 2],
     size: [u32; 2],
-    rows: usize,
+    order: Order,
+    small: usize,
     large: u32,
 }
 
+/// In what order the cells stand.
+#[derive(Clone, Copy, Default)]
+enum Order {
+    /// In one strip, where the data is narrow.
+    #[default]
+    Strip,
+    /// In groups of 4 by 4, of which so many stand in a column.
+    Squares { rows: usize },
+}
+
 impl Plan {
-    /// The cells over some labels. One is large from four times the average radius on.
+    /// The cells over some labels. One is large from three times the average radius on.
     fn over(labels: impl ExactSizeIterator<Item = Label>) -> Self {
-        let n = labels.len() as u32;
+        let n = labels.len();
         let (mut low, mut high, mut radii) = ([i32::MAX; 2], [i32::MIN; 2], 0);
         for Label { x, y, radius } in labels {
             low = [low[0].min(x), low[1].min(y)];
             high = [high[0].max(x), high[1].max(y)];
             radii += radius;
         }
+        let small = small_groups(n);
         let [across, down] = [0, 1].map(|axis| high[axis].abs_diff(low[axis]) + 1);
-        let (columns, rows) = (cells_along(across, down), cells_along(down, across));
+        let (cells, order) = division(across, down, small);
         Self {
             low,
-            size: [across / columns + 1, down / rows + 1],
-            rows: rows as usize,
-            large: 4 * radii / (n + 1),
+            size: [across / cells[0] + 1, down / cells[1] + 1],
+            order,
+            small,
+            large: 3 * radii / (n as u32 + 1),
         }
     }
 
     /// The cell of a label.
     #[inline]
     fn cell_of(&self, Label { x, y, radius }: Label) -> usize {
-        let along = |axis: usize, place: i32| place.abs_diff(self.low[axis]) / self.size[axis];
-        let cell = self.rows * along(0, x) as usize + along(1, y) as usize;
-        let cell = cell.min(PLACES - 1);
+        let along = |axis: usize, at: i32| (at.abs_diff(self.low[axis]) / self.size[axis]) as usize;
+        let (column, row) = (along(0, x), along(1, y));
+        let cell = match self.order {
+            Order::Strip => column + row,
+            Order::Squares { rows } => {
+                let group = column / GROUP_SIDE * rows + row / GROUP_SIDE;
+                GROUP_SIZE * group + GROUP_SIDE * (column % GROUP_SIDE) + row % GROUP_SIDE
+            }
+        };
+        let end = GROUP_SIZE * self.small;
         if self.large < radius {
-            PLACES + cell / 4
+            end + (cell / self.small).min(GROUP_SIZE - 1)
         } else {
-            cell
+            cell.min(end - 1)
         }
     }
 }
 
-/// How many of the 64 cells stand along a side, with the other side as long as `other`.
-fn cells_along(side: u32, other: u32) -> u32 {
-    match (side / other, other / side) {
-        (32.., _) => 64,
-        (8.., _) => 32,
-        (2.., _) => 16,
-        (_, 32..) => 1,
-        (_, 8..) => 2,
-        (_, 2..) => 4,
+/// How many groups there are for the marks that are not large, of so many rows.
+fn small_groups(n: usize) -> usize {
+    match n {
+        ..400 => 2,
+        400..768 => 4,
         _ => 8,
     }
 }
 
-/// The cells and their chains.
-pub struct Grid {
-    cells: [Cell; CELLS],
-    links: Vec<u16>,
-    plan: Plan,
+/// How many cells of so many groups stand along x and along y, and in what order.
+fn division(across: u32, down: u32, groups: usize) -> ([u32; 2], Order) {
+    let strip = (GROUP_SIZE * groups) as u32;
+    if 32 * down <= across {
+        return ([strip, 1], Order::Strip);
+    }
+    if 32 * across <= down {
+        return ([1, strip], Order::Strip);
+    }
+    let columns = columns_of(across, down, groups);
+    let rows = groups / columns;
+    let cells = [columns, rows].map(|groups| (GROUP_SIDE * groups) as u32);
+    (cells, Order::Squares { rows })
 }
 
-impl Default for Grid {
-    fn default() -> Self {
-        Self {
-            cells: [Cell::EMPTY; CELLS],
-            links: Vec::new(),
-            plan: Plan::default(),
-        }
+/// How many of 2, 4 or 8 groups stand side by side, so that cells are about square.
+fn columns_of(across: u32, down: u32, groups: usize) -> usize {
+    match groups {
+        8 if 4 * down <= across => 8,
+        8 if down <= across => 4,
+        8 if down <= 4 * across => 2,
+        4 if 2 * down <= across => 4,
+        4 if down <= 2 * across => 2,
+        2 if down <= across => 2,
+        _ => 1,
     }
+}
+
+/// The groups of cells, and the chains of rows.
+#[derive(Default)]
+pub struct Grid {
+    groups: Vec<Group>,
+    links: Vec<u16>,
+    plan: Plan,
 }
 
 impl Grid {
     /// Lays empty cells over some labels.
     pub fn lay_over(&mut self, labels: impl ExactSizeIterator<Item = Label>) {
-        self.cells = [Cell::EMPTY; CELLS];
-        self.links.clear();
         self.plan = Plan::over(labels);
+        self.groups.clear();
+        self.groups.resize(self.plan.small + 1, Group::EMPTY);
+        self.links.clear();
     }
 
     /// The cell of a label.
@@ -131,41 +217,66 @@ impl Grid {
         self.plan.cell_of(label)
     }
 
-    /// The next row becomes the last of a cell.
+    /// The next row, of this label and removal value, goes into a cell, unless it is removed
+    /// at 0: then it removes nobody.
     #[inline]
-    pub fn add(&mut self, cell: usize, Label { x, y, radius }: Label) {
-        let cell = &mut self.cells[cell];
+    pub fn enter(&mut self, cell: usize, label: Label, value: Value) {
+        if value.numerator == 0 {
+            return self.links.push(0);
+        }
+        let group = &mut self.groups[cell / GROUP_SIZE];
+        group.region.take_in(label, value);
+        let cell = &mut group.cells[cell % GROUP_SIZE];
+        cell.region.take_in(label, value);
         self.links.push(cell.last);
         cell.last = self.links.len() as u16;
-        cell.count += 1;
-        cell.low = [cell.low[0].min(x), cell.low[1].min(y)];
-        cell.high = [cell.high[0].max(x), cell.high[1].max(y)];
-        cell.radius = cell.radius.max(radius);
     }
 
-    /// How many rows a cell has.
-    pub fn count(&self, cell: usize) -> usize {
-        self.cells[cell].count.into()
+    /// Goes through the rows that may touch a label of a shape as soon as the best so far, its
+    /// own cell and group first: `better` gives the better of the best and a row, and `value`
+    /// the value of the best.
+    #[inline(always)]
+    pub fn search<B: Copy>(
+        &self,
+        own: usize,
+        (label, shape): (Label, Shape),
+        none: B,
+        value: impl Fn(B) -> Value,
+        better: impl Fn(B, usize) -> B,
+    ) -> B {
+        let mut best = none;
+        for group in counted_down(self.groups.len(), own / GROUP_SIZE) {
+            let group = &self.groups[group];
+            if !group.region.may_touch(label, shape, value(best)) {
+                continue;
+            }
+            for cell in counted_down(GROUP_SIZE, own % GROUP_SIZE) {
+                let cell = &group.cells[cell];
+                if cell.region.may_touch(label, shape, value(best)) {
+                    best = self.rows(cell).fold(best, &better);
+                }
+            }
+        }
+        best
     }
 
     /// The rows of a cell, the last one first.
     #[inline]
-    pub fn rows(&self, cell: usize) -> impl Iterator<Item = usize> + '_ {
+    fn rows(&self, cell: &Cell) -> impl Iterator<Item = usize> + '_ {
         let row = |next: u16| (next > 0).then(|| usize::from(next) - 1);
         let before = move |&q: &usize| row(self.links[q]);
-        std::iter::successors(row(self.cells[cell].last), before)
+        std::iter::successors(row(cell.last), before)
     }
+}
 
-    /// Whether a cell has rows, and may have one that touches a label of a shape no later than
-    /// at a value.
-    #[inline]
-    pub fn may_hold(&self, cell: usize, label: Label, shape: Shape, best: Value) -> bool {
-        let cell = &self.cells[cell];
-        cell.last > 0 && !cell.bound(label, shape).later_than(best)
-    }
-
-    /// The cells, those of the large marks first.
-    pub fn cells() -> impl Iterator<Item = usize> {
-        (0..CELLS).rev()
-    }
+/// The numbers below `size`, counted down from `start`, and then from the greatest.
+#[inline]
+fn counted_down(size: usize, start: usize) -> impl Iterator<Item = usize> {
+    (0..size).map(move |i| {
+        if i <= start {
+            start - i
+        } else {
+            size + start - i
+        }
+    })
 }

@@ -10,7 +10,7 @@ use oracle::rank::{Edition, RankKey};
 use oracle::record::{Record, RECORD_BYTES};
 use oracle::shape::Shape;
 use oracle::sheet::{part_lengths, Rows};
-use oracle::tree::{write_number, Axis, INDEX_BYTES};
+use oracle::tree::{write_number, Axis, AxisKey, INDEX_BYTES};
 use oracle::{ask, Refusal};
 
 use super::count::part_6;
@@ -77,12 +77,10 @@ impl Candidate {
     };
 
     /// Whether row q takes its place with this value: it is less, or equal and the row ranks
-    /// higher, and the row is removed later.
+    /// higher, and the row is removed later. Both are asked without a branch between them.
     #[inline]
     fn gives_way(self, rows: &[Row], q: usize, value: Value) -> bool {
-        let sooner = self.value.later_than(value);
-        let level = !sooner && !value.later_than(self.value);
-        (sooner || level && q < self.row) && rows[q].value.later_than(value)
+        value.precedes(self.value, q < self.row) & rows[q].value.later_than(value)
     }
 
     /// This one, or row q, if it takes its place with its pair value, which `pair` gives for
@@ -108,8 +106,8 @@ impl Candidate {
 
 /// From this many rows on a grid is used, and below this many a search looks at all, as
 /// in the proved library.
-const MANY: usize = 256;
-const FEW: usize = 192;
+const MANY: usize = 160;
+const FEW: usize = 32;
 
 /// The arrays that scheduling and judging borrow, kept from run to run.
 #[derive(Default)]
@@ -122,6 +120,7 @@ pub struct Desk {
     pairs: Vec<Pair>,
     ordered: Vec<Ordered>,
     numbers: Vec<u16>,
+    keys: Vec<AxisKey>,
 }
 
 impl Desk {
@@ -263,7 +262,7 @@ impl Desk {
             let label = self.rows[p].label;
             let cell = self.grid.cell_of(label);
             let best = self.search(p, label, cell, shape);
-            self.grid.add(cell, label);
+            self.grid.enter(cell, label, best.value);
             self.rows[p].value = best.value;
             self.rows[p].eliminator = best.row as u32;
         }
@@ -273,25 +272,19 @@ impl Desk {
     /// are soon too far.
     #[inline(always)]
     fn search(&self, p: usize, label: Label, own: usize, shape: Shape) -> Candidate {
-        let (grid, rows) = (&self.grid, self.rows.as_slice());
-        let or = |best: Candidate, q: usize| {
+        let rows = self.rows.as_slice();
+        let better = |best: Candidate, q: usize| {
             let touching = label.touching_value(rows[q].label, shape);
             best.or(rows, q, touching, |touching| {
                 self.popups.pair_value(p, q, touching)
             })
         };
-        if p < FEW || p < 2 * grid.count(own) {
-            return (0..p).fold(Candidate::NONE, or);
+        if p < FEW {
+            return (0..p).fold(Candidate::NONE, better);
         }
-        let scan = |best, cell| grid.rows(cell).fold(best, or);
-        let others = Grid::cells().filter(|&cell| cell != own);
-        others.fold(scan(Candidate::NONE, own), |best, cell| {
-            if grid.may_hold(cell, label, shape, best.value) {
-                scan(best, cell)
-            } else {
-                best
-            }
-        })
+        let value = |best: Candidate| best.value;
+        self.grid
+            .search(own, (label, shape), Candidate::NONE, value, better)
     }
 
     /// The core by sorting: all pairs by value and then by rank, each taken when its
@@ -347,7 +340,7 @@ impl Desk {
     fn write_index(&mut self, out: &mut [[u8; INDEX_BYTES]]) {
         self.numbers.clear();
         self.numbers.extend(0..self.ordered.len() as u16);
-        build(&self.ordered, &mut self.numbers, Axis::TOP);
+        build(&self.ordered, &mut self.numbers, Axis::TOP, &mut self.keys);
         for (place, number) in out.iter_mut().zip(&self.numbers) {
             *place = write_number(number);
         }

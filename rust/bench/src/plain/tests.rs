@@ -84,7 +84,7 @@ fn every_core_writes_the_scheduled_sheet() {
     ];
     let mut desk = Desk::default();
     for layout in Layout::ALL {
-        for n in [0, 1, 2, 9, 64, 255, 256, 500] {
+        for n in [0, 1, 2, 9, 64, 159, 160, 400] {
             let mut sample = marks(layout, n, n as u64);
             let mut all = vec![sheets(&sample)];
             sample.iter_mut().for_each(|mark| mark.priority &= 1);
@@ -107,6 +107,28 @@ fn every_core_writes_the_scheduled_sheet() {
                 assert!(out[..expected.len()] == *expected, "{layout:?} {n}");
                 assert_eq!(out.last(), Some(&0xee));
                 assert_eq!(core(&mut desk, sheet, &mut out[2..]), Err(13));
+            }
+        }
+    }
+}
+
+#[test]
+fn every_plan_of_cells_gives_the_scheduled_sheet() {
+    let mut desk = Desk::default();
+    for (layout, n) in Layout::ALL
+        .into_iter()
+        .flat_map(|layout| [399, 767, 768, 1_500].map(|n| (layout, n)))
+    {
+        let mut sample = marks(layout, n, 3);
+        for _ in 0..2 {
+            let [sheet, expected] = sheets(&sample);
+            let mut out = vec![0xee; expected.len()];
+            let written = desk.schedule_by_cells(&sheet, &mut out);
+            assert_eq!(written, Ok(expected.len()));
+            assert!(out == expected, "{layout:?} {n}");
+            // The same on its side.
+            for mark in &mut sample {
+                (mark.x, mark.y) = (mark.y, mark.x);
             }
         }
     }

@@ -13,6 +13,11 @@ pub struct Value {
 }
 
 impl Value {
+    pub const ZERO: Self = Self {
+        numerator: 0,
+        denominator: 1,
+    };
+
     pub const NEVER: Self = Self {
         numerator: 1,
         denominator: 0,
@@ -30,6 +35,15 @@ impl Value {
     #[inline]
     pub fn later_than(self, other: Self) -> bool {
         self.compare(other).is_gt()
+    }
+
+    /// Whether this value goes before another: it is less, or equal, where a tie goes to it.
+    /// That is one comparison, in which such a tie makes the bound one more.
+    #[inline]
+    pub fn precedes(self, other: Self, tie: bool) -> bool {
+        let left = self.numerator * other.denominator;
+        let right = other.numerator * self.denominator;
+        left < right + u64::from(tie)
     }
 
     /// The fraction of the value, none for 'never'.

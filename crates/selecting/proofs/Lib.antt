@@ -1,0 +1,2 @@
+mod Shuffling
+mod Parting
