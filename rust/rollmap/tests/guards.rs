@@ -101,8 +101,11 @@ fn printed(sheet: &[u8]) -> String {
 }
 
 #[test]
-fn every_test_that_the_page_names_is_here() {
-    let own = include_str!("guards.rs");
+fn every_test_that_the_page_names_is_here_or_in_the_tool() {
+    let own = concat!(
+        include_str!("guards.rs"),
+        include_str!("../../tool/tests/guards.rs")
+    );
     let rows = GUARDS.lines().filter(|line| line.starts_with("| "));
     let last = rows.filter_map(|row| row.trim_end_matches(" |").rsplit_once(" | "));
     let cells = last
@@ -111,7 +114,7 @@ fn every_test_that_the_page_names_is_here() {
     let sentences = GUARDS.lines().filter_map(|line| line.split_once("Test: "));
     let named = cells.chain(sentences.map(|(_, name)| name.trim_end_matches('.')));
     let names: Vec<&str> = named.flat_map(|names| names.split(", ")).collect();
-    assert_eq!(names.len(), 44);
+    assert_eq!(names.len(), 48);
     for name in names {
         let test = format!("#[test]\nfn {}()", name.trim_matches('`'));
         assert!(own.contains(&test), "{name}");
