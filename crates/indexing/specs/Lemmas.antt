@@ -2,6 +2,7 @@
 pub mod Frame
 pub mod Numbers
 pub mod Reorder
+pub mod Limits
 pub mod Best
 pub mod Part
 pub mod Build

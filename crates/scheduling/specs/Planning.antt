@@ -14,7 +14,7 @@ pub record Planned (plan : Plan) (n : ℕ) : Type 0 where
   pub width : 0 < plan .width
   pub height : 0 < plan .height
   pub some : 2 ≤ plan .groups
-  pub few : plan .groups ≤ 9
+  pub few : plan .groups ≤ 17
   pub room : tableSize (plan .groups) ≤ 5 * n + 1024
 
 -- v is w with row p, of this label and removal value, in cell c, or, where it is removed at 0, in none

@@ -115,7 +115,7 @@ struct Plan {
 // So many groups of cells for n rows, for which there is room behind the rows and their links.
 fn groups_for(n: usize) -> usize
     requires { ⌜ (100 ≤ n) × (n ≤ 4096) ⌝ }
-    ensures { λ g. ⌜ (2 ≤ g) × (g ≤ 9) × (tableSize g ≤ 5 * n + 1024) ⌝ }
+    ensures { λ g. ⌜ (2 ≤ g) × (g ≤ 17) × (tableSize g ≤ 5 * n + 1024) ⌝ }
 {
     if n < 400 {
         return 3;
@@ -123,7 +123,10 @@ fn groups_for(n: usize) -> usize
     if n < 768 {
         return 5;
     }
-    9
+    if n < 2048 {
+        return 9;
+    }
+    17
 }
 
 // The length of a range, which its ends give as a cover has them.
@@ -137,41 +140,27 @@ fn length_of(low: u16, high: u16) -> u32
     sum - 65534
 }
 
-// How many of so many groups of 4 by 4 cells, 2, 4 or 8, stand side by side, so that cells are about square.
-fn columns_for(across: u32, down: u32, small: u32) -> u8
-    requires { ⌜ (across ≤ 65536) × (down ≤ 65536) × (small ≤ 8) ⌝ }
-    ensures { λ r. ⌜ (0 < r) × (r ≤ 8) ⌝ }
+// How many of so many groups of 4 by 4 cells stand side by side, a power of 2, so that cells are about square.
+fn columns_for(across: u32, down: u32, small: u32) -> u32
+    requires { ⌜ (across ≤ 65536) × (down ≤ 65536) × (small ≤ 16) ⌝ }
+    ensures { λ r. ⌜ (0 < r) × (r ≤ 32) ⌝ }
 {
-    if 8 <= small {
-        if 4 * down <= across {
-            return 8;
+    let mut columns = 1;
+    while columns < small {
+        if small * across < 2 * columns * columns * down {
+            return columns;
         }
-        return if down <= across {
-            4
-        } else if down <= 4 * across {
-            2
-        } else {
-            1
-        };
+        columns = 2 * columns;
     }
-    if 4 <= small {
-        return if 2 * down <= across {
-            4
-        } else if down <= 2 * across {
-            2
-        } else {
-            1
-        };
-    }
-    if down <= across { 2 } else { 1 }
+    columns
 }
 
 // How many of so many groups then stand in a column.
-fn rows_for(small: u32, columns: u8) -> u8
-    requires { ⌜ (small ≤ 8) × (0 < columns) ⌝ }
-    ensures { λ r. ⌜ (0 < r) × (r ≤ 8) ⌝ }
+fn rows_for(small: u32, columns: u32) -> u8
+    requires { ⌜ (small ≤ 16) × (0 < columns) ⌝ }
+    ensures { λ r. ⌜ (0 < r) × (r ≤ 16) ⌝ }
 {
-    let rows = small / columns as u32;
+    let rows = small / columns;
     if rows == 0 {
         return 1;
     }
@@ -226,7 +215,7 @@ fn plan_of(e: Cover, n: usize) -> Plan
     }
     let columns = columns_for(across, down, small);
     let rows = rows_for(small, columns);
-    let width = cell_size(across, 4 * columns as u32);
+    let width = cell_size(across, 4 * columns);
     let height = cell_size(down, 4 * rows as u32);
     Plan {
         x: x,

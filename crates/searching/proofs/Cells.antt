@@ -7,7 +7,7 @@ use mathlib.Core.Logic.{_⊎_, inl, inr}
 use native.Mathlib.Omega.{arith}
 use native.Mathlib.Nat.{mul-le-mul}
 use native.Mathlib.Decide.{decLt, decLe, ℕ-discrete}
-use borrow.Author.Tests.{le-leb, lt-leb}
+use borrow.Author.Tests.{lt-ltb, le-ltb, le-leb, lt-leb, ne-eqb}
 use Rattle.fractions.specs.Order.{less, Less, AtMost}
 use Rattle.fractions.specs.Laws.{less-iff, atMost-trans, less-atMost, atMost-less}
 use Rattle.marks.specs.declared.Label.{Label}
@@ -20,7 +20,7 @@ use Rattle.grid.specs.Laws.{bound-least, bound-positive}
 use Rattle.searching.specs.declared.Leader.{Leader}
 use Rattle.searching.specs.Rows.{rowLabel, rowPopup, rowValue, rowsTouch, rowsPair}
 use Rattle.searching.specs.Search.{leaderValue, StandsAt, Before, SearchFor, Adds, Only, Higher}
-use Rattle.searching.specs.Cells.{HoldsRow, InGrid, Gridded, mayLead, Tail, Walked, CellAdded, Own, InGroup, countedDown, InTurn, FirstCells, FirstGroups}
+use Rattle.searching.specs.Cells.{HoldsRow, InGrid, Gridded, mayLead, Tail, Walked, CellAdded, Own, InGroup, countedDown, ownFirst, InTurn, FirstCells, FirstGroups}
 use Rattle.searching.proofs.Steps.{not-less, at-most, adds-before, adds-like, adds-then}
 
 -- ---- a chain, from row h - 1 down
@@ -153,11 +153,26 @@ counted-low size start i hs hi =
     elim (decLe i start) [ yes l ↦ rw (le-leb i start l) (omega arith) | no l ↦ rw (lt-leb i start (omega arith)) (omega arith) ]
 
 -- all of them come in turn
-pub turned-all : (size start d : ℕ) → start < size → d < size → InTurn size start size d
-turned-all size start d hs hd =
+counted-all : (size start d : ℕ) → start < size → d < size → InTurn (countedDown size start) size d
+counted-all size start d hs hd =
     elim (decLe d start) [
       | yes l ↦ (start - d, omega arith, rw (le-leb (start - d) start (omega arith)) (omega arith))
       | no l ↦ (size + start - d, omega arith, rw (lt-leb (size + start - d) start (omega arith)) (omega arith))
+    ]
+
+own-all : (size own d : ℕ) → own < size → d < size → InTurn (ownFirst size own) size d
+own-all size own d hs hd =
+    elim (ℕ-discrete d own) [
+      | yes e ↦ (0, omega arith, sym e)
+      | no e ↦
+          elim (decLt own d) [
+            | yes l ↦
+                (let k : size - (size - d) ≡ d = omega arith in
+                (size - d, omega arith, rw (ne-eqb (size - d) 0 (λ z. omega arith), k, lt-ltb own d l)))
+            | no l ↦
+                (let k : size - (size - d - 1) ≡ d + 1 = omega arith in
+                (size - d - 1, omega arith, rw (ne-eqb (size - d - 1) 0 (λ z. omega arith), k, le-ltb own (d + 1) (omega arith)) (omega arith)))
+          ]
     ]
 
 module _ {shape : ℕ} {w : List ℕ} {at groups p : ℕ} where
@@ -186,7 +201,7 @@ module _ {shape : ℕ} {w : List ℕ} {at groups p : ℕ} where
   cells-all g start h x =
       record {
         adds = λ cell k.
-            adds-like (λ q. FirstCells g start 16 (cell q)) (λ q. InGroup g (cell q)) (λ q b e. (e, turned-all 16 start (cell q % 16) h (omega arith)))
+            adds-like (λ q. FirstCells g start 16 (cell q)) (λ q. InGroup g (cell q)) (λ q b e. (e, counted-all 16 start (cell q % 16) h (omega arith)))
             (x .adds cell k);
       }
 
@@ -197,11 +212,11 @@ module _ {shape : ℕ} {w : List ℕ} {at groups p : ℕ} where
       }
 
   pub groups-more : (start i : ℕ) {from best better : Leader} → CellAdded shape w at groups p (FirstGroups groups start i) from best
-      → CellAdded shape w at groups p (InGroup (countedDown groups start i)) best better → CellAdded shape w at groups p (FirstGroups groups start (i + 1)) from better
+      → CellAdded shape w at groups p (InGroup (ownFirst groups start i)) best better → CellAdded shape w at groups p (FirstGroups groups start (i + 1)) from better
   groups-more start i x y =
       record {
         adds = λ cell k.
-            adds-then (λ q. FirstGroups groups start i (cell q)) (λ q. InGroup (countedDown groups start i) (cell q))
+            adds-then (λ q. FirstGroups groups start i (cell q)) (λ q. InGroup (ownFirst groups start i) (cell q))
             (λ q. FirstGroups groups start (i + 1) (cell q))
             (λ q b (j, l, f). elim (ℕ-discrete j i) [ yes n ↦ inr (sym (rw n at f)) | no n ↦ inl (j, omega arith, f) ]) (x .adds cell k) (y .adds cell k);
       }
@@ -217,7 +232,7 @@ module _ {shape : ℕ} {w : List ℕ} {at groups p : ℕ} where
               k,
               λ q h l.
                   elim (decLt (g .cell q) (cellCount groups)) [
-                    | yes i ↦ n q h (turned-all groups start (g .cell q / 16) hs (omega arith))
+                    | yes i ↦ n q h (own-all groups start (g .cell q / 16) hs (omega arith))
                     | no i ↦ nobody q (g .in-grid .left-out q h (omega arith))
                   ],
             );

@@ -6,22 +6,26 @@ use mathlib.Core.List.{List}
 use mathlib.Core.Logic.{_⊎_, inl, inr}
 use native.Mathlib.Omega.{arith}
 use native.Mathlib.Nat.{mul-le-mul}
-use native.Mathlib.Decide.{ℕ-discrete}
+use native.Mathlib.Decide.{decLt, ℕ-discrete}
 use borrow.Author.Tests.{ltb-true, ltb-false}
 use lib.Dec.{ltb}
 use Rattle.fractions.specs.declared.Fraction.{Fraction}
 use Rattle.fractions.specs.Order.{less, Less, AtMost, Later}
 use Rattle.fractions.specs.Laws.{less-iff, order, atMost-trans, less-atMost, atMost-less}
+use Rattle.marks.specs.Marks.{larger}
+use Rattle.marks.specs.Laws.{larger-least}
+use Rattle.marks.specs.Pairs.{popupValue}
+use Rattle.marks.specs.PairLaws.{popup-grows, pair-popup}
 use Rattle.elimination.specs.declared.Record.{Record}
 use Rattle.elimination.specs.Marks.{Marks, Proper}
 use Rattle.elimination.specs.Process.{Removal, stays, gone, when}
 use Rattle.elimination.specs.RankOrder.{Stands, Found}
 use Rattle.elimination.specs.Records.{fractionOf}
 use Rattle.searching.specs.declared.Leader.{Leader}
-use Rattle.searching.specs.Rows.{rowNumber, rowRecord, rowValue, rowsPair, never, rowNever, Stored}
+use Rattle.searching.specs.Rows.{rowNumber, rowPopup, rowRecord, rowValue, rowsTouch, rowsPair, never, rowNever, Stored}
 use Rattle.searching.specs.Scan.{Above, Scanned}
 use Rattle.searching.proofs.Zero.{zero-factor}
-use Rattle.searching.specs.Search.{leaderValue, none, Admitted, precedes, StandsAt, Positive, Before, Leads, Real, Adds, Only, Higher}
+use Rattle.searching.specs.Search.{leaderValue, none, Admitted, precedes, StandsAt, Positive, Before, Leads, Real, Adds, Only, Higher, BestOfFirst, isLeast}
 
 -- ---- the tests, on a stored value
 
@@ -88,6 +92,37 @@ module _ {shape : ℕ} {w : List ℕ} {p : ℕ} where
   pub higher-more : {k : ℕ} {c d e : Leader} → Adds shape w p (Higher k) c d → Adds shape w p (Only k) d e → Adds shape w p (Higher (k + 1)) c e
   higher-more {k} =
       adds-then (Higher k) (Only k) (Higher (k + 1)) (λ q h l. elim (ℕ-discrete q k) [ yes e ↦ inr e | no e ↦ inl (omega arith) ])
+
+-- ---- a value that no pair value of row p is below
+
+-- it is the best of all, where rows come in the order of rank
+module _ {shape : ℕ} {w : List ℕ} {p k : ℕ} {c : Leader} (b : BestOfFirst shape w p k c) {r : Bool} (r-is : r ≡ isLeast w p c) (yes-least : r ≡ true) where
+  least : AtMost (leaderValue c) (popupValue (rowPopup w p))
+  unfolding isLeast
+  least = go (less (popupValue (rowPopup w p)) (leaderValue c)) refl (sym r-is ∙ yes-least)
+    where
+      go : (x : Bool) → less (popupValue (rowPopup w p)) (leaderValue c) ≡ x → cond x false true ≡ true → AtMost (leaderValue c) (popupValue (rowPopup w p))
+      go true e f = absurd (false≢true f)
+      go false e f = at-most e
+
+  popup-least : (q : ℕ) → AtMost (popupValue (rowPopup w p)) (rowsPair shape w q p)
+  popup-least q =
+      let n = larger (rowPopup w q) (rowPopup w p) in
+      let d : 0 < popupValue n .den = omega arith in
+      atMost-trans d (popup-grows (larger-least (rowPopup w q) (rowPopup w p) .1)) (pair-popup (rowsTouch shape w q p) n)
+
+  pub least-all : {e : ℕ} → Adds shape w p (Higher e) none c
+  least-all {e} =
+      record {
+        step = λ pos re.
+            let (x, keep, first) = b .adds .step pos re in
+            (x, keep, λ q h l. elim (decLt q k) [ yes i ↦ first q h i | no i ↦ behind q (omega arith) ]);
+      }
+    where
+      behind : (q : ℕ) → k ≤ q → Before shape w p c q
+      behind q i =
+          let d : 0 < popupValue (rowPopup w p) .den = omega arith in
+          record { atMost = λ s. atMost-trans d least (popup-least q); less = λ s j. absurd (omega (arith, b .low)) }
 
 -- ---- one row, of the value v
 

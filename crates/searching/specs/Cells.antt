@@ -3,7 +3,7 @@ use Prim.Native.Nat.{ℕ, suc, _+_, _-_, _/_, _%_, _<_, _≤_}
 use mathlib.Core.Path.{_≡_}
 use mathlib.Core.Bool.{Bool, false, cond}
 use mathlib.Core.List.{List}
-use lib.Dec.{leb}
+use lib.Dec.{leb, ltb, eqb}
 use Rattle.fractions.specs.Order.{less}
 use Rattle.marks.specs.declared.Label.{Label}
 use Rattle.grid.specs.declared.Region.{Region}
@@ -66,13 +66,17 @@ InGroup g d = d / 16 ≡ g
 abbrev pub countedDown : ℕ → ℕ → ℕ → ℕ
 countedDown size start i = cond (leb i start) (start - i) (size + start - i)
 
--- one of the first i of them
-abbrev pub InTurn : ℕ → ℕ → ℕ → ℕ → Type 0
-InTurn size start i d = (j : ℕ) × (j < i) × (countedDown size start j ≡ d)
+-- the i-th of them, of which `own` comes first, and then the others from the greatest down
+abbrev pub ownFirst : ℕ → ℕ → ℕ → ℕ
+ownFirst size own i = cond (eqb i 0) own (cond (ltb own (size - i)) (size - i) (size - i - 1))
+
+-- one of the first i in this order
+abbrev pub InTurn : (ℕ → ℕ) → ℕ → ℕ → Type 0
+InTurn order i d = (j : ℕ) × (j < i) × (order j ≡ d)
 
 -- the first i cells of group g, and the cells of the first i groups
 abbrev pub FirstCells : ℕ → ℕ → ℕ → ℕ → Type 0
-FirstCells g start i d = (d / 16 ≡ g) × InTurn 16 start i (d % 16)
+FirstCells g start i d = (d / 16 ≡ g) × InTurn (countedDown 16 start) i (d % 16)
 
 abbrev pub FirstGroups : ℕ → ℕ → ℕ → ℕ → Type 0
-FirstGroups groups start i d = InTurn groups start i (d / 16)
+FirstGroups groups own i d = InTurn (ownFirst groups own) i (d / 16)

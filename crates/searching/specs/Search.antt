@@ -8,6 +8,7 @@ use lib.ListN.{length}
 use Rattle.fractions.specs.declared.Fraction.{Fraction}
 use Rattle.fractions.specs.Order.{less, Less, AtMost, Small}
 use Rattle.marks.specs.declared.Label.{Label}
+use Rattle.marks.specs.Pairs.{popupValue}
 use Rattle.elimination.specs.declared.Record.{Record}
 use Rattle.searching.specs.declared.Leader.{Leader}
 use Rattle.searching.specs.Rows.{rowSize, rowLabel, rowPopup, rowValue, rowsPair, never, Complete}
@@ -87,6 +88,16 @@ Only j q = q ≡ j
 
 abbrev pub Higher : ℕ → ℕ → Type 0
 Higher k q = q < k
+
+-- c is the best of the first k rows
+pub record BestOfFirst (shape : ℕ) (w : List ℕ) (p k : ℕ) (c : Leader) : Type 0 where
+  pub admitted : Admitted p c
+  pub adds : Adds shape w p (Higher k) none c
+  pub low : c .row ≤ k
+
+-- its value is at most row p's popup value, which no pair value of row p is below
+unfoldable pub isLeast : List ℕ → ℕ → Leader → Bool
+isLeast w p c = cond (less (popupValue (rowPopup w p)) (leaderValue c)) false true
 
 -- from c to d with row q, by any shape by which v is its pair value with row p
 pub record AddsBy (w : List ℕ) (p q : ℕ) (v : Fraction) (c d : Leader) : Type 0 where

@@ -13,10 +13,10 @@ ghost use lib.ListN.{length};
 ghost use Rattle.fractions.specs.Order.{Small};
 ghost use Rattle.marks.specs.Marks.{touchingOf};
 ghost use Rattle.grid.specs.Table.{cellCount, EntriesLow};
-ghost use Rattle.searching.specs.Rows.{rowSize, rowLabel, rowPopup, rowRecord, rowValue};
+ghost use Rattle.searching.specs.Rows.{rowSize, rowLabel, rowPopup, rowRecord, rowValue, rowsPair};
 ghost use Rattle.searching.specs.Scan.{Scanned};
-ghost use Rattle.searching.specs.Search.{leaderValue, none, precedes, Comparable, Admitted, SearchFor, Zeroed, Adds, AddsBy, FoundBy, Only, Higher, OneOf};
-ghost use Rattle.searching.specs.Cells.{Gridded, CellAdded, Own, InGroup, mayLead, countedDown};
+ghost use Rattle.searching.specs.Search.{leaderValue, none, precedes, isLeast, Comparable, Admitted, SearchFor, Zeroed, Adds, AddsBy, BestOfFirst, FoundBy, Only, Higher, OneOf};
+ghost use Rattle.searching.specs.Cells.{Gridded, CellAdded, Own, InGroup, mayLead, countedDown, ownFirst};
 
 // Among so few rows a scan of all is as fast as a search by cells.
 const FEW: usize = 32;
@@ -116,9 +116,41 @@ fn precedes(f: Fraction, g: Fraction, tie: bool) -> bool
     left < bound
 }
 
+// The pair value of row q and row p, whose label is given. Where no row has a popup, which `popped` tells, it is the touching value; that `popped`
+// changes in no loop keeps the reading of popups out of the inner one.
+fn pair_at(w: &[u8], q: usize, p: usize, shape: u8, label: Label, popped: bool) -> Fraction
+    requires { ⌜ SearchFor popped (now w) p label × (q < p) ⌝ }
+    ensures { λ v. ⌜ (v ≡ rowsPair shape (now (w .entry)) q p) × Comparable (now (w .entry)) p q v ⌝ }
+{
+    let touch = touching_row(w, q, shape, label);
+    if popped {
+        let k = marks::larger(row_popup(w, q), row_popup(w, p));
+        return marks::pair_of(touch, k);
+    }
+    touch
+}
+
 // Row q, whose pair value with row p is v, against the best found so far: it takes its place if v goes before its value and row q is removed
 // later. A tie goes to the higher-ranked row, which `tie` says is row q.
 fn better_pair(w: &[u8], q: usize, p: usize, v: Fraction, best: Leader, tie: bool) -> Leader
+    requires { ⌜ Comparable (now w) p q v × (q < p) × Admitted p best × (tie ≡ ltb q (best .row)) ⌝ }
+    ensures { λ t. ⌜ Admitted p t × AddsBy (now (w .entry)) p q v best t × OneOf q best t ⌝ }
+{
+    if precedes(v, leader_value(best), tie) {
+        if fractions::less_small(v, row_value(w, q)) {
+            let taken = q as u32;
+            return Leader {
+                num: v.num,
+                den: v.den,
+                row: taken,
+            };
+        }
+    }
+    best
+}
+
+// The same without a branch. In the chains of the cells around a mark it is less often foreseen whether a row goes before the best.
+fn better_chosen(w: &[u8], q: usize, p: usize, v: Fraction, best: Leader, tie: bool) -> Leader
     requires { ⌜ Comparable (now w) p q v × (q < p) × Admitted p best × (tie ≡ ltb q (best .row)) ⌝ }
     ensures { λ t. ⌜ Admitted p t × AddsBy (now (w .entry)) p q v best t × OneOf q best t ⌝ }
 {
@@ -135,8 +167,73 @@ fn better_pair(w: &[u8], q: usize, p: usize, v: Fraction, best: Leader, tie: boo
     best
 }
 
-// The same for row p, whose label is given. Where no row has a popup, which `popped` tells, the touching value is the pair value; that `popped`
-// changes in no loop keeps the reading of popups out of the inner one.
+// ---- rows in the order of rank
+
+// Row q, which ranks below all that were met, against the best of these: so no tie goes to it.
+fn better_next(
+    w: &[u8],
+    q: usize,
+    p: usize,
+    shape: u8,
+    label: Label,
+    best: Leader,
+    popped: bool,
+) -> Leader
+    requires { ⌜ SearchFor popped (now w) p label × (q < p) × Admitted p best × (best .row ≤ q) ⌝ }
+    ensures { λ t. ⌜ Admitted p t × Adds shape (now (w .entry)) p (Only q) best t × OneOf q best t ⌝ }
+{
+    let v = pair_at(w, q, p, shape, label, popped);
+    better_pair(w, q, p, v, best, false)
+}
+
+// Has a value been found that no pair value of row p is below? Its popup value is such a one.
+fn is_least(w: &[u8], p: usize, best: Leader) -> bool
+    requires { ⌜ (rowSize * p + rowSize ≤ length (now w)) × (rowPopup (now w) p ≤ 65536) × Admitted p best ⌝ }
+    ensures { λ r. ⌜ r ≡ isLeast (now (w .entry)) p best ⌝ }
+{
+    let k = row_popup(w, p) as u64;
+    let floor = Fraction {
+        num: k * k,
+        den: 4096,
+    };
+    if fractions::less_small(floor, leader_value(best)) {
+        return false;
+    }
+    true
+}
+
+// The best of the first `end` rows above p. They are met from the highest rank down, two a turn, so that the inner loop counts half as often. Among
+// rows with popups it may be the best of all: then nothing that ranks lower goes before it.
+fn scan_rows(w: &[u8], p: usize, end: usize, shape: u8, label: Label, popped: bool) -> Leader
+    requires { ⌜ SearchFor popped (now w) p label × (end ≤ p) ⌝ }
+    ensures { λ t. ⌜ BestOfFirst shape (now (w .entry)) p end t ⌝ }
+{
+    let mut best = Leader {
+        num: 1,
+        den: 0,
+        row: 0,
+    };
+    let mut q = 0;
+    while q + 1 < end {
+        best = better_next(w, q, p, shape, label, best, popped);
+        best = better_next(w, q + 1, p, shape, label, best, popped);
+        q += 2;
+        if popped {
+            if is_least(w, p, best) {
+                return best;
+            }
+        }
+    }
+    if q < end {
+        return better_next(w, q, p, shape, label, best, popped);
+    }
+    best
+}
+
+// ---- the best row by cells, of the grid at `at`
+
+// Row q against the best so far of rows in any order: a tie goes to row q where `tie` says that it ranks higher. A popup often decides alone, and then
+// no other row goes before the best.
 fn better(
     w: &[u8],
     q: usize,
@@ -150,38 +247,12 @@ fn better(
     requires { ⌜ SearchFor popped (now w) p label × (q < p) × Admitted p best × (tie ≡ ltb q (best .row)) ⌝ }
     ensures { λ t. ⌜ Admitted p t × Adds shape (now (w .entry)) p (Only q) best t × OneOf q best t ⌝ }
 {
-    let touch = touching_row(w, q, shape, label);
+    let v = pair_at(w, q, p, shape, label, popped);
     if popped {
-        let k = marks::larger(row_popup(w, q), row_popup(w, p));
-        return better_pair(w, q, p, marks::pair_of(touch, k), best, tie);
+        return better_pair(w, q, p, v, best, tie);
     }
-    better_pair(w, q, p, touch, best, tie)
+    better_chosen(w, q, p, v, best, tie)
 }
-
-// The best of all rows above p. They are met from the highest rank down, so that no tie goes to a later one: the inner loop does not ask, and takes
-// two rows a turn, so that it counts half as often.
-fn scan_rows(w: &[u8], p: usize, shape: u8, label: Label, popped: bool) -> Leader
-    requires { ⌜ SearchFor popped (now w) p label ⌝ }
-    ensures { λ t. ⌜ Admitted p t × Adds shape (now (w .entry)) p (Higher p) none t ⌝ }
-{
-    let mut best = Leader {
-        num: 1,
-        den: 0,
-        row: 0,
-    };
-    let mut q = 0;
-    while q + 1 < p {
-        best = better(w, q, p, shape, label, best, false, popped);
-        best = better(w, q + 1, p, shape, label, best, false, popped);
-        q += 2;
-    }
-    if q < p {
-        return better(w, q, p, shape, label, best, false, popped);
-    }
-    best
-}
-
-// ---- the best row by cells, of the grid at `at`
 
 // The rows of cell c against the best so far.
 fn scan_cell(
@@ -256,6 +327,18 @@ fn counted_down(size: usize, start: usize, i: usize) -> usize
     }
 }
 
+// The i-th of `size` numbers from 0 on, of which `own` comes first, and then the others from the greatest down.
+fn own_first(size: usize, own: usize, i: usize) -> usize
+    requires { ⌜ (own < size) × (i < size) ⌝ }
+    ensures { λ r. ⌜ (r ≡ ownFirst size own i) × (r < size) ⌝ }
+{
+    if i == 0 {
+        return own;
+    }
+    let k = size - i;
+    if own < k { k } else { k - 1 }
+}
+
 // The rows of the cells of group g, beginning with the one that has the place `first` in it. A best of value 0 is the best of all: of the rows at
 // one place only one can remove another.
 fn scan_cells(
@@ -310,7 +393,7 @@ fn scan_group(
 }
 
 // The best of all rows above p by cells, for a mark that belongs into the cell `own`: its own cell and group come first, since with what lies near
-// the rest is soon too far.
+// the rest is soon too far. Then comes the last group, where the large marks are: with what touches from afar it is so, too.
 fn scan_grid(
     w: &[u8],
     at: usize,
@@ -333,7 +416,7 @@ fn scan_grid(
     };
     let mut i = 0;
     while i < groups {
-        let g = counted_down(groups, group, i);
+        let g = own_first(groups, group, i);
         best = scan_group(w, at, groups, p, g, first, shape, label, best, popped);
         if best.num == 0 {
             return best;
@@ -343,7 +426,8 @@ fn scan_grid(
     best
 }
 
-// The best of all rows above p. Where they are few, all are scanned.
+// The best of all rows above p. Where they are few, all are scanned. For a mark that pops up the first ones are scanned before the others: often one of
+// these touches it as soon as it does.
 fn search(
     w: &[u8],
     at: usize,
@@ -358,7 +442,13 @@ fn search(
     ensures { λ t. ⌜ Admitted p t × Adds shape (now (w .entry)) p (Higher p) none t ⌝ }
 {
     if p < FEW {
-        return scan_rows(w, p, shape, label, popped);
+        return scan_rows(w, p, p, shape, label, popped);
+    }
+    if 0 < row_popup(w, p) {
+        let top = scan_rows(w, p, FEW, shape, label, popped);
+        if is_least(w, p, top) {
+            return top;
+        }
     }
     scan_grid(w, at, groups, p, own, shape, label, popped)
 }
@@ -391,7 +481,7 @@ pub fn best_of(w: &[u8], p: usize, shape: u8, label: Label, popped: bool) -> Rec
     requires { ⌜ SearchFor popped (now w) p label ⌝ }
     ensures { λ t. ⌜ Scanned shape (now (w .entry)) p t ⌝ }
 {
-    found_of(w, p, scan_rows(w, p, shape, label, popped))
+    found_of(w, p, scan_rows(w, p, p, shape, label, popped))
 }
 
 // The same by the grid at `at` of so many groups, for a mark that belongs into the cell `own`.

@@ -26,16 +26,16 @@ loop-holds c = (
   groups-none _ none,
 )
 
-counted-down-requires : tie.Need-counted-down-requires Inv-loop μ-loop
-counted-down-requires c κs =
+own-first-requires : tie.Need-own-first-requires Inv-loop μ-loop
+own-first-requires c κs =
     let l = c .before in
-    (l .loop .inv .1, c .loop-test .taken, omega (arith, l .before .before .pre .3))
+    (l .loop .inv .1, c .loop-test .taken)
 
 scan-group-requires : tie.Need-scan-group-requires Inv-loop μ-loop
 scan-group-requires c κs =
     let l = c .before .before in
     let a = l .before .before in
-    (a .pre .0, a .pre .1 .ready, c .counted-down .ensures .1, l .loop .inv .2, l .loop .inv .3, a .pre .4)
+    (a .pre .0, a .pre .1 .ready, c .own-first .ensures .1, l .loop .inv .2, l .loop .inv .3, a .pre .4)
 
 returns : tie.Need-returns Inv-loop μ-loop
 returns c =
@@ -43,7 +43,7 @@ returns c =
     let l = d .before .before in
     let a = l .before .before in
     let n = c .before .before in
-    let more = groups-more (a .args .own / 16) (l .loop .i) (l .loop .inv .4) (rw (d .counted-down .ensures .0) at (n .scan-group .ensures .1)) in
+    let more = groups-more (a .args .own / 16) (l .loop .i) (l .loop .inv .4) (rw (d .own-first .ensures .0) at (n .scan-group .ensures .1)) in
     (n .scan-group .ensures .0, all-groups (a .args .own / 16) (l .loop .inv .1) (a .pre .1) (at-zero (a .pre .4) (c .if1 .taken) more))
 
 add-i : tie.Need-add-i Inv-loop μ-loop
@@ -63,7 +63,7 @@ loop-again c =
       l .loop .inv .1,
       l .loop .inv .2,
       n .scan-group .ensures .0,
-      groups-more (a .args .own / 16) (l .loop .i) (l .loop .inv .4) (rw (d .counted-down .ensures .0) at (n .scan-group .ensures .1)),
+      groups-more (a .args .own / 16) (l .loop .i) (l .loop .inv .4) (rw (d .own-first .ensures .0) at (n .scan-group .ensures .1)),
     )
 
 returns-2 : tie.Need-returns-2 Inv-loop μ-loop
@@ -80,7 +80,7 @@ scan-grid-spec =
     Inv-loop
     μ-loop
     loop-holds
-    counted-down-requires
+    own-first-requires
     scan-group-requires
     returns
     add-i

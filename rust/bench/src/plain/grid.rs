@@ -162,7 +162,8 @@ fn small_groups(n: usize) -> usize {
     match n {
         ..400 => 2,
         400..768 => 4,
-        _ => 8,
+        768..2_048 => 8,
+        _ => 16,
     }
 }
 
@@ -181,17 +182,15 @@ fn division(across: u32, down: u32, groups: usize) -> ([u32; 2], Order) {
     (cells, Order::Squares { rows })
 }
 
-/// How many of 2, 4 or 8 groups stand side by side, so that cells are about square.
+/// How many of so many groups stand side by side, a power of 2, so that cells are about
+/// square.
 fn columns_of(across: u32, down: u32, groups: usize) -> usize {
-    match groups {
-        8 if 4 * down <= across => 8,
-        8 if down <= across => 4,
-        8 if down <= 4 * across => 2,
-        4 if 2 * down <= across => 4,
-        4 if down <= 2 * across => 2,
-        2 if down <= across => 2,
-        _ => 1,
+    let groups = groups as u32;
+    let mut columns = 1;
+    while columns < groups && 2 * columns * columns * down <= groups * across {
+        columns *= 2;
     }
+    columns as usize
 }
 
 /// The groups of cells, and the chains of rows.
@@ -233,8 +232,8 @@ impl Grid {
     }
 
     /// Goes through the rows that may touch a label of a shape as soon as the best so far, its
-    /// own cell and group first: `better` gives the better of the best and a row, and `value`
-    /// the value of the best.
+    /// own cell and group first, and then the group of large marks: `better` gives the better of
+    /// the best and a row, and `value` the value of the best.
     #[inline(always)]
     pub fn search<B: Copy>(
         &self,
@@ -245,7 +244,7 @@ impl Grid {
         better: impl Fn(B, usize) -> B,
     ) -> B {
         let mut best = none;
-        for group in counted_down(self.groups.len(), own / GROUP_SIZE) {
+        for group in own_first(self.groups.len(), own / GROUP_SIZE) {
             let group = &self.groups[group];
             if !group.region.may_touch(label, shape, value(best)) {
                 continue;
@@ -267,6 +266,12 @@ impl Grid {
         let before = move |&q: &usize| row(self.links[q]);
         std::iter::successors(row(cell.last), before)
     }
+}
+
+/// The numbers below `size`: `own`, and then the others from the greatest down.
+#[inline]
+fn own_first(size: usize, own: usize) -> impl Iterator<Item = usize> {
+    std::iter::once(own).chain((0..size).rev().filter(move |&i| i != own))
 }
 
 /// The numbers below `size`, counted down from `start`, and then from the greatest.

@@ -11,6 +11,7 @@ use oracle::record::{Record, RECORD_BYTES};
 use oracle::shape::Shape;
 use oracle::sheet::{part_lengths, Rows};
 use oracle::tree::{write_number, Axis, AxisKey, INDEX_BYTES};
+use oracle::zoom::zoom_squared;
 use oracle::{ask, Refusal};
 
 use super::count::part_6;
@@ -40,6 +41,13 @@ impl RowPopups {
             [] => touching,
             popups => pair_value(touching, popups[p].max(popups[q])),
         }
+    }
+
+    /// The popup value of row p, which none of its pair values is below, where it pops up at all.
+    #[inline]
+    fn least(&self, p: usize) -> Option<Value> {
+        let popup = self.0.get(p).copied().filter(|&popup| popup > 0)?;
+        Some(zoom_squared(popup).into())
     }
 }
 
@@ -245,9 +253,6 @@ impl Desk {
 
     /// The rank-order core with cells, where the rows are many.
     fn settle_by_cells(&mut self) {
-        if self.rows.len() < MANY {
-            return self.settle();
-        }
         match self.shape {
             Shape::Disk => self.settle_by_cells_as(Shape::Disk),
             Shape::Square => self.settle_by_cells_as(Shape::Square),
@@ -257,31 +262,70 @@ impl Desk {
     /// The same for labels of a shape, once for each.
     #[inline(always)]
     fn settle_by_cells_as(&mut self, shape: Shape) {
-        self.grid.lay_over(self.rows.iter().map(|row| row.label));
+        let many = self.rows.len() >= MANY;
+        if many {
+            self.grid.lay_over(self.rows.iter().map(|row| row.label));
+        }
         for p in 0..self.rows.len() {
             let label = self.rows[p].label;
-            let cell = self.grid.cell_of(label);
-            let best = self.search(p, label, cell, shape);
-            self.grid.enter(cell, label, best.value);
+            let best = if many {
+                let cell = self.grid.cell_of(label);
+                let best = self.search(p, label, cell, shape);
+                self.grid.enter(cell, label, best.value);
+                best
+            } else {
+                self.scan(p, p, label, shape)
+            };
             self.rows[p].value = best.value;
             self.rows[p].eliminator = best.row as u32;
         }
     }
 
-    /// The best of all rows above p, whose own cell is searched first, so that the others
-    /// are soon too far.
+    /// The better of the best so far for row p, of this label, and row q.
+    #[inline(always)]
+    fn better(&self, p: usize, label: Label, shape: Shape, best: Candidate, q: usize) -> Candidate {
+        let touching = label.touching_value(self.rows[q].label, shape);
+        best.or(&self.rows, q, touching, |touching| {
+            self.popups.pair_value(p, q, touching)
+        })
+    }
+
+    /// The best of the first rows above p, met from the highest rank down. It ends where no
+    /// other row can go before the best.
+    #[inline(always)]
+    fn scan(&self, p: usize, end: usize, label: Label, shape: Shape) -> Candidate {
+        let mut best = Candidate::NONE;
+        for q in 0..end {
+            best = self.better(p, label, shape, best, q);
+            if self.ends(p, best) {
+                break;
+            }
+        }
+        best
+    }
+
+    /// Whether a row of value `best` was found that none of lower rank goes before.
+    #[inline]
+    fn ends(&self, p: usize, best: Candidate) -> bool {
+        let least = self.popups.least(p);
+        least.is_some_and(|least| !best.value.later_than(least))
+    }
+
+    /// The best of all rows above p: among the first ones, where row p pops up as late as one
+    /// of these touches it, and else by cells, of which its own is searched first, so that the
+    /// others are soon too far.
     #[inline(always)]
     fn search(&self, p: usize, label: Label, own: usize, shape: Shape) -> Candidate {
-        let rows = self.rows.as_slice();
-        let better = |best: Candidate, q: usize| {
-            let touching = label.touching_value(rows[q].label, shape);
-            best.or(rows, q, touching, |touching| {
-                self.popups.pair_value(p, q, touching)
-            })
-        };
         if p < FEW {
-            return (0..p).fold(Candidate::NONE, better);
+            return self.scan(p, p, label, shape);
         }
+        if self.popups.least(p).is_some() {
+            let top = self.scan(p, FEW, label, shape);
+            if self.ends(p, top) {
+                return top;
+            }
+        }
+        let better = |best, q| self.better(p, label, shape, best, q);
         let value = |best: Candidate| best.value;
         self.grid
             .search(own, (label, shape), Candidate::NONE, value, better)
