@@ -1,96 +1,30 @@
 -- What the contracts of the judge's search cite. `r` is a reel, `p` part 2 of its sheet and `t` part 3; an axis is true for x.
 use Prim.Native.Nat.{ℕ, suc, _+_, _-_, _*_, _/_, _<_, _≤_}
 use mathlib.Core.Path.{_≡_}
-use mathlib.Core.Bool.{Bool, true, false, not, cond, _&&_, _||_}
+use mathlib.Core.Bool.{Bool, true, false, not, cond}
 use mathlib.Core.List.{List}
 use mathlib.Core.Logic.{_≢_}
 use lib.ListN.{length, getD}
-use lib.Dec.{eqb}
 use Rattle.lists.specs.Tests.{every}
 use Rattle.lists.specs.Blocks.{block}
-use Rattle.fractions.specs.declared.Fraction.{Fraction}
-use Rattle.fractions.specs.declared.Value.{Value}
-use Rattle.fractions.specs.declared.Value.the-variants.{Never, At}
-use Rattle.fractions.specs.Order.{less, Small}
-use Rattle.marks.specs.Marks.{markSize, labelAt, usedAt, outranks}
-use Rattle.marks.specs.Pairs.{popupAt, popupValue, pairValue, GoodPopup, GoodPopups}
-use Rattle.marks.specs.Good.{GoodMarks}
-use Rattle.elimination.specs.Records.{recordSize, eliminatorAt, valueAt}
+use Rattle.marks.specs.Marks.{markSize, usedAt}
 use Rattle.elimination.specs.Reel.{Reel}
 use Rattle.index.specs.Index.{beats, coordinate, axisKey, indexEntrySize, isIndex}
 use Rattle.index.specs.Valid.{isTree}
 use Rattle.index.specs.Blocks.{entryAt}
 use Rattle.index.specs.Check.{AllBelow}
-use Rattle.parts.specs.Questions.{isSchedule}
-use Rattle.judging.specs.declared.Subject.{Subject}
+use Rattle.clashing.specs.declared.Subject.{Subject}
+use Rattle.clashing.specs.Clash.{clash, widestRadius, isTight, subjectOf, Asked, Subjected, Fits}
 use Rattle.judging.specs.declared.Corner.{Corner}
 
--- ---- who clashes with mark m
+-- ---- nobody clashes
 
--- a removal value as a fraction: 'never', later than all, is 1/0
-unfoldable pub limitOf : Value → Fraction
-limitOf Never = record { num = 1; den = 0 }
-limitOf (At f) = f
-
-abbrev pub limitAt : List ℕ → ℕ → Fraction
-limitAt p m = limitOf (valueAt p m)
-
--- Mark g is not removed before m, and their pair value is below m's removal value; or it is that value, and then m should have named g.
--- A pair is seen from the mark that is removed first, and from both where they are removed together.
-unfoldable pub clash : Reel → List ℕ → ℕ → ℕ → Bool
-clash r p m g =
-    let v = limitAt p m in
-    let w = limitAt p g in
-    let f = pairValue (r .shape) (r .marks) (r .popups) g m in
-    not (eqb g m) && (not (less w v)
-    && (less f v || (not (less v f) && (less f w && (outranks (r .edition) (r .marks) g m && outranks (r .edition) (r .marks) g (eliminatorAt p m))))))
-
--- nobody clashes with m; with any mark
+-- with m; with any mark
 unfoldable pub isClear : Reel → List ℕ → ℕ → Bool
 isClear r p m = every (λ g. not (clash r p m g)) (r .count)
 
 unfoldable pub allClear : Reel → List ℕ → Bool
 allClear r p = every (isClear r p) (r .count)
-
--- ---- the search for them
-
--- the largest radius that a mark may have
-abbrev pub widestRadius : ℕ
-widestRadius = 16383
-
--- Mark m is removed no later than it pops up. No pair value of m is below that, so that only a mark that is removed later clashes with it.
-abbrev pub isTight : List ℕ → List ℕ → ℕ → Bool
-isTight popups p m = not (less (popupValue (popupAt popups m)) (limitAt p m))
-
--- mark m of the marks `s`, with what the search asks of it: the bound is one of the radii
-unfoldable pub subjectOf : ℕ → List ℕ → List ℕ → List ℕ → ℕ → ℕ → Subject
-subjectOf shape s popups p bound m =
-    record {
-      m = m;
-      label = labelAt s m;
-      value = limitAt p m;
-      tight = isTight popups p m;
-      shape = shape;
-      x = coordinate s true m;
-      y = coordinate s false m;
-      reach = (usedAt s m + bound) * (usedAt s m + bound);
-    }
-
--- A block ends at a root that is removed at 0, or before m; if m is tight, also at one that is removed together with m.
-abbrev pub isOver : Bool → Fraction → Fraction → Bool
-isOver tight w v = eqb (w .num) 0 || cond tight (not (less v w)) (less w v)
-
--- how far a half lies from the place, at least: the left half is at most at `split`, the right half at least there
-abbrev pub gapTo : Bool → ℕ → ℕ → ℕ
-gapTo left place split = cond left (place - split) (split - place)
-
--- The half lies so far that no radius within the bound reaches m before m is removed.
-abbrev pub isFar : Subject → Bool → Bool → ℕ → Bool
-isFar q axis left split =
-    let d = gapTo left (cond axis (q .x) (q .y)) split in less (q .value) (record { num = d * d; den = q .reach })
-
-unfoldable pub sizeToSearch : Subject → Bool → Bool → ℕ → ℕ → ℕ
-sizeToSearch q axis left split size = cond (isFar q axis left split) 0 size
 
 -- ---- the table of splits: `z lo` is for the block whose root is at place lo, `e i` the mark at place i
 
@@ -109,14 +43,7 @@ Table s p t z = Splits s p (entryAt t) (λ i. getD z i 0)
 
 -- ---- what the functions need
 
--- parts 1 and 5 passed questions 4 to 6 and 21, and part 2 questions 7 and 8
-pub record Asked (r : Reel) (p : List ℕ) : Type 0 where
-  pub marks : GoodMarks (r .marks) (r .count)
-  pub popped : GoodPopups (r .popups) (r .count)
-  pub schedule-long : length p ≡ recordSize * r .count
-  pub right : isSchedule r p ≡ true
-
--- and part 3 is there
+-- what was asked of parts 1, 2 and 5, and part 3 is there
 pub record Indexed (r : Reel) (p t : List ℕ) : Type 0 where
   pub asked : Asked r p
   pub index-long : length t ≡ indexEntrySize * r .count
@@ -127,37 +54,6 @@ pub record Judgeable (r : Reel) (p t : List ℕ) : Type 0 where
   pub asked : Asked r p
   pub index-long : length t ≡ indexEntrySize * r .count
   pub index-right : isIndex (r .marks) p t (r .count) ≡ true
-
--- what a subject is made from
-pub record Subjectable (s popups p : List ℕ) (bound m : ℕ) : Type 0 where
-  pub marked : markSize * m + markSize ≤ length s
-  pub popup : GoodPopup popups m
-  pub scheduled : recordSize * m + recordSize ≤ length p
-  pub limit-small : Small (limitAt p m)
-  pub used : usedAt s m ≤ widestRadius
-  pub bound-small : bound ≤ widestRadius
-
--- what a subject has: its mark is one of n, and label and removal value are that mark's
-pub record Subjected (s : List ℕ) (n : ℕ) (p : List ℕ) (q : Subject) : Type 0 where
-  pub inside : q .m < n
-  pub label-is : q .label ≡ labelAt s (q .m)
-  pub value-is : q .value ≡ limitAt p (q .m)
-
--- what the pair value with mark g is made from
-pub record Paired (s popups : List ℕ) (q : Subject) (g : ℕ) : Type 0 where
-  pub label-is : q .label ≡ labelAt s (q .m)
-  pub marked : markSize * g + markSize ≤ length s
-  pub used : usedAt s g ≤ widestRadius
-  pub own-used : usedAt s (q .m) ≤ widestRadius
-  pub popup : GoodPopup popups g
-  pub own-popup : GoodPopup popups (q .m)
-
--- what a subject's numbers must be for their products to fit
-pub record Fits (q : Subject) : Type 0 where
-  pub value-small : Small (q .value)
-  pub x-small : q .x < 65536
-  pub y-small : q .y < 65536
-  pub reach-small : q .reach ≤ 1073610756
 
 -- the block is in the index, and the table holds its splits
 pub record Searchable (r : Reel) (p t z : List ℕ) (q : Subject) (lo size : ℕ) (axis : Bool) : Type 0 where

@@ -16,10 +16,10 @@ use Rattle.elimination.specs.Reel.{Reel, marksOf, GoodReel, scheduleOf}
 use Rattle.elimination.specs.Sheet.{sheet-proper}
 use Rattle.elimination.specs.Schedule.{schedule-value, schedule-reads}
 use Rattle.parts.specs.Questions.{isSchedule}
+use Rattle.clashing.specs.Laws.Right.{right-of, exact}
 use Rattle.judging.specs.Judge.{judge, judgeSchedule}
 use Rattle.judging.specs.Lemmas.Judged.{judge-iff}
 use Rattle.judging.specs.Lemmas.Ours.{removalOf, judged-ours, ours-first, ours-names}
-use Rattle.judging.specs.Lemmas.Right.{right-of, exact}
 use Rattle.judging.specs.Lemmas.Bytes.{removal-back, records-back}
 
 -- For any rank and any symmetric pair value: a proposal whose values are those of the pairs that it names, number for number, is accepted exactly where it

@@ -9,17 +9,17 @@ use borrow.Author.Tests.{not-true, not-false}
 use borrow.Fn.Kinds.{In}
 use denote.Ref.{now}
 use borrow.Fn.PlainCycle.{Measures, is, falls, and}
+use Rattle.clashing.specs.Laws.Clash.{limit-small}
 use Rattle.judging.specs.Search.{Searched}
-use Rattle.judging.specs.Lemmas.Clash.{limit-small}
 use Rattle.judging.specs.Lemmas.Search.{still-there, searched-none, root-below, searched-over, searched-root, half-call, searched-half, searched-both}
 use Rattle.judging.proofs.search.Reads as reads
 use Rattle.judging.proofs.search.Kinds as kinds
 use Rattle.judging.proofs.+search.Lts-search as lts
 use Rattle.index.proofs.entry.Reads as entry
-use Rattle.judging.proofs.clashes_standing.Reads as clashes-standing
-use Rattle.judging.proofs.is_over.Reads as is-over
-use Rattle.judging.proofs.limit_at.Reads as limit-at
-use Rattle.judging.proofs.size_to_search.Reads as size-to-search
+use Rattle.clashing.proofs.clashes_standing.Reads as clashes-standing
+use Rattle.clashing.proofs.is_over.Reads as is-over
+use Rattle.clashing.proofs.limit_at.Reads as limit-at
+use Rattle.clashing.proofs.size_to_search.Reads as size-to-search
 use Rattle.judging.proofs.+search.{statement}
 use Rattle.judging.proofs.+search.Tie.{close}
 

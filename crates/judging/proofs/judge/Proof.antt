@@ -1,7 +1,7 @@
 -- `judging::judge` meets its contract: the table is that of the whole index, and nobody clashes exactly where the judge accepts. Assumes nothing.
 use mathlib.Core.Path.{refl, _∙_}
 use borrow.Author.Needs.{needs}
-use Rattle.judging.specs.Lemmas.Clash.{judge-clear}
+use Rattle.judging.specs.Lemmas.Clear.{judge-clear}
 use Rattle.judging.specs.Lemmas.Listing.{fillable, tabled}
 use Rattle.judging.proofs.judge.Statement.{statement}
 use Rattle.judging.proofs.judge.Tie as tie

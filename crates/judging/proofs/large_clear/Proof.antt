@@ -5,7 +5,7 @@ use mathlib.Core.Bool.{true, false, true≢false, false≢true}
 use native.Mathlib.Omega.{arith}
 use lib.ListN.{getD}
 use borrow.Author.Count.{below-more}
-use Rattle.judging.specs.Search.{clash}
+use Rattle.clashing.specs.Clash.{clash}
 use Rattle.judging.proofs.large_clear.Statement.{statement}
 use Rattle.judging.proofs.large_clear.Tie as tie
 

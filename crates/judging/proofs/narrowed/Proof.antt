@@ -3,7 +3,8 @@ use Prim.Native.Nat.{_*_, _≤_}
 use mathlib.Core.Path.{_≡_, sym, _∙_}
 use native.Mathlib.Omega.{arith}
 use lib.ListN.{length}
-use Rattle.judging.specs.Search.{widestRadius, mostLarge}
+use Rattle.clashing.specs.Clash.{widestRadius}
+use Rattle.judging.specs.Search.{mostLarge}
 use Rattle.judging.proofs.narrowed.Statement.{statement}
 use Rattle.judging.proofs.narrowed.Tie as tie
 

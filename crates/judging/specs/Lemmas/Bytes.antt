@@ -12,8 +12,8 @@ use Rattle.numbers.specs.Laws.{write-back}
 use Rattle.elimination.specs.Process.{Removal}
 use Rattle.elimination.specs.Reel.{Reel}
 use Rattle.elimination.specs.Records.{recordSize, numOffset, denOffset, recordBytes, markRecord, eliminatorAt, numAt, denAt, valueAt, removalRecord, records}
+use Rattle.clashing.specs.Laws.Right.{Right}
 use Rattle.judging.specs.Lemmas.Ours.{removalOf}
-use Rattle.judging.specs.Lemmas.Right.{Right}
 
 -- the record that stands for what a right record proposes is that record
 pub removal-back : {r : Reel} {p : List ℕ} {m : ℕ} → Right r p m → removalRecord (removalOf (valueAt p m) (eliminatorAt p m)) ≡ markRecord p m

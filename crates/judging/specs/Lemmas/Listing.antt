@@ -20,11 +20,11 @@ use Rattle.marks.specs.PairLaws.{good-popup}
 use Rattle.elimination.specs.Reel.{Reel}
 use Rattle.index.specs.Blocks.{entryAt}
 use Rattle.index.specs.Laws.{index-once, index-block, block-tree, index-entries}
-use Rattle.judging.specs.declared.Subject.{Subject}
+use Rattle.clashing.specs.declared.Subject.{Subject}
+use Rattle.clashing.specs.Clash.{limitAt, clash, widestRadius, isTight, subjectOf, Asked, Subjectable, Subjected, Fits}
+use Rattle.clashing.specs.Laws.Clash.{limit-small}
 use Rattle.judging.specs.declared.Corner.{Corner}
-use Rattle.judging.specs.Search.{limitAt, clash, isClear, isTight, subjectOf, widestRadius, mostLarge, advanced, Judgeable, Asked, Indexed, Subjectable, Subjected, Fits, Searchable, Searched}
-use Rattle.judging.specs.Search.{Listed, LargeClear, Tabled, Ready, Fillable, Filled}
-use Rattle.judging.specs.Lemmas.Clash.{limit-small}
+use Rattle.judging.specs.Search.{isClear, mostLarge, advanced, Judgeable, Indexed, Searchable, Searched, Listed, LargeClear, Tabled, Ready, Fillable, Filled}
 
 -- ---- the list
 

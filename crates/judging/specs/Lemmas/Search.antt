@@ -16,10 +16,12 @@ use Rattle.marks.specs.Marks.{usedAt}
 use Rattle.elimination.specs.Reel.{Reel}
 use Rattle.index.specs.Index.{beats, coordinate}
 use Rattle.index.specs.Blocks.{entryAt}
-use Rattle.judging.specs.declared.Subject.{Subject}
-use Rattle.judging.specs.Search.{limitAt, clash, subjectOf, isOver, gapTo, isFar, sizeToSearch, Splits, none, node, Table, Fits, Searchable, Searched}
-use Rattle.judging.specs.Lemmas.Clash.{Clash}
-use Rattle.judging.specs.Lemmas.Cuts.{no-clash, over-none, over-under, far-none}
+use Rattle.clashing.specs.declared.Subject.{Subject}
+use Rattle.clashing.specs.Clash.{limitAt, clash, subjectOf}
+use Rattle.clashing.specs.Cuts.{isOver, gapTo, isFar, sizeToSearch}
+use Rattle.clashing.specs.Laws.Clash.{Clash}
+use Rattle.clashing.specs.Laws.Cuts.{no-clash, over-none, over-under, far-none}
+use Rattle.judging.specs.Search.{Splits, none, node, Table, Searchable, Searched}
 
 -- ---- a root that is not over
 
@@ -52,16 +54,6 @@ startOf left lo size = cond left (lo + 1) (lo + 1 + size / 2)
 
 abbrev sizeOf : Bool → ℕ → ℕ
 sizeOf left size = cond left (size / 2) (size - 1 - size / 2)
-
--- ---- the numbers of a gap
-
-pub gap-small : (left : Bool) (a b : ℕ) → a < 65536 → b < 65536 → gapTo left a b ≤ 65535
-gap-small true a b h k = omega arith
-gap-small false a b h k = omega arith
-
-pub place-small : {q : Subject} → Fits q → (axis : Bool) → cond axis (q .x) (q .y) < 65536
-place-small f true = f .x-small
-place-small f false = f .y-small
 
 -- ---- what a subject has
 
