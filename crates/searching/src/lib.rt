@@ -202,8 +202,8 @@ fn is_least(w: &[u8], p: usize, best: Leader) -> bool
     true
 }
 
-// The best of the first `end` rows above p. They are met from the highest rank down, two a turn, so that the inner loop counts half as often. Among
-// rows with popups it may be the best of all: then nothing that ranks lower goes before it.
+// The best of the first `end` rows above p. They are met from the highest rank down, two a turn, so that the inner loop counts half as often. With
+// popups it ends at a value that no pair value of row p is below: what ranks lower goes before no such value.
 fn scan_rows(w: &[u8], p: usize, end: usize, shape: u8, label: Label, popped: bool) -> Leader
     requires { ⌜ SearchFor popped (now w) p label × (end ≤ p) ⌝ }
     ensures { λ t. ⌜ BestOfFirst shape (now (w .entry)) p end t ⌝ }
@@ -232,8 +232,8 @@ fn scan_rows(w: &[u8], p: usize, end: usize, shape: u8, label: Label, popped: bo
 
 // ---- the best row by cells, of the grid at `at`
 
-// Row q against the best so far of rows in any order: a tie goes to row q where `tie` says that it ranks higher. A popup often decides alone, and then
-// no other row goes before the best.
+// Row q against the best so far of rows in any order: a tie goes to row q where `tie` says that it ranks higher. With popups many rows have one value,
+// and few go before the best.
 fn better(
     w: &[u8],
     q: usize,
