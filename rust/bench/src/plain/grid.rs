@@ -79,20 +79,6 @@ impl Cell {
     };
 }
 
-/// A group of cells.
-#[derive(Clone, Copy)]
-struct Group {
-    region: Region,
-    cells: [Cell; GROUP_SIZE],
-}
-
-impl Group {
-    const EMPTY: Self = Self {
-        region: Region::EMPTY,
-        cells: [Cell::EMPTY; GROUP_SIZE],
-    };
-}
-
 /// Where the cells lie: the least corner, the size of a cell, how many groups there are for
 /// marks that are not large, and the radius above which one is. A further group is for those.
 #[derive(Clone, Copy, Default)]
@@ -193,10 +179,11 @@ fn columns_of(across: u32, down: u32, groups: usize) -> usize {
     columns as usize
 }
 
-/// The groups of cells, and the chains of rows.
+/// The cells, the regions of their groups, and the chains of rows.
 #[derive(Default)]
 pub struct Grid {
-    groups: Vec<Group>,
+    cells: Vec<Cell>,
+    groups: Vec<Region>,
     links: Vec<u16>,
     plan: Plan,
 }
@@ -205,8 +192,11 @@ impl Grid {
     /// Lays empty cells over some labels.
     pub fn lay_over(&mut self, labels: impl ExactSizeIterator<Item = Label>) {
         self.plan = Plan::over(labels);
+        let groups = self.plan.small + 1;
+        self.cells.clear();
+        self.cells.resize(GROUP_SIZE * groups, Cell::EMPTY);
         self.groups.clear();
-        self.groups.resize(self.plan.small + 1, Group::EMPTY);
+        self.groups.resize(groups, Region::EMPTY);
         self.links.clear();
     }
 
@@ -223,9 +213,8 @@ impl Grid {
         if value.numerator == 0 {
             return self.links.push(0);
         }
-        let group = &mut self.groups[cell / GROUP_SIZE];
-        group.region.take_in(label, value);
-        let cell = &mut group.cells[cell % GROUP_SIZE];
+        self.groups[cell / GROUP_SIZE].take_in(label, value);
+        let cell = &mut self.cells[cell];
         cell.region.take_in(label, value);
         self.links.push(cell.last);
         cell.last = self.links.len() as u16;
@@ -233,7 +222,8 @@ impl Grid {
 
     /// Goes through the rows that may touch a label of a shape as soon as the best so far, its
     /// own cell and group first, and then the group of large marks: `better` gives the better of
-    /// the best and a row, and `value` the value of the best.
+    /// the best and a row, and `value` the value of the best. It ends at the value 0: of the rows
+    /// at one place only one can remove another.
     #[inline(always)]
     pub fn search<B: Copy>(
         &self,
@@ -245,33 +235,36 @@ impl Grid {
     ) -> B {
         let mut best = none;
         for group in own_first(self.groups.len(), own / GROUP_SIZE) {
-            let group = &self.groups[group];
-            if !group.region.may_touch(label, shape, value(best)) {
+            if !self.groups[group].may_touch(label, shape, value(best)) {
                 continue;
             }
+            let cells = &self.cells[GROUP_SIZE * group..][..GROUP_SIZE];
             for cell in counted_down(GROUP_SIZE, own % GROUP_SIZE) {
-                let cell = &group.cells[cell];
+                let cell = &cells[cell];
                 if cell.region.may_touch(label, shape, value(best)) {
-                    best = self.rows(cell).fold(best, &better);
+                    let mut next = usize::from(cell.last);
+                    while next > 0 {
+                        best = better(best, next - 1);
+                        next = usize::from(self.links[next - 1]);
+                    }
+                    if value(best).numerator == 0 {
+                        return best;
+                    }
                 }
             }
         }
         best
-    }
-
-    /// The rows of a cell, the last one first.
-    #[inline]
-    fn rows(&self, cell: &Cell) -> impl Iterator<Item = usize> + '_ {
-        let row = |next: u16| (next > 0).then(|| usize::from(next) - 1);
-        let before = move |&q: &usize| row(self.links[q]);
-        std::iter::successors(row(cell.last), before)
     }
 }
 
 /// The numbers below `size`: `own`, and then the others from the greatest down.
 #[inline]
 fn own_first(size: usize, own: usize) -> impl Iterator<Item = usize> {
-    std::iter::once(own).chain((0..size).rev().filter(move |&i| i != own))
+    (0..size).map(move |i| match size - i {
+        _ if i == 0 => own,
+        k if own < k => k,
+        k => k - 1,
+    })
 }
 
 /// The numbers below `size`, counted down from `start`, and then from the greatest.

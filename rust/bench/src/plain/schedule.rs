@@ -91,6 +91,13 @@ impl Candidate {
         value.precedes(self.value, q < self.row) & rows[q].value.later_than(value)
     }
 
+    /// Whether its value is no later than the least that there can be: then no row of lower
+    /// rank goes before it.
+    #[inline]
+    fn is_at_most(self, least: Value) -> bool {
+        !self.value.later_than(least)
+    }
+
     /// This one, or row q, if it takes its place with its pair value, which `pair` gives for
     /// this touching value. Most rows do not even with the touching value, which is no greater.
     #[inline]
@@ -253,79 +260,79 @@ impl Desk {
 
     /// The rank-order core with cells, where the rows are many.
     fn settle_by_cells(&mut self) {
-        match self.shape {
-            Shape::Disk => self.settle_by_cells_as(Shape::Disk),
-            Shape::Square => self.settle_by_cells_as(Shape::Square),
+        match (self.rows.len() < MANY, self.popups.0.is_empty()) {
+            (true, true) => self.settle(),
+            (true, false) => self.settle_by_scans(),
+            _ => match self.shape {
+                Shape::Disk => self.settle_by_cells_as(Shape::Disk),
+                Shape::Square => self.settle_by_cells_as(Shape::Square),
+            },
         }
     }
 
-    /// The same for labels of a shape, once for each.
-    #[inline(always)]
-    fn settle_by_cells_as(&mut self, shape: Shape) {
-        let many = self.rows.len() >= MANY;
-        if many {
-            self.grid.lay_over(self.rows.iter().map(|row| row.label));
-        }
+    /// The rank-order core with popups, where the rows are few.
+    fn settle_by_scans(&mut self) {
         for p in 0..self.rows.len() {
-            let label = self.rows[p].label;
-            let best = if many {
-                let cell = self.grid.cell_of(label);
-                let best = self.search(p, label, cell, shape);
-                self.grid.enter(cell, label, best.value);
-                best
-            } else {
-                self.scan(p, p, label, shape)
-            };
+            let best = self.scan(p, p, self.rows[p].label, self.shape);
             self.rows[p].value = best.value;
             self.rows[p].eliminator = best.row as u32;
         }
     }
 
-    /// The better of the best so far for row p, of this label, and row q.
+    /// The same by cells for labels of a shape, once for each.
     #[inline(always)]
-    fn better(&self, p: usize, label: Label, shape: Shape, best: Candidate, q: usize) -> Candidate {
-        let touching = label.touching_value(self.rows[q].label, shape);
-        best.or(&self.rows, q, touching, |touching| {
-            self.popups.pair_value(p, q, touching)
-        })
+    fn settle_by_cells_as(&mut self, shape: Shape) {
+        self.grid.lay_over(self.rows.iter().map(|row| row.label));
+        for p in 0..self.rows.len() {
+            let label = self.rows[p].label;
+            let cell = self.grid.cell_of(label);
+            let best = self.search(p, label, cell, shape);
+            self.grid.enter(cell, label, best.value);
+            self.rows[p].value = best.value;
+            self.rows[p].eliminator = best.row as u32;
+        }
     }
 
-    /// The best of the first rows above p, met from the highest rank down. It ends where no
-    /// other row can go before the best.
-    #[inline(always)]
+    /// The best of the first rows above p, met from the highest rank down. It ends at the least
+    /// value that there can be: no row of lower rank goes before that.
+    #[inline(never)]
     fn scan(&self, p: usize, end: usize, label: Label, shape: Shape) -> Candidate {
+        let rows = self.rows.as_slice();
+        let least = self.popups.least(p);
         let mut best = Candidate::NONE;
         for q in 0..end {
-            best = self.better(p, label, shape, best, q);
-            if self.ends(p, best) {
+            let touching = label.touching_value(rows[q].label, shape);
+            best = best.or(rows, q, touching, |touching| {
+                self.popups.pair_value(p, q, touching)
+            });
+            if least.is_some_and(|least| best.is_at_most(least)) {
                 break;
             }
         }
         best
     }
 
-    /// Whether a row of value `best` was found that none of lower rank goes before.
-    #[inline]
-    fn ends(&self, p: usize, best: Candidate) -> bool {
-        let least = self.popups.least(p);
-        least.is_some_and(|least| !best.value.later_than(least))
-    }
-
-    /// The best of all rows above p: among the first ones, where row p pops up as late as one
-    /// of these touches it, and else by cells, of which its own is searched first, so that the
-    /// others are soon too far.
+    /// The best of all rows above p: of the first ones, where one of these touches row p as soon
+    /// as it pops up, and else by cells, of which its own is searched first, so that the others
+    /// are soon too far.
     #[inline(always)]
     fn search(&self, p: usize, label: Label, own: usize, shape: Shape) -> Candidate {
+        let rows = self.rows.as_slice();
+        let better = |best: Candidate, q: usize| {
+            let touching = label.touching_value(rows[q].label, shape);
+            best.or(rows, q, touching, |touching| {
+                self.popups.pair_value(p, q, touching)
+            })
+        };
         if p < FEW {
             return self.scan(p, p, label, shape);
         }
-        if self.popups.least(p).is_some() {
+        if let Some(least) = self.popups.least(p) {
             let top = self.scan(p, FEW, label, shape);
-            if self.ends(p, top) {
+            if top.is_at_most(least) {
                 return top;
             }
         }
-        let better = |best, q| self.better(p, label, shape, best, q);
         let value = |best: Candidate| best.value;
         self.grid
             .search(own, (label, shape), Candidate::NONE, value, better)
