@@ -3,8 +3,10 @@ use Prim.Native.Nat.{ℕ, zero, suc, _+_, _*_, _<_, _≤_}
 use mathlib.Core.Path.{_≡_, sym, ap, _∙_}
 use mathlib.Core.Bool.{Bool, true, false, cond}
 use mathlib.Core.List.{List, [], _∷_, _++_}
+use native.Mathlib.Nat.{le-refl}
 use native.Mathlib.Omega.{arith}
 use borrow.Author.Needs.{needs}
+use lib.Dec.{lit<}
 use lib.ListN.{length, getD, take}
 use lib.Seq.{length-take-le}
 use Rattle.jobs.specs.Steps.{ifAny, codesFrom, sizesFrom}
@@ -12,9 +14,12 @@ use Rattle.writing.proofs.put_head.Statement.{statement}
 use Rattle.writing.proofs.put_head.Tie as tie
 
 -- one more, or none
-one : (t : Bool) → cond t 1 0 ≤ 1
-one true = omega arith
-one false = omega arith
+one-more : (t : Bool) {n m k : ℕ} → m ≡ n + cond t 1 0 → n ≤ k → m ≤ k + 1
+one-more true e h = omega arith
+one-more false e h = omega arith
+
+below : {m k long : ℕ} → m ≤ k → long ≡ 7 → k < 7 → m < long
+below h e f = omega arith
 
 -- none of the sizes is too large
 small-more : (l : List ℕ) (t : Bool) (x : ℕ) → x < 4294967296 → ((i : ℕ) → getD l i 0 < 4294967296) → (i : ℕ) → getD (l ++ ifAny t x) i 0 < 4294967296
@@ -79,21 +84,20 @@ sized l =
     ∙ ap (λ (k : List ℕ). k ++ ifAny (start l .args .popups) (4 * start l .args .n))
     (second l .list-part2 .ensures .2 ∙ ap (λ (k : List ℕ). k ++ ifAny (start l .args .edition) 1) (first l .list-part .ensures .2))))
 
+few-1 : (l : tie.After-list-part) → l .list-part .result ≤ 3
+few-1 l = one-more (l .before .before .before .before .args .index) (l .list-part .ensures .0) (le-refl 2)
+
+few-2 : (l : tie.After-list-part2) → l .list-part2 .result ≤ 4
+few-2 l = one-more (l .before .before .before .before .before .before .before .before .before .args .edition) (l .list-part2 .ensures .0) (few-1 (l .before .before .before .before .before))
+
+few-3 : (l : tie.After-list-part3) → l .list-part3 .result ≤ 5
+few-3 l = one-more (l .before .before .before .before .before .before .before .before .before .before .before .before .before .before .args .popups) (l .list-part3 .ensures .0) (few-2 (l .before .before .before .before .before))
+
+few-4 : (l : tie.After-list-part4) → l .list-part4 .result ≤ 6
+few-4 l = one-more (l .before .before .before .before .before .before .before .before .before .before .before .before .before .before .before .before .before .before .before .args .counts) (l .list-part4 .ensures .0) (few-3 (l .before .before .before .before .before))
+
 few : (l : tie.After-list-part5) → l .list-part5 .result ≤ 7
-few l =
-    omega (
-      arith,
-      l .list-part5 .ensures .0,
-      fourth l .list-part4 .ensures .0,
-      third l .list-part3 .ensures .0,
-      second l .list-part2 .ensures .0,
-      first l .list-part .ensures .0,
-      one (start l .args .index),
-      one (start l .args .edition),
-      one (start l .args .popups),
-      one (start l .args .counts),
-      one (start l .args .shape),
-    )
+few l = one-more (start l .args .shape) (l .list-part5 .ensures .0) (few-4 (fourth l))
 
 -- and it is as many as are counted
 named-long : (l : tie.After-list-part5) → length (l .list-part5 .last .0) ≡ 7 → length (take (l .list-part5 .result) (l .list-part5 .last .0)) ≡ l .list-part5 .result
@@ -128,9 +132,8 @@ slice-aggregate-list-part-4 c = search needs
 
 list-part-requires-2 : tie.Need-list-part-requires-2
 list-part-requires-2 c κs =
-    let l = c .before .before .before .before in
-    let few = one (c .before .before .before .before .before .before .before .before .args .index) in
-    (omega (arith, few, l .list-part .ensures .0, c .before .before .before .codes2 .given), omega (arith, few, l .list-part .ensures .0, c .before .before .sizes2 .given))
+    let h = few-1 (c .before .before .before .before) in
+    (below h (c .before .before .before .codes2 .given) (lit< tt), below h (c .before .before .sizes2 .given) (lit< tt))
 
 slice-aggregate-list-part-5 : tie.Need-slice-aggregate-list-part-5
 slice-aggregate-list-part-5 c = search needs
@@ -143,12 +146,8 @@ mul-list-part-4 c = search needs
 
 list-part-requires-3 : tie.Need-list-part-requires-3
 list-part-requires-3 c κs =
-    let l = c .before .before .before .before in
-    let few = one (c .before .before .before .before .before .before .before .before .before .before .before .before .before .args .index) in
-    let more = one (c .before .before .before .before .before .before .before .before .before .before .before .before .before .args .edition) in (
-      omega (arith, few, more, l .list-part2 .ensures .0, c .before .before .before .before .before .before .before .before .before .list-part .ensures .0, c .before .before .before .codes4 .given, c .before .before .before .before .before .before .before .before .codes2 .given),
-      omega (arith, few, more, l .list-part2 .ensures .0, c .before .before .before .before .before .before .before .before .before .list-part .ensures .0, c .before .before .sizes4 .given, c .before .before .before .before .before .before .before .sizes2 .given),
-    )
+    let h = few-2 (c .before .before .before .before) in
+    (below h (c .before .before .before .codes4 .given) (lit< tt), below h (c .before .before .sizes4 .given) (lit< tt))
 
 slice-aggregate-list-part-7 : tie.Need-slice-aggregate-list-part-7
 slice-aggregate-list-part-7 c = search needs
@@ -158,13 +157,8 @@ slice-aggregate-list-part-8 c = search needs
 
 list-part-requires-4 : tie.Need-list-part-requires-4
 list-part-requires-4 c κs =
-    let l = c .before .before .before .before in
-    let few = one (c .before .before .before .before .before .before .before .before .before .before .before .before .before .before .before .before .before .before .args .index) in
-    let more = one (c .before .before .before .before .before .before .before .before .before .before .before .before .before .before .before .before .before .before .args .edition) in
-    let most = one (c .before .before .before .before .before .before .before .before .before .before .before .before .before .before .before .before .before .before .args .popups) in (
-      omega (arith, few, more, most, l .list-part3 .ensures .0, c .before .before .before .before .before .before .before .before .before .list-part2 .ensures .0, c .before .before .before .before .before .before .before .before .before .before .before .before .before .before .list-part .ensures .0, c .before .before .before .codes6 .given, c .before .before .before .before .before .before .before .before .codes4 .given, c .before .before .before .before .before .before .before .before .before .before .before .before .before .codes2 .given),
-      omega (arith, few, more, most, l .list-part3 .ensures .0, c .before .before .before .before .before .before .before .before .before .list-part2 .ensures .0, c .before .before .before .before .before .before .before .before .before .before .before .before .before .before .list-part .ensures .0, c .before .before .sizes6 .given, c .before .before .before .before .before .before .before .sizes4 .given, c .before .before .before .before .before .before .before .before .before .before .before .before .sizes2 .given),
-    )
+    let h = few-3 (c .before .before .before .before) in
+    (below h (c .before .before .before .codes6 .given) (lit< tt), below h (c .before .before .sizes6 .given) (lit< tt))
 
 slice-aggregate-list-part-9 : tie.Need-slice-aggregate-list-part-9
 slice-aggregate-list-part-9 c = search needs
@@ -174,26 +168,8 @@ slice-aggregate-list-part-10 c = search needs
 
 list-part-requires-5 : tie.Need-list-part-requires-5
 list-part-requires-5 c κs =
-    let fourth = c .before .before .before .before in
-    let third = fourth .before .before .before .before .before in
-    let second = third .before .before .before .before .before in
-    let first = second .before .before .before .before .before in
-    let b = first .before .before .before .before in
-    let most : fourth .list-part4 .result ≤ 6 =
-    omega (
-      arith,
-      fourth .list-part4 .ensures .0,
-      third .list-part3 .ensures .0,
-      second .list-part2 .ensures .0,
-      first .list-part .ensures .0,
-      one (b .args .index),
-      one (b .args .edition),
-      one (b .args .popups),
-      one (b .args .counts),
-    ) in (
-      omega (arith, most, c .before .before .before .codes8 .given, c .before .before .before .before .before .before .before .before .codes6 .given, c .before .before .before .before .before .before .before .before .before .before .before .before .before .codes4 .given, c .before .before .before .before .before .before .before .before .before .before .before .before .before .before .before .before .before .before .codes2 .given),
-      omega (arith, most, c .before .before .sizes8 .given, c .before .before .before .before .before .before .before .sizes6 .given, c .before .before .before .before .before .before .before .before .before .before .before .before .sizes4 .given, c .before .before .before .before .before .before .before .before .before .before .before .before .before .before .before .before .before .sizes2 .given),
-    )
+    let h = few-4 (c .before .before .before .before) in
+    (below h (c .before .before .before .codes8 .given) (lit< tt), below h (c .before .before .sizes8 .given) (lit< tt))
 
 array-share-prefix-codes : tie.Need-array-share-prefix-codes
 array-share-prefix-codes c = omega (arith, few (c .before .before .before), c .before .before .codes10 .given)
