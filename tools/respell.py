@@ -157,7 +157,8 @@ def main(argv):
         if path.endswith(".antt"):
             new = respell_code(rows, fields, text, "--")
         elif path.endswith(".rt"):
-            new = respell_code(rows, fields, text, "//")
+            # what is in snake case there already is Rust's
+            new = respell_code({o: n for o, n in rows.items() if is_other_style(o)}, fields, text, "//")
         else:
             new = respell_edit(with_turned(rows, declared, text), fields, text)
         if new != text:

@@ -1,6 +1,7 @@
 // Does one mark clash with another that is judged? `marks`, `schedule` and `popups` are the bytes of parts 1, 2 and 5 of a sheet that passed
 // questions 1 to 8, the last empty where it is not there; `edition` ranks the marks, and an `axis` is true for x. What the search for those that
 // clash may leave out is here too.
+#![tactic(auto)]
 ghost use Rattle.std.specs.Prelude.{◌≡◌, false, cond, ◌+◌, ◌*◌, ◌<◌, ◌≤◌, length};
 ghost use Rattle.fractions.specs.Order.{less, Small};
 ghost use Rattle.marks.specs.Pairs.{popup_value, pair_value};
@@ -39,7 +40,7 @@ fn eliminator_at(schedule: &[u8], m: usize) -> usize
 
 // Mark m, with what is asked of it at each of the others: its label and the shape that all of them have, its removal value, whether that is its
 // popup's, its place as the index orders places, and the square of its radius with the bound.
-#[derive(Drop)]
+#[derive(Clone, Copy)]
 pub struct Subject {
     pub m: usize,
     pub label: Label,

@@ -1,4 +1,5 @@
 // The contents of a sheet: questions 1 to 3, and where the parts lie.
+#![tactic(auto)]
 ghost use Rattle.std.specs.Prelude.{◌≡◌, true, cond, [], map, ℕ, ◌+◌, ◌<◌, ◌≤◌, eqb, length, get_or, take};
 ghost use Rattle.contents.specs.Contents.{codes_of, bodies_of, names, count_at, code_at, offset_at, length_at, contents_size, split};
 ghost use Rattle.contents.specs.Contents.{together, find};
@@ -184,14 +185,14 @@ pub fn contents_answer(s: &[u8]) -> u32
 
 // A part's place in the sheet. A part that is not there has 0 bytes at 0, where the contents stand.
 #[repr(C)]
-#[derive(Drop)]
+#[derive(Clone, Copy)]
 pub struct Extent {
     pub offset: u32,
     pub length: u32,
 }
 
 // How many parts there are, and where each lies, by its code.
-#[derive(Drop)]
+#[derive(Clone, Copy)]
 pub struct Layout {
     pub count: usize,
     pub marks: Extent,

@@ -1,5 +1,6 @@
 // Part 6 of a sheet: how many marks of each kind group live at each stop. `marks`, `schedule` and `popups` are its parts 1, 2 and 5, the last
 // one empty where it is not there, `n` is the number of marks and `m` a mark's.
+#![tactic(auto)]
 ghost use Rattle.std.specs.Prelude.{◌≡◌, ◌⊎◌, ◌+◌, ◌*◌, ◌<◌, ◌≤◌, min, length, get_or, set};
 ghost use Rattle.fractions.specs.declared.Value.TheVariants.{At};
 ghost use Rattle.marks.specs.Marks.{mark_size};
@@ -127,7 +128,7 @@ fn smaller(a: usize, b: usize) -> usize
 // ---- the cells of a mark
 
 // Where a mark begins to live, and where it is gone.
-#[derive(Drop)]
+#[derive(Clone, Copy)]
 struct Cells {
     begin: usize,
     end: usize,

@@ -1,4 +1,5 @@
 // Counts beside the reel: what the call that counts a sheet does.
+#![tactic(auto)]
 ghost use Rattle.std.specs.Prelude.{◌≡◌, true, false, [], ◌∷◌, ◌<◌, leb, length};
 ghost use Rattle.contents.specs.Contents.{has, split};
 ghost use Rattle.contents.specs.Asking.{◌asks◌};

@@ -1,4 +1,5 @@
 // Part 2 of a sheet, the schedule: its records, read and written. Who goes, when and by whom is defined in specs/; crate `scheduling` works it out.
+#![tactic(auto)]
 ghost use Rattle.std.specs.Prelude.{◌≡◌, ◌+◌, ◌*◌, ◌≤◌, length};
 ghost use Rattle.std.proofs.lemmas.List.Edits.{sets};
 ghost use Rattle.elimination.specs.Records.{record_size, record_at, record_bytes, fraction_of, is_never, value_of, value_at};
@@ -14,7 +15,7 @@ const DEN_OFFSET: usize = 10;
 
 // A record: who removes the mark, and where. The eliminator is wider than its two bytes, so that the struct has no padding and stays in
 // registers.
-#[derive(Drop)]
+#[derive(Clone, Copy)]
 pub struct Record {
     pub num: u64,
     pub den: u32,

@@ -1,17 +1,18 @@
 // Fractions and removal values, compared by exact cross products.
+#![tactic(auto)]
 ghost use Rattle.std.specs.Prelude.{◌≡◌, ◌*◌};
 ghost use Rattle.fractions.specs.Order.{less, same, later, level, Small};
 ghost use Rattle.fractions.specs.Wide.{TwoDigits};
 
 // A fraction that is never reduced: two whole numbers, as wide as a schedule record holds them.
-#[derive(Drop)]
+#[derive(Clone, Copy)]
 pub struct Fraction {
     pub num: u64,
     pub den: u32,
 }
 
 // 01's removal value: a mark is never removed, or it is removed where z² is this fraction.
-#[derive(Drop)]
+#[derive(Clone, Copy)]
 pub enum Value {
     Never,
     At(Fraction),
@@ -21,7 +22,7 @@ pub enum Value {
 const BASE: u64 = 4294967296;
 
 // A number of up to 96 bits, in two parts: high * BASE + low, where low is below BASE.
-#[derive(Drop)]
+#[derive(Clone, Copy)]
 struct Wide {
     high: u64,
     low: u64,

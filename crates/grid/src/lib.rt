@@ -2,6 +2,7 @@
 // places of its rows, their largest radius and their latest removal value, so that a search can pass over what touches too late, or holds nobody
 // that lives until it touches. Nothing but speed rests on the choice of a row's cell. The table stands in lent bytes `w`, from `at` on: the
 // regions of the cells, those of the groups, and then a link for each row.
+#![tactic(auto)]
 ghost use Rattle.std.specs.Prelude.{◌≡◌, ◌+◌, ◌-◌, ◌*◌, ◌/◌, ◌<◌, ◌≤◌, max, pos, length};
 ghost use Rattle.std.proofs.lemmas.List.Edits.{sets};
 ghost use Rattle.fractions.specs.Order.{Small};
@@ -43,7 +44,7 @@ pub const GROUP_BYTES: usize = 408;
 // What is known of the rows of a region: the sides of a box around their places, which are shifted to be at least 0, their largest radius and
 // their latest removal value; and of a cell one more than its last row, or 0. The lower sides are kept as their distance from 65,535, so that every
 // side of an empty box is 0, and each grows.
-#[derive(Drop)]
+#[derive(Clone, Copy)]
 pub struct Region {
     pub west: u16,
     pub east: u16,

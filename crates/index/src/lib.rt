@@ -1,4 +1,5 @@
 // Part 3 of a sheet, the index: its check. `marks`, `schedule` and `index` are the bytes of parts 1, 2 and 3; an `axis` is true for x.
+#![tactic(auto)]
 ghost use Rattle.std.specs.Prelude.{◌≡◌, true, ◌↔◌, ◌+◌, ◌*◌, ◌<◌, ◌≤◌, min, max, length};
 ghost use Rattle.lists.specs.Blocks.{block};
 ghost use Rattle.marks.specs.Marks.{mark_size};
@@ -73,7 +74,7 @@ pub fn entry(index: &[u8], i: usize) -> usize
 const KEY_BOUND: u64 = 4294967296;
 
 // The keys of a block on one axis: the least, and one past the greatest.
-#[derive(Drop)]
+#[derive(Clone, Copy)]
 struct Span {
     low: u64,
     high: u64,
@@ -81,7 +82,7 @@ struct Span {
 
 // What the check finds of a block: whether it is a tree, and its keys by x and by y. A block is tested by the findings of its
 // two halves alone, so the whole check takes time in proportion to n.
-#[derive(Drop)]
+#[derive(Clone, Copy)]
 struct Finding {
     ok: bool,
     x: Span,

@@ -83,20 +83,23 @@ module _ (code : ℕ) (choice : IsChoiceCode code) (parts : List Part) where
           has_other 6 refl refl,
         )
 
+-- what is kept, by which parts are there and their bodies
+kept_as : (parts : List Part) {e p v : Bool} {edition popups shape : List ℕ} → has parts 4 ≡ e → find parts 4 ≡ edition → has parts 5 ≡ p → find parts 5 ≡ popups
+    → has parts 7 ≡ v → find parts 7 ≡ shape
+    → kept_parts parts ≡ part_if e 4 edition ++ (part_if p 5 popups ++ part_if v 7 shape)
+kept_as parts e-is edition-is p-is popups-is v-is shape-is = rw (e-is, edition-is, p-is, popups-is, v-is, shape-is)
+
 -- and what scheduling writes, but for that part.
 pub same_scheduled : (code : ℕ) → IsChoiceCode code → (parts : List Part) → has parts code ≡ false → (marks : List ℕ) (counted : Bool)
     → new_parts marks (kept_parts (with_first code parts)) counted ≡ with_first code (new_parts marks (kept_parts parts) counted)
 same_scheduled code (inl is) parts none marks counted =
-    rw is
-    (rw (
-      with_there 4 (1 ∷ []) parts,
-      with_found 4 (1 ∷ []) parts,
-      rw is at none,
-      with_other_there 4 (1 ∷ []) parts 5 refl,
-      with_other_found 4 (1 ∷ []) parts 5 refl,
-      with_other_there 4 (1 ∷ []) parts 7 refl,
-      with_other_found 4 (1 ∷ []) parts 7 refl,
-    ) (put (has parts 5) (has parts 7) counted))
+    let kept = kept_as (with_first 4 parts) (with_there 4 (1 ∷ []) parts) (with_found 4 (1 ∷ []) parts) (with_other_there 4 (1 ∷ []) parts 5 refl) (with_other_found 4 (1 ∷ []) parts 5 refl) (with_other_there 4 (1 ∷ []) parts 7 refl) (with_other_found 4 (1 ∷ []) parts 7 refl) in
+    let before = kept_as parts (rw is at none) refl refl refl refl refl in
+    ap (λ (c : ℕ). new_parts marks (kept_parts (with_first c parts)) counted) is
+    ∙ ap (λ (k : List Part). new_parts marks k counted) kept
+    ∙ put (has parts 5) (has parts 7) counted
+    ∙ ap (λ (k : List Part). with_first 4 (new_parts marks k counted)) (sym before)
+    ∙ ap (λ (c : ℕ). with_first c (new_parts marks (kept_parts parts) counted)) (sym is)
   where
     put : (p v c : Bool) → new_parts marks (part_if true 4 (1 ∷ []) ++ (part_if p 5 (popups_part parts) ++ part_if v 7 (shape_part parts))) c
         ≡ with_first 4 (new_parts marks (part_if p 5 (popups_part parts) ++ part_if v 7 (shape_part parts)) c)
@@ -109,16 +112,13 @@ same_scheduled code (inl is) parts none marks counted =
     put false false true = refl
     put false false false = refl
 same_scheduled code (inr is) parts none marks counted =
-    rw is
-    (rw (
-      with_there 7 (1 ∷ []) parts,
-      with_found 7 (1 ∷ []) parts,
-      rw is at none,
-      with_other_there 7 (1 ∷ []) parts 4 refl,
-      with_other_found 7 (1 ∷ []) parts 4 refl,
-      with_other_there 7 (1 ∷ []) parts 5 refl,
-      with_other_found 7 (1 ∷ []) parts 5 refl,
-    ) (put (has parts 4) (has parts 5) counted))
+    let kept = kept_as (with_first 7 parts) (with_other_there 7 (1 ∷ []) parts 4 refl) (with_other_found 7 (1 ∷ []) parts 4 refl) (with_other_there 7 (1 ∷ []) parts 5 refl) (with_other_found 7 (1 ∷ []) parts 5 refl) (with_there 7 (1 ∷ []) parts) (with_found 7 (1 ∷ []) parts) in
+    let before = kept_as parts refl refl refl refl (rw is at none) refl in
+    ap (λ (c : ℕ). new_parts marks (kept_parts (with_first c parts)) counted) is
+    ∙ ap (λ (k : List Part). new_parts marks k counted) kept
+    ∙ put (has parts 4) (has parts 5) counted
+    ∙ ap (λ (k : List Part). with_first 7 (new_parts marks k counted)) (sym before)
+    ∙ ap (λ (c : ℕ). with_first c (new_parts marks (kept_parts parts) counted)) (sym is)
   where
     put : (e p c : Bool) → new_parts marks (part_if e 4 (edition_part parts) ++ (part_if p 5 (popups_part parts) ++ part_if true 7 (1 ∷ []))) c
         ≡ with_first 7 (new_parts marks (part_if e 4 (edition_part parts) ++ (part_if p 5 (popups_part parts) ++ [])) c)

@@ -1,4 +1,5 @@
 // Sheets written: the contents, and the bodies one behind the other.
+#![tactic(auto)]
 ghost use Rattle.std.specs.Prelude.{◌≡◌, map, ℕ, ◌+◌, ◌<◌, ◌≤◌, leb, length, get_or, take};
 ghost use Rattle.std.proofs.lemmas.List.Edits.{sets};
 ghost use Rattle.contents.specs.Contents.{contents_size, sizes_of, entry, contents_of, chain, join, together};
@@ -96,7 +97,7 @@ fn fits(bodies: &[&[u8]], room: usize) -> bool
 }
 
 // Has the sheet of the bodies under these codes at most `room` bytes?
-pub fn has_room_lem(codes: &[u16], bodies: &[&[u8]], room: usize) -> bool
+pub fn has_room(codes: &[u16], bodies: &[&[u8]], room: usize) -> bool
     requires { (length codes.now ≡ length bodies.now) × (length bodies.now ≤ top_code) }
     ensures { result ≡ leb (length (join (together codes.now (map (λ x. x.now) bodies.now)))) room }
 {

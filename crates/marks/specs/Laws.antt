@@ -102,7 +102,7 @@ place_fits s at b = signed_fits w16 (le_at 2 s at) (record { fits = le_bound 2 s
 
 -- as one call returns it, and the next call reads it
 pub place_passed : {z v : ℤ} → mag z < 32768 → z ≡ v → to_z w16 (of_z w16 z) ≡ v
-place_passed h e = to_z-of_z (sfits_of h) ∙ e
+place_passed h e = to_z-of_z {w = w16} (sfits_of h) ∙ e
 
 sub_abs : (a b most : ℕ) → (0 < most) × (a ≤ most) × (b ≤ most) → nat_abs (sub_ℕ a b) ≤ most
 sub_abs a b most h = go (ltb a b)

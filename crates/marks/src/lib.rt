@@ -1,4 +1,5 @@
 // The fields of a mark, its used radius, touching and rank. `s` is part 1 of a sheet and `m` a mark's number.
+#![tactic(auto)]
 ghost use Rattle.std.specs.Prelude.{◌≡◌, ◌⊎◌, ◌+◌, ◌*◌, ◌/◌, ◌%◌, ◌<◌, ◌≤◌, length, ◌-ℤ◌, nat_abs};
 ghost use Rattle.numbers.specs.Little.{le_bytes};
 ghost use Rattle.fractions.specs.Order.{Small};
@@ -75,7 +76,7 @@ pub fn kind_at(s: &[u8], m: usize) -> u8
 
 // ---- a mark by its fields
 
-#[derive(Drop)]
+#[derive(Clone, Copy)]
 pub struct Mark {
     pub x: i16,
     pub y: i16,
@@ -132,7 +133,7 @@ pub fn mark_bytes(a: Mark) -> [u8; 11]
 // ---- the kind and the radius
 
 // The house radius of a kind, or refusal 5.
-#[derive(Drop)]
+#[derive(Clone, Copy)]
 pub enum House {
     Radius(u16),
     Refused,
@@ -228,7 +229,7 @@ pub fn distance(shape: u8, dx: i32, dy: i32) -> u64
 }
 
 // What is drawn of a mark: its place and its used radius.
-#[derive(Drop)]
+#[derive(Clone, Copy)]
 pub struct Label {
     pub x: i16,
     pub y: i16,

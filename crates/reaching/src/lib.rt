@@ -1,5 +1,6 @@
 // Whose label reaches a window: the questions of windows, the window turned back, and the test of one mark. `marks` and `popups` are the bytes
 // of parts 1 and 5 of a sheet, the latter empty where it is not there; `shape` is that of the labels.
+#![tactic(auto)]
 ghost use Rattle.std.specs.Prelude.{◌≡◌, true, ◌+◌, ◌-◌, ◌*◌, ◌≤◌, length, pos};
 ghost use Rattle.zoom.specs.Zoom.{largest_scale};
 ghost use Rattle.marks.specs.Marks.{mark_size, shifted};
@@ -12,7 +13,7 @@ use turns::Place;
 // ---- windows
 
 // What a view asks for: the edges, in places that are turned by so many quarter turns.
-#[derive(Drop)]
+#[derive(Clone, Copy)]
 pub struct Window {
     pub x0: i32,
     pub x1: i32,
@@ -58,7 +59,7 @@ pub fn is_ordered(window: Window) -> bool
 
 // Edges as the index orders places, shifted to be at least 0: those of a window, which decide who is shown, or those widened on each side, so
 // that the point of every shown mark lies in them, which decide which halves are searched.
-#[derive(Drop)]
+#[derive(Clone, Copy)]
 pub struct Bounds {
     pub x0: u32,
     pub x1: u32,
@@ -67,7 +68,7 @@ pub struct Bounds {
 }
 
 // A corner of a window, shifted likewise.
-#[derive(Drop)]
+#[derive(Clone, Copy)]
 struct Corner {
     x: u32,
     y: u32,

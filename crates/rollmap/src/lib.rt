@@ -1,4 +1,5 @@
 // The public library, for C and Rust.
+#![tactic(auto)]
 ghost use Rattle.std.specs.Prelude.{◌≡◌, map, length};
 ghost use Rattle.changing.specs.Changing.{added, taken_out, added_popup, taken_out_popup};
 ghost use Rattle.contents.specs.Contents.{has, split, marks_part};

@@ -1,5 +1,6 @@
 // Prints the schedule of the sheet on standard input. A read or a write that fails is told on standard error; a program of Rattle has no
 // other status than 0.
+#![tactic(auto)]
 ghost use Rattle.std.specs.Prelude.{◌<◌, ◌≤◌, length};
 ghost use Rattle.report.specs.Text.{longest_input};
 ghost use Rattle.report.specs.Printing.{Room};
@@ -17,7 +18,7 @@ const SCHEDULE: usize = 14 * MARKS;
 const TEXT: usize = 105 * MARKS + 29;
 
 // What reading came to: so many bytes at the start of the room for them, or a read that failed.
-#[derive(Drop)]
+#[derive(Clone, Copy)]
 enum Reading {
     Read(usize),
     Failed,

@@ -2,6 +2,7 @@
 // marks that outrank it, so the marks are visited in the order of rank, with no queue of pairs: rank keys are sorted, each mark's fields go
 // into a row, each row is searched for among the rows above it, and the records go out in the order of the marks' numbers. Where the rows are
 // many, a grid of cells serves the search; it stands behind the rows, where the keys stood.
+#![tactic(auto)]
 ghost use Rattle.std.specs.Prelude.{◌≡◌, ◌⊎◌, ◌++◌, ℕ, ◌+◌, ◌*◌, ◌<◌, ◌≤◌, length, take, drop};
 ghost use Rattle.std.proofs.lemmas.List.Edits.{sets};
 ghost use Rattle.marks.specs.Marks.{mark_size, used_at};
@@ -58,7 +59,7 @@ fn settle_rows(w: &mut [u8], n: usize, shape: u8, popped: bool)
 // ---- the choice of a cell, on which nothing but speed rests
 
 // What the rows fill: the least and the greatest shifted places, the least ones as their distance from 65,535, and the sum of the radii.
-#[derive(Drop)]
+#[derive(Clone, Copy)]
 struct Cover {
     west: u16,
     east: u16,
@@ -90,7 +91,7 @@ fn extended(e: Cover, label: Label) -> Cover
 
 // Where the cells lie: the least corner; the size of a cell; how many groups there are, and how many of them stand in a column; whether cells stand
 // in one strip instead; and the radius above which a mark is large. The last group is for large marks.
-#[derive(Drop)]
+#[derive(Clone, Copy)]
 struct Plan {
     x: u16,
     y: u16,
@@ -406,7 +407,7 @@ fn put_keys(marks: &[u8], edition: u8, work: &mut [u8], n: usize)
 // The fields of mark m and its popup, as a row at `at`. The place goes over as its bytes, which have the same sign there.
 fn put_row(marks: &[u8], popups: &[u8], m: usize, w: &mut [u8], at: usize)
     requires m_bound { (m < 4096) × (mark_size * m + mark_size ≤ length marks.now) × (at + row_record_offset ≤ length w.old) }
-    requires fact { (length popups.now ≡ 0) ⊎ (popup_size * m + popup_size ≤ length popups.now) }
+    requires popup_there { (length popups.now ≡ 0) ⊎ (popup_size * m + popup_size ≤ length popups.now) }
     ensures { w.new ≡ sets w.old at (row_bytes marks.now popups.now m) }
 {
     let place = MARK_SIZE * m;

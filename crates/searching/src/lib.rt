@@ -1,6 +1,7 @@
 // The search for what removes a mark. The marks' rows stand in `w` in the order of rank, and what becomes of the mark in row p is settled by the
 // rows above it: of those that are removed later than they touch it, the one that touches it first, and of equal ones the highest-ranked. The
 // rows are searched in any order: all of them, or cell by cell of a grid, which leaves out those that are too far to matter.
+#![tactic(auto)]
 ghost use Rattle.std.specs.Prelude.{◌≡◌, ◌+◌, ◌-◌, ◌*◌, ◌<◌, ◌≤◌, ltb, length};
 ghost use Rattle.fractions.specs.Order.{Small};
 ghost use Rattle.marks.specs.Marks.{touching_of};
@@ -86,7 +87,7 @@ fn touching_row(w: &[u8], q: usize, shape: u8, label: Label) -> Fraction
 
 // The best row found so far and its value, which is 1/0 where there is none. The row is as wide as the denominator, so that the struct has no
 // padding: with padding the inner loop would keep it in memory.
-#[derive(Drop)]
+#[derive(Clone, Copy)]
 struct Leader {
     num: u64,
     den: u32,

@@ -1,4 +1,5 @@
 // A whole sheet: checking, putting together and opening.
+#![tactic(auto)]
 ghost use Rattle.std.specs.Prelude.{◌≡◌, true, map, length};
 ghost use Rattle.contents.specs.Contents.{together};
 ghost use Rattle.contents.specs.Questions.{codes_right};
@@ -36,7 +37,7 @@ pub fn check(s: &[u8]) -> u32
 // ---- putting together
 
 // What putting together answers: the number of the first 'no', or how many bytes were written.
-#[derive(Drop)]
+#[derive(Clone, Copy)]
 pub enum Assembled {
     Refused(u32),
     Written(u32),
@@ -51,7 +52,7 @@ pub fn assemble(codes: &[u16], bodies: &[&[u8]], out: &mut [u8]) -> Assembled
     if number != 0 {
         return Assembled::Refused(number);
     }
-    if !joining::has_room_lem(codes, bodies, out.len()) {
+    if !joining::has_room(codes, bodies, out.len()) {
         return Assembled::Refused(13);
     }
     let size = joining::put_parts(out, codes, bodies);
@@ -61,7 +62,7 @@ pub fn assemble(codes: &[u16], bodies: &[&[u8]], out: &mut [u8]) -> Assembled
 // ---- the opened sheet
 
 // What opening a sheet finds: the number that its questions answer, and where the parts lie: none where it is refused.
-#[derive(Drop)]
+#[derive(Clone, Copy)]
 pub struct Opening {
     pub number: u32,
     pub layout: Layout,
@@ -118,7 +119,7 @@ pub fn place_of(s: &[u8], code: u32) -> Extent
 }
 
 // An opened sheet: the caller's bytes, and where the parts lie in them.
-#[derive(Drop)]
+#[derive(Clone, Copy)]
 pub struct Sheet<'a> {
     pub bytes: &'a [u8],
     pub layout: Layout,

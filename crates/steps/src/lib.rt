@@ -1,4 +1,5 @@
 // What the calls of the public library do in common: refusing, and scheduling marks that are put together.
+#![tactic(auto)]
 ghost use Rattle.std.specs.Prelude.{◌≡◌, cond, ◌&&◌, [], ◌++◌, ◌+◌, ◌*◌, ◌≤◌, leb, length};
 ghost use Rattle.scheduling.specs.Filling.{work_size};
 ghost use Rattle.jobs.specs.Jobs.{scheduling_job};
@@ -55,7 +56,7 @@ fn scheduled_size(n: usize, edition: usize, popups: bool, shape: usize, counted:
 }
 
 // 13. Are the work buffer and the written one long enough for n marks, for a sheet of this size?
-fn has_room_lem(n: usize, size: usize, work: usize, out: usize) -> bool
+fn has_room(n: usize, size: usize, work: usize, out: usize) -> bool
     requires { n ≤ 4096 }
     ensures { result ≡ (leb (work_size n) work && leb size out) }
 {

@@ -1,5 +1,5 @@
 -- Laws of decimal digits and of writing. Assumes nothing.
-use Rattle.std.specs.Prelude.{ℕ, zero, suc, ◌+◌, ◌/◌, ◌%◌, ◌^◌, ◌≤◌, ◌<◌, ◌≡◌, refl, Bool, true, false, cond, List, [], ◌∷◌, ◌++◌, ltb, length, set}
+use Rattle.std.specs.Prelude.{ℕ, zero, suc, ◌+◌, ◌-◌, ◌*◌, ◌/◌, ◌%◌, ◌^◌, ◌≤◌, ◌<◌, ◌≡◌, refl, Bool, true, false, cond, List, [], ◌∷◌, ◌++◌, ltb, length, set}
 use Rattle.std.proofs.Common.{sym, ap, ◌∙◌, arith, pow-suc, lt-ltb, le-ltb, length-append}
 use Rattle.std.proofs.Math.Decide.{dec_lt}
 use Rattle.std.proofs.Math.Seq.{length-sets}
@@ -57,7 +57,7 @@ decimal_longer v s h = ap length (decimal_more v s h) ∙ length-append (decimal
 denoted_append : (v : ℕ) (a b : List ℕ) → denoted v (a ++ b) ≡ denoted (denoted v a) b
 unfolding denoted
 denoted_append v [] b = refl
-denoted_append v (d ∷ a) b = denoted_append _ a b
+denoted_append v (d ∷ a) b = denoted_append (10 * v + (d - 48)) a b
 
 none_denote : (v : ℕ) → denoted 0 (digits 0 v) ≡ 0
 unfolding denoted digits

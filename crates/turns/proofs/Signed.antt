@@ -34,7 +34,7 @@ as_place h = up_to_grows (omega arith) h
 
 -- as one call returns it, and the next place reads it
 pub passed : {z v : ℤ} → mag z < 2147483648 → z ≡ v → read z ≡ v
-passed h e = to_z-of_z (sfits_of h) ∙ e
+passed h e = to_z-of_z {w = w32} (sfits_of h) ∙ e
 
 -- ---- a product
 

@@ -1,9 +1,10 @@
 // Quarter turns of places.
+#![tactic(auto)]
 ghost use Rattle.std.specs.Prelude.{◌≡◌, ◌<◌, ◌≤◌};
 ghost use Rattle.turns.specs.Turns.{row_by_column, product_at, times, turn, applied};
 ghost use Rattle.turns.specs.Small.{UpTo, SmallRow, Small, Within};
 
-#[derive(Drop)]
+#[derive(Clone, Copy)]
 pub struct Place {
     pub x: i32,
     pub y: i32,

@@ -1,4 +1,5 @@
 // Views: what the calls that view a sheet and read a map do.
+#![tactic(auto)]
 ghost use Rattle.std.specs.Prelude.{◌≡◌, true, ◌≤◌, length};
 ghost use Rattle.contents.specs.Contents.{split};
 ghost use Rattle.contents.specs.Places.{layout_of};

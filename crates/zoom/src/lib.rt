@@ -1,4 +1,5 @@
 // Zooms: which are taken, who lives at one, and the removal zoom that is printed.
+#![tactic(auto)]
 ghost use Rattle.std.specs.Prelude.{◌≡◌, ◌<◌};
 ghost use Rattle.fractions.specs.Order.{Small};
 ghost use Rattle.zoom.specs.Zoom.{scale_of, wheel_scale};
@@ -10,14 +11,14 @@ use fractions::{Fraction, Value};
 // ---- which zooms are taken
 
 // 01: "For the viewer a zoom is either a stop or a wheel value."
-#[derive(Drop)]
+#[derive(Clone, Copy)]
 pub enum Zoom {
     Stop(u8),
     Wheel(f32),
 }
 
 // k = 64z, or refusal 12.
-#[derive(Drop)]
+#[derive(Clone, Copy)]
 pub enum Scale {
     Taken(u32),
     Refused,

@@ -1,7 +1,7 @@
 -- Parts with a body under a code: putting it in its place again changes nothing, and how many parts and bytes there are then.
 use Prim.Native.Nat.{ℕ, zero, suc, ◌+◌, ◌<◌}
 use Rattle.std.specs.Prelude.{◌≡◌, refl, Bool, true, false, cond, ◌&&◌, ◌||◌, ltb, leb, eqb, length, get_or}
-use Rattle.std.proofs.Common.{sym, ap, true≢false, inl, inr, arith, ltb-true, lt-ltb, le-ltb, eqb-true, eq-eqb}
+use Rattle.std.proofs.Common.{sym, ap, ◌∙◌, true≢false, inl, inr, arith, ltb-true, lt-ltb, le-ltb, eqb-true, eq-eqb}
 use Rattle.std.proofs.lemmas.Bool.{false≢true}
 use mathlib.Core.List.{List, [], ◌∷◌, ◌++◌}
 use Rattle.std.proofs.Math.ListN.{length-append}
@@ -45,7 +45,8 @@ module _ (code : ℕ) where
       let later : has parts code ≡ true = rw e at n in
       let rest = ((both_iff (ltb low p.code && leb p.code top_code) (rising p.code (codes_of parts))).0 r).1 in
       let is-low : ltb p.code code ≡ true = lt-ltb p.code code (above_low p.code (codes_of parts) code rest later) in
-      rw (e, is-low) (ap (λ (l : List Part). p ∷ l) (with_own p.code parts rest later)))
+      let found : find (p ∷ parts) code ≡ find parts code = ap (λ (b : Bool). cond b p.body (find parts code)) e in
+      rw is-low (ap (λ (b : List ℕ). p ∷ with_part code b parts) found ∙ ap (λ (l : List Part). p ∷ l) (with_own p.code parts rest later)))
 
   module _ (body : List ℕ) where
     pub with_twice : (parts : List Part) → with_part code body (with_part code body parts) ≡ with_part code body parts

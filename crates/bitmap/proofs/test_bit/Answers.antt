@@ -1,0 +1,7 @@
+-- `bitmap::test_bit` meets its contract: the mask 1 leaves the lowest bit of the shifted byte. Assumes nothing.
+use borrow.Author.Rules.{rules}
+use lib.Bits.{and_mask}
+use Rattle.bitmap.proofs.test_bit.Goals as goal
+
+pub returns : goal.returns
+returns c = and_mask _ 1

@@ -1,0 +1,14 @@
+-- `columns::put_values` meets its contract: the six values one behind the other. Assumes nothing.
+use Rattle.columns.specs.Lemmas.Writing.{values_sets}
+use borrow.Author.Rules.{rules}
+use Rattle.columns.proofs.put_values.Goals as goal
+
+pub returns : goal.returns
+returns c =
+    values_sets _ _ _ _ _ _ _ _
+    c.write.ensures
+    c.write-2.ensures
+    c.write-3.ensures
+    c.write-4.ensures
+    c.write-5.ensures
+    c.write-6.ensures

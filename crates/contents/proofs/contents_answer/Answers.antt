@@ -1,0 +1,40 @@
+-- `contents::contents_answer` meets its contract: the first of three tests that fails gives the number. Assumes nothing.
+use borrow.Author.Rules.{rules}
+use mathlib.Core.Path.{sym, ◌∙◌}
+use Rattle.contents.specs.Questions.{contents_questions}
+use Rattle.contents.specs.Lemmas.Asked.{none_asked, asked_yes, asked_no}
+use Rattle.contents.specs.Lemmas.Laid.{whole_iff}
+use Rattle.contents.proofs.contents_answer.Goals as goal
+
+pub returns-then-not-has_contents : goal.returns-then-not-has_contents
+unfolding contents_questions
+returns-then-not-has_contents c = sym (asked_no 1 _ (sym c.has_contents.ensures ∙ c.if-not-has_contents.true))
+
+pub has_codes-requires : goal.has_codes-requires
+has_codes-requires c = (whole_iff _).0 (sym c.has_contents.ensures ∙ c.if-not-has_contents.false)
+
+pub returns-then-not-has_codes : goal.returns-then-not-has_codes
+unfolding contents_questions
+returns-then-not-has_codes c =
+    sym (asked_yes 1 _ (sym c.has_contents.ensures ∙ c.if-not-has_contents.false)
+    ∙ asked_no 2 _ (sym c.has_codes.ensures ∙ c.if-not-has_codes.true))
+
+pub bodies_join-requires : goal.bodies_join-requires
+bodies_join-requires c = (whole_iff _).0 (sym c.has_contents.ensures ∙ c.if-not-has_contents.false)
+
+pub returns-then-bodies_join : goal.returns-then-bodies_join
+unfolding contents_questions
+returns-then-bodies_join c =
+    let h = c in
+    sym (asked_yes 1 _ (sym h.has_contents.ensures ∙ h.if-not-has_contents.false)
+    ∙ asked_yes 2 _ (sym h.has_codes.ensures ∙ c.if-not-has_codes.false)
+    ∙ asked_yes 3 _ (sym c.bodies_join.ensures ∙ c.if-bodies_join.true)
+    ∙ none_asked)
+
+pub returns-else-bodies_join : goal.returns-else-bodies_join
+unfolding contents_questions
+returns-else-bodies_join c =
+    let h = c in
+    sym (asked_yes 1 _ (sym h.has_contents.ensures ∙ h.if-not-has_contents.false)
+    ∙ asked_yes 2 _ (sym h.has_codes.ensures ∙ c.if-not-has_codes.false)
+    ∙ asked_no 3 _ (sym c.bodies_join.ensures ∙ c.if-bodies_join.false))

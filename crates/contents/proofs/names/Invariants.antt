@@ -1,0 +1,15 @@
+-- `contents::names` meets its contract: what is left to look at names the code alike, until it is found. Assumes nothing.
+use Prim.Native.Nat.{◌-◌, ◌≤◌}
+use mathlib.Core.Path.{◌≡◌, refl, sym, ◌∙◌}
+use lib.ListN.{length, drop}
+use Rattle.contents.specs.Contents.{names}
+use Rattle.contents.specs.Lemmas.Parts.{names_found, names_passed, names_past}
+use native.Mathlib.Omega.{arith}
+use borrow.Author.Rules.{rules}
+use Rattle.contents.proofs.names.Given as goal
+
+abbrev pub invariant-loop-i : goal.invariant-loop-i
+invariant-loop-i l = (l.i ≤ length l.codes) × (names (drop l.i l.codes) l.code ≡ names l.codes l.code)
+
+abbrev pub decreases-loop-i : goal.decreases-loop-i
+decreases-loop-i l = length l.codes - l.i

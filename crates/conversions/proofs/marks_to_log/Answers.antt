@@ -1,0 +1,50 @@
+-- `conversions::marks_to_log`: each way out by the question that ended it, and else the log as it was written. Assumes nothing.
+use Prim.Native.Nat.{◌*◌}
+use mathlib.Core.Path.{◌≡◌, refl, sym, ◌∙◌}
+use native.Mathlib.Omega.{arith}
+use borrow.Author.Rules.{rules}
+use Rattle.contents.specs.Asking.{answer}
+use Rattle.parts.specs.Questions.{mark_count, part1_questions}
+use Rattle.parts.specs.Laws.{part1_numbered, part1_iff}
+use Rattle.logs.specs.Log.{log_of_marks}
+use Rattle.logs.specs.Questions.{marks_questions}
+use Rattle.logs.specs.Theorems.{log_length}
+use Rattle.jobs.specs.Jobs.{marks_to_log_job}
+use Rattle.jobs.specs.Laws.Rooms.{stopped, no_room, wrote}
+use Rattle.jobs.specs.Laws.Logs.{marks_whole}
+use Rattle.conversions.proofs.marks_to_log.Goals as goal
+use Rattle.conversions.proofs.marks_to_log.Goals.{Else-number-ne0}
+
+-- 4 to 6 were passed
+accepted : (c : Else-number-ne0) → answer (part1_questions c.args.marks.now) ≡ 0
+accepted c = sym c.part1_answer-number.ensures ∙ c.if-number-ne0.false
+
+pub returns-then-number-ne0 : goal.returns-then-number-ne0
+unfolding marks_to_log_job marks_questions
+returns-then-number-ne0 c =
+    let s = c.args.marks.now in
+    marks_whole (λ i. (c.shared_slice_known-1.given i).fits)
+    (stopped (part1_questions s) (part1_numbered s) (13 * mark_count s) (log_of_marks s) _ c.part1_answer-number.ensures
+    (omega (arith, c.if-number-ne0.true)) c.refused.ensures)
+
+pub returns-then-out-log_size : goal.returns-then-out-log_size
+unfolding marks_to_log_job marks_questions
+returns-then-out-log_size c =
+    let s = c.args.marks.now in
+    marks_whole (λ i. (c.shared_slice_known-1.given i).fits)
+    (no_room (part1_questions s) (part1_numbered s) (13 * mark_count s) (log_of_marks s) _ (accepted (goal.at.returns-then-out-log_size c).Else-number-ne0) c.if-out-log_size.true
+    c.refused-then-out-log_size.ensures)
+
+pub overflow_cast-result : goal.overflow_cast-result
+overflow_cast-result c = omega (arith, ((part1_iff _).0 (accepted (goal.at.overflow_cast-result c).Else-number-ne0)).0.few)
+
+pub returns : goal.returns
+unfolding marks_to_log_job marks_questions log_of_marks
+returns c =
+    let at-put = c in
+    let at-if2 = at-put in
+    let s = at-if2.args.marks.now in
+    let ok = accepted (goal.at.returns at-if2).Else-number-ne0 in
+    marks_whole (λ i. (at-if2.shared_slice_known-1.given i).fits)
+    (wrote (part1_questions s) (part1_numbered s) (13 * mark_count s) (log_of_marks s) _ ok at-if2.if-out-log_size.false (sym (log_length s ok)) refl
+    at-put.put_records.ensures)

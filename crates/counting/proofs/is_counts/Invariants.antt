@@ -1,0 +1,19 @@
+-- `counting::is_counts` meets its contract: while the loop runs, every byte before i is right. Assumes nothing.
+use Prim.Native.Nat.{◌-◌, ◌≤◌}
+use mathlib.Core.Path.{◌≡◌, refl, sym}
+use mathlib.Core.Bool.{true, false}
+use native.Mathlib.Omega.{arith}
+use borrow.Author.Tests.{eq-eqb, ne_eqb}
+use lib.Dec.{eqb}
+use lib.ListN.{length}
+use Rattle.lists.specs.Tests.{every}
+use Rattle.lists.specs.TestLaws.{and_both, and_no, every_more, every_not}
+use Rattle.counting.specs.Counts.{counts_of, is_counts}
+use Rattle.counting.specs.Lemmas.Bytes.{same_at}
+use Rattle.counting.proofs.is_counts.Given as goal
+
+abbrev pub invariant-loop-i : goal.invariant-loop-i
+invariant-loop-i l = (l.i ≤ 170) × (every (same_at l.body l.counts) l.i ≡ true)
+
+abbrev pub decreases-loop-i : goal.decreases-loop-i
+decreases-loop-i l = 170 - l.i

@@ -1,0 +1,22 @@
+-- `counting::popup_stop` meets its contract: without part 5 no stop is below a popup, and the square of 32 bits fits 64. Assumes nothing.
+use Prim.Native.Nat.{ℕ, ◌≤◌}
+use mathlib.Core.Path.{ap, ◌∙◌}
+use native.Mathlib.Nat.{mul-le-mul}
+use native.Mathlib.Omega.{arith}
+use borrow.Author.Rules.{rules}
+use Rattle.fractions.specs.declared.Value.TheVariants.{At}
+use Rattle.marks.specs.Pairs.{popup_value}
+use Rattle.counting.specs.Steps.{stops_lived}
+use Rattle.counting.specs.Lemmas.Stops.{popup_none_stop}
+use Rattle.counting.proofs.popup_stop.Goals as goal
+
+pub returns-then-popups-eq0 : goal.returns-then-popups-eq0
+returns-then-popups-eq0 c = let a = c.args in popup_none_stop a.popups.now a.m c.if-popups-eq0.true
+
+pub overflow_mul-num : goal.overflow_mul-num
+overflow_mul-num c =
+    let k : c.popup_at-k.result ≤ 4294967295 = omega arith in
+    record { fits = omega (arith, mul-le-mul k k) }
+
+pub returns : goal.returns
+returns c = c.stops_below.ensures ∙ ap (λ (k : ℕ). stops_lived (At (popup_value k))) c.popup_at-k.ensures

@@ -1,0 +1,77 @@
+-- `counting::tally` meets its contract: the tables hold the marks before m. Assumes nothing.
+use Prim.Native.Nat.{◌-◌, ◌≤◌}
+use mathlib.Core.Path.{◌≡◌, sym, ◌∙◌}
+use native.Mathlib.Omega.{arith}
+use mathlib.Core.Logic.{inl, inr}
+use Rattle.counting.specs.Steps.{Entered}
+use Rattle.counting.specs.Lemmas.Cells.{begin_small, end_small}
+use Rattle.counting.specs.Lemmas.Tallies.{tallied_room, tallied_more}
+use Rattle.counting.proofs.tally.Goals as goal
+
+pub loop-m-init : goal.loop-m-init
+loop-m-init c =
+    (omega arith, c.requires.entered)
+
+pub cells_of-cells-requires : goal.cells_of-cells-requires
+cells_of-cells-requires c =
+    record {
+      mark_size_in_bounds = omega arith;
+      fact = elim c.requires.fact [ inl e ↦ inl e | inr e ↦ inr (omega arith) ];
+    }
+
+pub add_one-requires : goal.add_one-requires
+add_one-requires c =
+    let l = c in
+    let a = l in
+    let is = c.cells_of-cells.ensures.begin_value in
+    let small = begin_small a.args.marks.now a.args.schedule.now a.args.popups.now l.loop-m.m in
+    tallied_room l.loop-m.invariant.1.begun (omega (arith, is, small)) (omega (arith, a.requires.n_bound.0))
+
+pub add_one-requires-in-loop-m : goal.add_one-requires-in-loop-m
+add_one-requires-in-loop-m c =
+    let l = c in
+    let a = l in
+    let is = c.cells_of-cells.ensures.end_value in
+    let small = end_small a.args.marks.now a.args.schedule.now a.args.popups.now l.loop-m.m in
+    tallied_room l.loop-m.invariant.1.gone (omega (arith, is, small)) (omega (arith, a.requires.n_bound.0))
+
+pub overflow_add-m : goal.overflow_add-m
+overflow_add-m c =
+    let l = c in
+    omega (arith, l.loop-m.invariant.0, l.requires.n_bound.0)
+
+pub loop-m-smaller : goal.loop-m-smaller
+loop-m-smaller c = omega (arith, c.loop-m-test.true)
+
+pub loop-m-preserved : goal.loop-m-preserved
+loop-m-preserved c =
+    let cells = c in
+    let l = cells in
+    let a = l in
+    let s = a.args.marks.now in
+    let p = a.args.schedule.now in
+    let q = a.args.popups.now in
+    let m = l.loop-m.m in
+    let begin = cells.cells_of-cells.ensures.begin_value in
+    let end = cells.cells_of-cells.ensures.end_value in
+    let first = c.add_one.ensures in
+    let second = c.add_one-in-loop-m.ensures in (
+      omega (arith, cells.loop-m-test.true),
+      record {
+        begun = tallied_more l.loop-m.invariant.1.begun begin (omega (arith, begin, begin_small s p q m)) first;
+        gone = tallied_more l.loop-m.invariant.1.gone end (omega (arith, end, end_small s p q m)) second;
+      },
+    )
+
+pub shape_of-begins : goal.shape_of-begins
+shape_of-begins c = c.loop-m.invariant.1.begun.long ∙ sym c.requires.entered.begun.long
+
+pub shape_of-ends : goal.shape_of-ends
+shape_of-ends c = c.loop-m.invariant.1.gone.long ∙ sym c.requires.entered.gone.long
+
+pub returns : goal.returns
+returns c =
+    let l = c in
+    let a = l in
+    let e : l.loop-m.m ≡ a.args.n = omega (arith, l.loop-m.invariant.0, c.loop-m-test.false) in
+    rw (← e) l.loop-m.invariant.1

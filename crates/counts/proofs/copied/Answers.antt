@@ -1,0 +1,18 @@
+-- `counts::copied`: 13, or the sheet's own bytes. Assumes nothing.
+use mathlib.Core.Path.{refl}
+use mathlib.Core.List.{[]}
+use lib.ListN.{length}
+use borrow.Author.Rules.{rules}
+use Rattle.contents.specs.Laws.{none_asked}
+use Rattle.jobs.specs.Laws.Rooms.{no_room, wrote}
+use Rattle.counts.proofs.copied.Goals as goal
+
+pub returns-then-out-length : goal.returns-then-out-length
+returns-then-out-length c =
+    let s = c.args.sheet.now in
+    no_room [] tt (length s) s _ none_asked c.if-out-length.true c.refused.ensures
+
+pub returns : goal.returns
+returns c =
+    let s = c.args.sheet.now in
+    wrote [] tt (length s) s _ none_asked c.if-out-length.false refl refl c.put.ensures.1

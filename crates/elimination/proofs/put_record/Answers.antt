@@ -1,0 +1,11 @@
+-- `elimination::put_record` meets its contract: three numbers written one behind the other are the record. Assumes nothing.
+use Rattle.elimination.proofs.Bytes.{record_put}
+use borrow.Author.Rules.{rules}
+use Rattle.elimination.proofs.put_record.Goals as goal
+
+pub returns : goal.returns
+returns c =
+    let d = c in
+    let n = d in
+    let e = n in
+    record_put _ _ _ e.write.ensures n.write-2.ensures d.write-3.ensures

@@ -1,0 +1,17 @@
+-- `filling::fill` meets its contract: each turn writes one row more. Assumes nothing.
+use Prim.Native.Nat.{◌-◌, ◌≤◌}
+use mathlib.Core.Path.{◌≡◌, ap, ◌∙◌}
+use lib.ListN.{length}
+use lib.Seq.{sets, length-sets}
+use Rattle.rows.specs.Rows.{rows}
+use Rattle.rows.specs.Laws.{rows_none, rows_more}
+use Rattle.filling.specs.Filling.{filled_mark}
+use Rattle.filling.specs.Lemmas.Filled.{mark_length}
+use native.Mathlib.Omega.{arith}
+use Rattle.filling.proofs.fill.Given as goal
+
+abbrev pub invariant-loop-m : goal.invariant-loop-m
+invariant-loop-m l = (l.m ≤ l.n) × (l.out ≡ sets l.initial.out 0 (rows (filled_mark l.s) l.m))
+
+abbrev pub decreases-loop-m : goal.decreases-loop-m
+decreases-loop-m l = l.n - l.m

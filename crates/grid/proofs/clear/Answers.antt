@@ -1,0 +1,40 @@
+-- `grid::clear` meets its contract: each turn clears one region more. Assumes nothing.
+use Prim.Native.Nat.{◌≤◌, ◌-◌}
+use mathlib.Core.Path.{◌≡◌, refl}
+use native.Mathlib.Omega.{arith}
+use borrow.Author.Rules.{rules}
+use Rattle.grid.specs.Table.{region_count}
+use Rattle.grid.specs.Steps.{Cleared}
+use Rattle.grid.proofs.Table.{cleared_none, cleared_more}
+use Rattle.grid.proofs.clear.Goals as goal
+
+pub overflow_mul-count : goal.overflow_mul-count
+overflow_mul-count c = omega (arith, c.requires)
+
+pub loop-i-init : goal.loop-i-init
+loop-i-init c = (omega arith, refl, cleared_none _ _ _)
+
+pub put_region-requires : goal.put_region-requires
+put_region-requires c =
+    let i = c in
+    let l = i in
+    omega (arith, i.loop-i-test.true, l.loop-i.invariant, l.requires, l.loop-i.invariant.2.kept.long)
+
+pub loop-i-preserved : goal.loop-i-preserved
+loop-i-preserved c =
+    let k = c in
+    let i = k in
+    let l = i in (
+      omega arith,
+      l.loop-i.invariant.1,
+      cleared_more (omega (arith, i.loop-i-test.true, l.loop-i.invariant.1)) l.loop-i.invariant.2 (rw k.empty.ensures at k.put_region.ensures),
+    )
+
+pub shape_of-w : goal.shape_of-w
+shape_of-w c = c.loop-i.invariant.2.kept.long
+
+pub returns : goal.returns
+returns c =
+    let l = c in
+    let e : l.loop-i.i ≡ region_count l.args.groups = omega (arith, l.loop-i.invariant.0, l.loop-i.invariant.1, c.loop-i-test.false) in
+    rw e at l.loop-i.invariant.2

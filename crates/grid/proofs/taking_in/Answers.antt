@@ -1,0 +1,21 @@
+-- `grid::taking_in` meets its contract, side by side. Assumes nothing.
+use mir.Facts.{to_z-of_z}
+use mir.Syntax.{w16}
+use borrow.Author.Rules.{rules}
+use Rattle.grid.proofs.taking_in.Goals as goal
+
+pub returns : goal.returns
+returns c =
+    let a = c in
+    rw (
+      c.larger.ensures,
+      c.larger-2.ensures,
+      c.larger-3.ensures,
+      c.larger-4.ensures,
+      c.larger-5.ensures,
+      c.later_of.ensures,
+      c.shifted-x.ensures,
+      c.shifted-y.ensures,
+      to_z-of_z {w = w16} {z = a.args.label.x} (search rules),
+      to_z-of_z {w = w16} {z = a.args.label.y} (search rules),
+    )

@@ -1,0 +1,31 @@
+-- `index::is_index` meets its contract: the index is the tree exactly where all its numbers are below n and the check finds a tree.
+-- Assumes nothing.
+use mathlib.Core.Path.{sym, ◌∙◌}
+use native.Mathlib.Omega.{arith}
+use mathlib.Core.Bool.{false≢true}
+use borrow.Author.Rules.{rules}
+use Rattle.index.specs.Lemmas.Question9.{checkable_whole, whole_is, whole_not}
+use Rattle.index.proofs.is_index.Goals as goal
+
+pub check_block-found-requires : goal.check_block-found-requires
+check_block-found-requires c =
+    let k = c in
+    let a = k.args in
+    checkable_whole a.marks.now a.schedule.now a.index.now a.n k.requires
+    (c.all_below.ensures.0 c.if-all_below.true)
+
+pub returns-then-all_below : goal.returns-then-all_below
+returns-then-all_below c =
+    let b = c in
+    let k = b in
+    let a = k.args in
+    whole_is a.marks.now a.schedule.now a.index.now a.n k.requires (λ i. omega (arith, c.type_inv.index i))
+    (b.all_below.ensures.0 c.if-all_below.true) c.check_block-found.ensures
+
+pub returns : goal.returns
+returns c =
+    let k = c in
+    let a = k.args in
+    sym
+    (whole_not a.marks.now a.schedule.now a.index.now a.n k.requires
+    (λ all. false≢true (sym c.if-all_below.false ∙ c.all_below.ensures.1 all)))

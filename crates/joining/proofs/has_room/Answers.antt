@@ -1,0 +1,24 @@
+-- `joining::has_room` meets its contract: the contents take their room, and the bodies fit the rest. Assumes nothing.
+use mathlib.Core.Path.{sym, ◌∙◌}
+use mathlib.Core.List.{map}
+use lib.ListN.{length, length-map}
+use borrow.Author.Tests.{lt-leb}
+use Rattle.contents.specs.Contents.{contents_size, chain}
+use Rattle.joining.specs.Writing.{together_size, leb_less}
+use native.Mathlib.Omega.{arith}
+use borrow.Author.Rules.{rules}
+use Rattle.joining.proofs.has_room.Goals as goal
+
+pub returns-then-room-head : goal.returns-then-room-head
+returns-then-room-head c =
+    let b = c in
+    let bodies = map (λ x. x.now) b.args.bodies.now in
+    let size = together_size b.args.codes.now bodies (rw length-map b.requires.0) in
+    sym (lt-leb _ b.args.room (omega arith))
+
+pub returns : goal.returns
+returns c =
+    let b = c in
+    let bodies = map (λ x. x.now) b.args.bodies.now in
+    rw (together_size b.args.codes.now bodies (rw length-map b.requires.0))
+    (c.fits.ensures ∙ leb_less (contents_size (length b.args.codes.now)) (length (chain bodies)) b.args.room c.if-room-head.false)

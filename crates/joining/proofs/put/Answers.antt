@@ -1,0 +1,29 @@
+-- `joining::put` meets its contract: what is left to copy makes the whole, whatever was copied so far. Assumes nothing.
+use Prim.Native.Nat.{◌+◌, ◌-◌, ◌≤◌}
+use mathlib.Core.Path.{◌≡◌, refl, ◌∙◌}
+use mathlib.Core.List.{[]}
+use native.Mathlib.Nat.{add-zero}
+use native.Mathlib.Omega.{arith}
+use lib.ListN.{length, drop, length-set, drop_of_length-le}
+use lib.Seq.{sets}
+use Rattle.lists.specs.StoreLaws.{sets_turn}
+use Rattle.joining.proofs.put.Goals as goal
+
+pub loop-j-init : goal.loop-j-init
+loop-j-init c = (omega arith, refl, rw (add-zero _))
+
+pub loop-j-preserved : goal.loop-j-preserved
+loop-j-preserved c =
+    let a = c.args in
+    let l = c.loop-j in
+    (omega arith, simp length-set l.invariant.1, sets_turn l.out a.at l.j a.body.now (omega arith) ∙ l.invariant.2)
+
+pub shape_of-out : goal.shape_of-out
+shape_of-out c = c.loop-j.invariant.1
+
+pub returns : goal.returns
+returns c =
+    let a = c.args in
+    let l = c.loop-j in
+    let none : drop l.j a.body.now ≡ [] = drop_of_length-le a.body.now c.loop-j-test.false in
+    (refl, rw none at l.invariant.2)

@@ -1,0 +1,12 @@
+-- `joining::put_entry` meets its contract: three runs of stores, each where the last ended, are one. Assumes nothing.
+use Rattle.contents.specs.Contents.{contents_size}
+use Rattle.joining.specs.Writing.{entry_sets}
+use borrow.Author.Rules.{rules}
+use Rattle.joining.proofs.put_entry.Goals as goal
+
+pub returns : goal.returns
+returns c =
+    let b = c in
+    let w = b in
+    let a = w.args in
+    entry_sets a.out.now (contents_size a.i) a.code a.offset a.size w.write.ensures b.write-2.ensures c.write-3.ensures

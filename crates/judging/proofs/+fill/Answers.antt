@@ -1,0 +1,96 @@
+-- `judging::fill` meets its contract: a block's table is that of its halves, and its own split, as Lemmas/Filling says. The measure is the
+-- size. Assumes nothing.
+use Prim.Native.Nat.{ℕ, ◌<◌}
+use native.Mathlib.Omega.{arith}
+use mathlib.Core.Path.{refl, ap, ◌∙◌}
+use mathlib.Core.Bool.{true, false}
+use lib.ListN.{length-set}
+use Rattle.index.specs.Index.{coordinate}
+use Rattle.judging.specs.Lemmas.Filling.{filled_none, fill_left, fill_right, corner_small, filled_node}
+use Rattle.judging.proofs.+fill.Goals as goal
+
+pub returns-then-size-eq0 : goal.returns-then-size-eq0
+returns-then-size-eq0 t c = filled_none c.if-size-eq0.true
+
+pub entry-root-requires : goal.entry-root-requires
+entry-root-requires t c =
+    let p = c.requires in
+    omega (arith, p.there, p.index_long)
+
+pub fill-left-requires : goal.fill-left-requires
+fill-left-requires t c =
+    let a = c in
+    (omega arith, fill_left a.requires c.if-size-eq0.false)
+
+pub fill-right-requires : goal.fill-right-requires
+fill-right-requires t c =
+    let i = c in
+    let a = i in
+    (omega arith, fill_right a.requires i.if-size-eq0.false c.fill-left.ensures.long)
+
+pub corner_on-requires : goal.corner_on-requires
+corner_on-requires t c = tt
+
+pub overflow_cast-splits : goal.overflow_cast-splits
+overflow_cast-splits t c =
+    let f = c in
+    let a = f in
+    record { fits = rw c.corner_on.ensures (corner_small a.args.axis f.fill-left.ensures) }
+
+pub offset_bounds-splits-lo : goal.offset_bounds-splits-lo
+offset_bounds-splits-lo t c =
+    let p = c.requires in
+    record { fits = omega (arith, p.there, p.few) }
+
+pub bounds-splits-lo : goal.bounds-splits-lo
+bounds-splits-lo t c =
+    let f = c in
+    let a = f in
+    let p = a.requires in
+    omega (arith, p.there, p.room, c.fill-right.ensures.long, f.fill-left.ensures.long)
+
+pub coordinate-x-requires : goal.coordinate-x-requires
+coordinate-x-requires t c =
+    let e = c in
+    let a = e in
+    let p = a.requires in
+    omega (arith, e.entry-root.ensures.0, p.below a.args.lo (omega (arith, p.there)), p.marks_long)
+
+pub coordinate-y-requires : goal.coordinate-y-requires
+coordinate-y-requires t c =
+    let e = c in
+    let a = e in
+    let p = a.requires in
+    omega (arith, e.entry-root.ensures.0, p.below a.args.lo (omega (arith, p.there)), p.marks_long)
+
+pub greater-requires : goal.greater-requires
+greater-requires t c = tt
+
+pub greater-requires-2 : goal.greater-requires-2
+greater-requires-2 t c = tt
+
+pub greater-requires-3 : goal.greater-requires-3
+greater-requires-3 t c = tt
+
+pub greater-requires-4 : goal.greater-requires-4
+greater-requires-4 t c = tt
+
+pub shape_of-splits : goal.shape_of-splits
+shape_of-splits t c =
+    let f = c in
+    let f' = f in
+    simp length-set (f.fill-right.ensures.long ∙ f'.fill-left.ensures.long)
+
+pub returns : goal.returns
+returns t c =
+    let c' = c in
+    let f = c' in
+    let f' = f in
+    let a = f' in
+    let p = a.requires in
+    filled_node p f'.if-size-eq0.false a.args.axis f'.fill-left.ensures f.fill-right.ensures c'.corner_on.ensures
+    (omega (arith, p.there, p.room, f.fill-right.ensures.long, f'.fill-left.ensures.long)) refl
+    (c'.coordinate-x.ensures.0 ∙ ap (coordinate _ true) f'.entry-root.ensures.0)
+    (c'.coordinate-y.ensures.0 ∙ ap (coordinate _ false) f'.entry-root.ensures.0)
+    c'.coordinate-x.ensures.1 c'.coordinate-y.ensures.1
+    (rw (← c.greater.ensures) c.greater-2.ensures) (rw (← c.greater-3.ensures) c.greater-4.ensures)

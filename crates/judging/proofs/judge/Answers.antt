@@ -1,0 +1,19 @@
+-- `judging::judge` meets its contract: the table is that of the whole index, and nobody clashes exactly where the judge accepts. Assumes nothing.
+use mathlib.Core.Path.{refl, ◌∙◌}
+use borrow.Author.Rules.{rules}
+use Rattle.judging.specs.Lemmas.Clear.{judge_clear}
+use Rattle.judging.specs.Lemmas.Listing.{fillable, tabled}
+use Rattle.judging.proofs.judge.Goals as goal
+
+pub fill-requires : goal.fill-requires
+fill-requires c = fillable c.requires refl
+
+pub judge_by-requires : goal.judge_by-requires
+judge_by-requires c =
+    let a = c in
+    (tabled a.requires refl c.fill.ensures, refl)
+
+pub returns : goal.returns
+returns c =
+    let b = c in
+    c.judge_by.ensures ∙ judge_clear b.requires.asked (λ i. (b.type_inv.marks i).fits)

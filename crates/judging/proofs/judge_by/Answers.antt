@@ -1,0 +1,22 @@
+-- `judging::judge_by` meets its contract: the list is whole, or no radius is above the bound. Assumes nothing.
+use native.Mathlib.Omega.{arith}
+use borrow.Author.Rules.{rules}
+use Rattle.judging.specs.Lemmas.Listing.{listed_widest}
+use Rattle.judging.proofs.judge_by.Goals as goal
+
+pub all_clear-requires : goal.all_clear-requires
+all_clear-requires c =
+    let p = c.requires.0 in
+    record { tabled = p; small = omega arith; fits = omega arith; listed = listed_widest p.indexed.asked.marks }
+
+pub all_clear-requires-2 : goal.all_clear-requires-2
+all_clear-requires-2 c =
+    let l = c in
+    let p = l in
+    let a = p in
+    record {
+      tabled = a.requires.0;
+      small = p.pick_bound-bound.ensures.0;
+      fits = omega (arith, l.list_large-k.ensures.long);
+      listed = l.list_large-k.ensures.listed (omega arith);
+    }

@@ -1,0 +1,53 @@
+-- `judging::list_large` meets its contract: while the loop runs, the large ones of the marks before m are listed. Assumes nothing.
+use Prim.Native.Nat.{◌-◌, ◌≤◌}
+use mathlib.Core.Path.{◌≡◌, refl, sym, ap, ◌∙◌}
+use native.Mathlib.Omega.{arith}
+use lib.Dec.{ltb}
+use lib.ListN.{length, length-set}
+use Rattle.judging.specs.Search.{most_large, Listed}
+use Rattle.judging.specs.Lemmas.Listing.{listed_none, listed_more, advanced_most}
+use Rattle.judging.proofs.list_large.Goals as goal
+
+pub loop-m-init : goal.loop-m-init
+loop-m-init c = (omega arith, omega arith, c.requires.1, listed_none)
+
+pub shape_of-large-then-k-ge-MOST_LARGE : goal.shape_of-large-then-k-ge-MOST_LARGE
+shape_of-large-then-k-ge-MOST_LARGE c =
+    let a = c in
+    c.loop-m.invariant.2 ∙ sym a.requires.1
+
+pub returns-then-k-ge-MOST_LARGE : goal.returns-then-k-ge-MOST_LARGE
+returns-then-k-ge-MOST_LARGE c = record { listed = λ h. absurd (omega arith); long = c.loop-m.invariant.2 }
+
+pub overflow_cast-large : goal.overflow_cast-large
+overflow_cast-large c = record { fits = omega (arith, c.requires.0.few) }
+
+pub offset_bounds-large-k : goal.offset_bounds-large-k
+offset_bounds-large-k c = record { fits = omega arith }
+
+pub bounds-large-k : goal.bounds-large-k
+bounds-large-k c = omega (arith, c.loop-m.invariant.2)
+
+pub radius_at-requires : goal.radius_at-requires
+radius_at-requires c = omega (arith, c.requires.0.there)
+
+pub loop-m-preserved : goal.loop-m-preserved
+loop-m-preserved c =
+    let l = c in (
+      omega arith,
+      rw c.advance-k.ensures (advanced_most (ltb l.args.bound c.radius_at.result) (omega arith)),
+      simp length-set l.loop-m.invariant.2,
+      rw c.advance-k.ensures
+          (listed_more (omega arith) (omega (arith, l.loop-m.invariant.2)) refl (ap (ltb l.args.bound) c.radius_at.ensures) l.loop-m.invariant.3),
+    )
+
+pub shape_of-large : goal.shape_of-large
+shape_of-large c =
+    let a = c in
+    c.loop-m.invariant.2 ∙ sym a.requires.1
+
+pub returns : goal.returns
+returns c =
+    let a = c in
+    let q : c.loop-m.m ≡ a.args.n = omega arith in
+    record { listed = λ h. rw q at c.loop-m.invariant.3; long = c.loop-m.invariant.2 }

@@ -1,0 +1,23 @@
+-- `listing::put_listing` meets its contract: the first line, and the marks' lines behind it. Assumes nothing.
+use native.Mathlib.Omega.{arith}
+use borrow.Author.Rules.{rules}
+use Rattle.text.specs.Laws.{wrote_then, wrote_length}
+use Rattle.listing.specs.Lines.{text, listing}
+use Rattle.listing.specs.Laws.{first_room_lem}
+use Rattle.listing.proofs.put_listing.Goals as goal
+
+slice-aggregate-put-first-line : tie.Need-slice-aggregate-put-first-line
+slice-aggregate-put-first-line c = search rules
+
+pub put_marks-requires : goal.put_marks-requires
+put_marks-requires c =
+    let k = c in
+    let a = k.args in
+    let p = k.requires in
+    let w = k.put_first_line-next.ensures in
+    (p.0, omega (arith, w.ends, wrote_length w, first_room_lem (text "marks") a.n (omega arith), p.1))
+
+pub returns : goal.returns
+unfolding listing
+returns c =
+    wrote_then c.put_first_line-next.ensures c.put_marks.ensures

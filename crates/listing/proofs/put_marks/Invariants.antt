@@ -1,0 +1,16 @@
+-- `listing::put_marks` meets its contract: while the loop runs, the lines of the marks before m are written. Assumes nothing.
+use Prim.Native.Nat.{◌-◌, ◌≤◌}
+use mathlib.Core.Path.{◌≡◌}
+use native.Mathlib.Omega.{arith}
+use Rattle.text.specs.Text.{Wrote}
+use Rattle.text.specs.Laws.{wrote_length}
+use Rattle.listing.specs.Lines.{mark_lines}
+use Rattle.listing.specs.Listed.{removal_at}
+use Rattle.listing.specs.Laws.{marks_room, lines_none, lines_more}
+use Rattle.listing.proofs.put_marks.Given as goal
+
+abbrev pub invariant-loop-m : goal.invariant-loop-m
+invariant-loop-m l = (l.m ≤ l.n) × Wrote l.initial.out l.out l.at (mark_lines (removal_at l.schedule) l.m) l.next
+
+abbrev pub decreases-loop-m : goal.decreases-loop-m
+decreases-loop-m l = l.n - l.m

@@ -1,0 +1,14 @@
+-- `logs::log_answer`: 4, and then record by record. Assumes nothing.
+use mathlib.Core.Path.{sym, ◌∙◌}
+use Rattle.contents.specs.Laws.{asked_yes, asked_no}
+use Rattle.logs.specs.Questions.{log_checks}
+use borrow.Author.Rules.{rules}
+use Rattle.logs.proofs.log_answer.Goals as goal
+
+pub returns-then-not-is_log : goal.returns-then-not-is_log
+unfolding log_checks
+returns-then-not-is_log c = sym (asked_no 4 _ (sym c.is_log.ensures ∙ c.if-not-is_log.true))
+
+pub returns : goal.returns
+unfolding log_checks
+returns c = c.records_answer.ensures ∙ sym (asked_yes 4 _ (sym c.is_log.ensures ∙ c.if-not-is_log.false))

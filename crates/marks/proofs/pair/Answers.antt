@@ -1,0 +1,29 @@
+-- `marks::pair` meets its contract: the larger popup and the touching value make the pair value, and without popups it is the touching value.
+-- Assumes nothing.
+use mathlib.Core.Path.{ap₂, ◌∙◌}
+use borrow.Author.Rules.{rules}
+use Rattle.marks.specs.Marks.{larger}
+use Rattle.marks.specs.Pairs.{pair_of, pair_value}
+use Rattle.marks.specs.Laws.{larger_most}
+use Rattle.marks.specs.PairLaws.{unpopped}
+use Rattle.marks.proofs.pair.Goals as goal
+
+pub returns-then-popups-eq0 : goal.returns-then-popups-eq0
+returns-then-popups-eq0 c =
+    let a = c.args in
+    c.touching-touch.ensures.0 ∙ unpopped a.shape a.s.now a.popups.now a.a a.b c.if-popups-eq0.true
+
+pub pair_of-requires : goal.pair_of-requires
+pair_of-requires c =
+    let b = c in
+    let a = b in
+    let p = c.requires.a_bound in
+    (c.touching-touch.ensures.1, rw (c.larger.ensures, a.popup_at.ensures, b.popup_at-2.ensures) (larger_most _ _ 65536 p.2.small p.3.small))
+
+pub returns : goal.returns
+unfolding pair_value
+returns c =
+    let g = c in
+    let b = g in
+    let a = b in
+    c.pair_of.ensures.0 ∙ ap₂ pair_of c.touching-touch.ensures.0 (g.larger.ensures ∙ ap₂ larger a.popup_at.ensures b.popup_at-2.ensures)

@@ -1,0 +1,15 @@
+-- `marks::rank_key` meets its contract: the priority and the radius read give the definition's number. Assumes nothing.
+use native.Mathlib.Omega.{arith}
+use borrow.Author.Rules.{rules}
+use Rattle.marks.specs.Marks.{rank_key}
+use Rattle.marks.specs.Laws.{rank_radius_bound}
+use Rattle.marks.proofs.rank_key.Goals as goal
+
+pub overflow_sub-radius : goal.overflow_sub-radius
+overflow_sub-radius c =
+    let a = c in
+    omega (arith, rank_radius_bound a.args.edition a.args.s.now a.args.m a.requires.2)
+
+pub returns : goal.returns
+unfolding rank_key
+returns c = omega arith

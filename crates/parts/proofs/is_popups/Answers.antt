@@ -1,0 +1,51 @@
+-- `parts::is_popups` meets its contract: while the loop runs, every popup before m is right. Assumes nothing.
+use Rattle.std.proofs.Common.{sym, ◌∙◌}
+use Prim.Native.Nat.{◌-◌, ◌≤◌}
+use mathlib.Core.Path.{◌≡◌, refl}
+use mathlib.Core.Bool.{true}
+use mathlib.Core.Logic.{inr}
+use native.Mathlib.Omega.{arith}
+use borrow.Author.Tests.{eq-eqb, ne_eqb}
+use Rattle.lists.specs.Tests.{every}
+use Rattle.lists.specs.TestLaws.{every_more, every_not}
+use Rattle.marks.specs.Pairs.{popup_at}
+use Rattle.parts.specs.Questions.{is_popup, is_popups}
+use borrow.Author.Rules.{rules}
+use Rattle.parts.proofs.is_popups.Goals as goal
+
+pub returns-then-body-n : goal.returns-then-body-n
+unfolding is_popups
+returns-then-body-n c = rw (ne_eqb _ _ c.if-body-n.true)
+
+pub loop-m-init : goal.loop-m-init
+unfolding every
+loop-m-init c = (omega arith, refl)
+
+pub popup_at-requires : goal.popup_at-requires
+popup_at-requires c = inr (omega (arith, c.if-body-n.false, c.loop-m-test.true))
+
+pub returns-then-not-is_popup : goal.returns-then-not-is_popup
+unfolding is_popups
+returns-then-not-is_popup c =
+    let p = c in
+    let l = p in
+    let b = l in
+    let no = every_not (λ i. is_popup (popup_at b.args.body.now i)) b.args.n l.loop-m.m p.loop-m-test.true
+    (rw (← p.popup_at.ensures) (sym c.is_popup.ensures ∙ c.if-not-is_popup.true)) in
+    rw (eq-eqb _ _ l.if-body-n.false, no)
+
+pub loop-m-preserved : goal.loop-m-preserved
+loop-m-preserved c =
+    let p = c in
+    let l = p in (
+      omega (arith, p.loop-m-test.true),
+      every_more _ l.loop-m.m l.loop-m.invariant.1 (rw (← p.popup_at.ensures) (sym c.is_popup.ensures ∙ c.if-not-is_popup.false)),
+    )
+
+pub returns : goal.returns
+unfolding is_popups
+returns c =
+    let l = c in
+    let q : l.loop-m.m ≡ l.args.n = omega (arith, l.loop-m.invariant.0) in
+    let all : every (λ i. is_popup (popup_at l.args.body.now i)) l.args.n ≡ true = rw q at l.loop-m.invariant.1 in
+    rw (eq-eqb _ _ l.if-body-n.false, all)

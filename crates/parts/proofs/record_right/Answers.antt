@@ -1,0 +1,37 @@
+-- `parts::record_right` meets its contract: each test of the definition in its order; a mark that is named rightly is below n, so its record can be read. Assumes nothing.
+use mathlib.Core.Path.{sym, ◌∙◌}
+use native.Mathlib.Omega.{arith}
+use Rattle.parts.specs.Lemmas.Records.{named, right_of_lem}
+use borrow.Author.Rules.{rules}
+use Rattle.parts.proofs.record_right.Goals as goal
+
+pub returns-then-is_never : goal.returns-then-is_never
+returns-then-is_never c =
+    let d = c in
+    right_of_lem _ _ _ d.record_at-d.ensures (rw (sym c.is_never.ensures ∙ c.if-is_never.true))
+
+pub returns-then-not-names_right : goal.returns-then-not-names_right
+returns-then-not-names_right c =
+    let d = c in
+    right_of_lem _ _ _ d.record_at-d.ensures
+    (rw (sym c.is_never.ensures ∙ c.if-is_never.false, (sym c.names_right.ensures ∙ c.if-not-names_right.true)))
+
+pub value_at-requires : goal.value_at-requires
+value_at-requires c =
+    let d = c in
+    let a = d.args in
+    let right = named (record { marks = a.marks.now; count = a.n; edition = a.edition; shape = a.shape; popups = a.popups.now }) d.record_at-d.result a.m (sym c.names_right.ensures ∙ c.if-not-names_right.false) in
+    omega (arith, right.below)
+
+pub returns : goal.returns
+returns c =
+    let b = c in
+    let d = b in
+    right_of_lem _ _ _ d.record_at-d.ensures
+    (rw (
+      sym b.is_never.ensures ∙ b.if-is_never.false,
+      (sym b.names_right.ensures ∙ b.if-not-names_right.false),
+      c.later.ensures,
+      c.value_at.ensures,
+      c.value_of.ensures,
+    ))

@@ -1,0 +1,15 @@
+-- `scheduling::cell_of` meets its contract: whatever cell it is, it is one of them. Assumes nothing.
+use Prim.Native.Nat.{◌-◌, ◌≤◌}
+use mathlib.Core.Logic.{⊎_elim}
+use native.Mathlib.Omega.{arith}
+use native.Mathlib.Nat.{div-le_self}
+use borrow.Author.Rules.{rules}
+use Rattle.scheduling.proofs.cell_of.Goals as goal
+use Rattle.scheduling.proofs.cell_of.Goals.{then-plan, else-plan}
+
+pub overflow_add-small : goal.overflow_add-small
+overflow_add-small c =
+    let i = c in
+    let a = c in
+    let low : i.if-plan.cell ≤ 134217728 = elim i.if-plan.branch [ then-plan w ↦ omega arith | else-plan w ↦ omega arith ] in
+    omega (arith, low, div-le_self i.if-plan.cell (a.args.plan.groups - 1), a.requires.few)

@@ -1,0 +1,19 @@
+-- `scheduling::enter` meets its contract: a row is in its cell, or in none. Assumes nothing.
+use native.Mathlib.Omega.{arith}
+use mathlib.Core.Logic.{inl, inr}
+use borrow.Author.Rules.{rules}
+use Rattle.scheduling.proofs.enter.Goals as goal
+
+pub add-requires : goal.add-requires
+add-requires c =
+    let a = c in
+    record {
+      p_bound = (a.requires.0, a.requires.1, a.requires.2, a.requires.3);
+      small = (a.requires.4.latest_small _ (omega (arith, a.requires.1)), a.requires.4.latest_small _ (omega (arith, a.requires.1)));
+    }
+
+pub returns-then-value-eq0 : goal.returns-then-value-eq0
+returns-then-value-eq0 c = inl (c.put_link.ensures, c.if-value-eq0.true)
+
+pub returns-else-value-eq0 : goal.returns-else-value-eq0
+returns-else-value-eq0 c = inr c.add.ensures

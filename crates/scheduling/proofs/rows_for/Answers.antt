@@ -1,0 +1,15 @@
+-- `scheduling::rows_for` meets its contract: a quotient is no larger than what is divided. Assumes nothing.
+use native.Mathlib.Omega.{arith}
+use native.Mathlib.Nat.{div-le_self}
+use borrow.Author.Rules.{rules}
+use Rattle.scheduling.proofs.rows_for.Goals as goal
+
+pub overflow_cast-result : goal.overflow_cast-result
+overflow_cast-result c =
+    let a = c in
+    omega (arith, div-le_self a.args.small a.args.columns, a.requires)
+
+pub returns : goal.returns
+returns c =
+    let a = c in
+    omega (arith, div-le_self a.args.small a.args.columns, a.requires, c.if-rows-eq0.false)

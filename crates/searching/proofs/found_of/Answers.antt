@@ -1,0 +1,18 @@
+-- `searching::found_of` meets its contract: the leader is what was found, or nobody is. Assumes nothing.
+use mathlib.Core.Path.{refl}
+use native.Mathlib.Omega.{arith}
+use Rattle.searching.proofs.Steps.{searched_nobody, searched}
+use borrow.Author.Rules.{rules}
+use Rattle.searching.proofs.found_of.Goals as goal
+
+pub returns-then-best-eq0 : goal.returns-then-best-eq0
+returns-then-best-eq0 c = record { found = λ shape x. searched_nobody c.if-best-eq0.true x }
+
+pub returns : goal.returns
+returns c =
+    let a = c in
+    record {
+      found = λ shape x.
+          searched (record { num = a.args.best.num; den = a.args.best.den; eliminator = c.read_u16-number.result }) refl c.read_u16-number.ensures (omega arith) a.requires.1
+          (omega (arith, c.if-best-eq0.false)) x;
+    }

@@ -1,0 +1,10 @@
+-- `searching::row_label` meets its contract: the place and the radius that were read. Assumes nothing.
+use Rattle.marks.specs.Laws.{place_passed}
+use borrow.Author.Rules.{rules}
+use Rattle.searching.proofs.row_label.Goals as goal
+
+pub returns : goal.returns
+returns c =
+    let y = c in
+    let x = y in
+    rw (place_passed x.read_i16.type_inv x.read_i16.ensures, place_passed y.read_i16-2.type_inv y.read_i16-2.ensures, c.read_u16.ensures)

@@ -1,0 +1,21 @@
+-- `turns::product_at` meets its contract: the entries of small grids are read back. Assumes nothing.
+use mathlib.Core.List.{[]}
+use borrow.Author.Rules.{rules}
+use lib.ListN.{get_or}
+use Rattle.turns.specs.Turns.{product_at}
+use Rattle.turns.proofs.Signed.{back_small, as_place, row_told}
+use Rattle.turns.proofs.product_at.Goals as goal
+
+pub row_by_column-requires : goal.row_by_column-requires
+row_by_column-requires c =
+    let s = c in
+    let b = s.requires.1.rows in
+    (s.requires.0.rows s.args.i, back_small (as_place ((b 0).each s.args.j)), back_small (as_place ((b 1).each s.args.j)))
+
+pub returns : goal.returns
+unfolding product_at
+returns c =
+    let s = c in
+    let b = s.requires.1.rows in
+    row_told (get_or s.args.a s.args.i []) (as_place ((b 0).each s.args.j)) (as_place ((b 1).each s.args.j))
+    c.row_by_column.type_inv c.row_by_column.ensures

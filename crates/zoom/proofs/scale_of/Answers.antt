@@ -1,0 +1,18 @@
+-- `zoom::scale_of`: by the zoom's two cases; a stop up to 16 shifts without loss. Assumes nothing.
+use Rattle.std.proofs.Common.{sym, ap, ◌∙◌, rules}
+use Rattle.zoom.specs.Zoom.{scale_of}
+use Rattle.zoom.specs.Laws.{stop_refused}
+use Rattle.zoom.specs.Lemmas.Wheels.{stop_shifted}
+use Rattle.zoom.proofs.scale_of.Goals as goal
+
+pub returns-then-s-le16 : goal.returns-then-s-le16
+unfolding scale_of
+returns-then-s-le16 c = sym (stop_shifted _ c.if-s-le16.true) ∙ sym (ap scale_of c.in-Stop.is)
+
+pub returns-else-s-le16 : goal.returns-else-s-le16
+unfolding scale_of
+returns-else-s-le16 c = sym (stop_refused _ c.if-s-le16.false) ∙ sym (ap scale_of c.in-Stop.is)
+
+pub returns-in-Wheel : goal.returns-in-Wheel
+unfolding scale_of
+returns-in-Wheel c = c.wheel_scale.ensures ∙ sym (ap scale_of c.in-Wheel.is)
