@@ -27,8 +27,7 @@ use zoom::Zoom;
 // ---- sheets
 
 // Questions 1 to 9, with 19, 21, 23 and 24.
-#[unsafe(no_mangle)]
-pub extern "C" fn rollmap_check(sheet: &[u8]) -> Answer
+pub fn rollmap_check(sheet: &[u8]) -> Answer
     ensures { result ≡ answer_of (check_job sheet.now) }
 {
     Answer {
@@ -38,8 +37,7 @@ pub extern "C" fn rollmap_check(sheet: &[u8]) -> Answer
 }
 
 // Where the part of this code lies in an accepted sheet: above 0 where it is there, be it empty or not, and 0 where it is not.
-#[unsafe(no_mangle)]
-pub extern "C" fn rollmap_part(sheet: &[u8], code: u32) -> Extent
+pub fn rollmap_part(sheet: &[u8], code: u32) -> Extent
     ensures { (result ≡ place_of (opened sheet.now).layout code) × Located sheet.now (open_parts sheet.now) code result.offset result.length }
 {
     sheet::place_of(sheet, code)
@@ -48,8 +46,7 @@ pub extern "C" fn rollmap_part(sheet: &[u8], code: u32) -> Extent
 // Puts the bodies under these codes together into a sheet at the start of `out`: questions 1 (of the number of parts), 2 of the codes, 4 to 9
 // with 19, 21, 23 and 24, and 13. Bodies behind those that the codes name are ignored. The sheet has these parts and is accepted; an accepted sheet's own
 // parts give that sheet.
-#[unsafe(no_mangle)]
-pub extern "C" fn rollmap_assemble<'a>(
+pub fn rollmap_assemble<'a>(
     codes: &[u16],
     bodies: &'a [&'a [u8]],
     out: &mut [u8],
@@ -65,8 +62,7 @@ pub extern "C" fn rollmap_assemble<'a>(
 // Writes the sheet of three parts that a sheet's marks give, with parts 4, 5 and 7 where they are there, and part 6 renewed, and answers its length:
 // questions 1 to 9, with 19, 21, 23 and 24, and 13. What the work buffer holds plays no part, and what it is left with after a success is not said.
 // The written sheet meets demand 3.
-#[unsafe(no_mangle)]
-pub extern "C" fn rollmap_schedule(sheet: &[u8], work: &mut [u8], out: &mut [u8]) -> Answer
+pub fn rollmap_schedule(sheet: &[u8], work: &mut [u8], out: &mut [u8]) -> Answer
     ensures gives { Gives (schedule_job sheet.now (length work.old) (length out.old)) out.old result out.new }
     ensures lent { Lent result work.old work.new × Meets (marks_part (split sheet.now)) (kept_parts (split sheet.now)) (has (split sheet.now) 6) result out.new }
 {
@@ -77,8 +73,7 @@ pub extern "C" fn rollmap_schedule(sheet: &[u8], work: &mut [u8], out: &mut [u8]
 
 // Schedules a sheet's marks and one more, given by its fields and its popup, behind them, keeps parts 4, 5 and 7 and renews part 6: questions 1 to 10,
 // 18, then 5, 6 and 21 of the new mark, and 13. It is the sheet that scheduling writes for the new marks; the sheet's own schedule plays no part.
-#[unsafe(no_mangle)]
-pub extern "C" fn rollmap_add(
+pub fn rollmap_add(
     sheet: &[u8],
     x: i16,
     y: i16,
@@ -99,8 +94,7 @@ pub extern "C" fn rollmap_add(
 
 // Schedules a sheet's marks without mark m, whereupon higher numbers drop by one, keeps parts 4 and 7, and part 5 without m's row, and renews part 6:
 // questions 1 to 10, 17 and 13. It is the sheet that scheduling writes for the new marks.
-#[unsafe(no_mangle)]
-pub extern "C" fn rollmap_take_out(sheet: &[u8], m: u32, work: &mut [u8], out: &mut [u8]) -> Answer
+pub fn rollmap_take_out(sheet: &[u8], m: u32, work: &mut [u8], out: &mut [u8]) -> Answer
     ensures gives { Gives (take_out_job sheet.now m (length work.old) (length out.old)) out.old result out.new }
     ensures lent { Lent result work.old work.new × Meets (taken_out (marks_part (split sheet.now)) m) (carried (split sheet.now) (λ q. taken_out_popup q m)) (has (split sheet.now) 6) result out.new }
 {
@@ -111,8 +105,7 @@ pub extern "C" fn rollmap_take_out(sheet: &[u8], m: u32, work: &mut [u8], out: &
 
 // Judges the schedule of a sheet, whoever made it: questions 1 to 10, and 22. It answers 0 exactly where the sheet is scheduled here, and then
 // the sheet meets demand 3.
-#[unsafe(no_mangle)]
-pub extern "C" fn rollmap_judge(sheet: &[u8]) -> Answer
+pub fn rollmap_judge(sheet: &[u8]) -> Answer
     ensures { (result ≡ answer_of (judge_job sheet.now)) × MeetsJudging sheet.now result }
 {
     judgement::judge(sheet)
@@ -122,8 +115,7 @@ pub extern "C" fn rollmap_judge(sheet: &[u8]) -> Answer
 
 // Writes a sheet with part 6, the counts of its own schedule, and answers its length: questions 1 to 9, with 19, 21, 23 and 24, 10 where part 2 is
 // lacking, and 13. Its other parts stay as they are.
-#[unsafe(no_mangle)]
-pub extern "C" fn rollmap_count(sheet: &[u8], out: &mut [u8]) -> Answer
+pub fn rollmap_count(sheet: &[u8], out: &mut [u8]) -> Answer
     ensures gives { Gives (count_job sheet.now (length out.old)) out.old result out.new }
     ensures meets_counting { MeetsCounting sheet.now result out.new }
 {
@@ -134,8 +126,7 @@ pub extern "C" fn rollmap_count(sheet: &[u8], out: &mut [u8]) -> Answer
 
 // Writes the same marks, each radius 0 as the number in 01's old table, and answers how many bytes these are: questions 4, then 5 and 6
 // mark by mark, and 13.
-#[unsafe(no_mangle)]
-pub extern "C" fn rollmap_fill(marks: &[u8], out: &mut [u8]) -> Answer
+pub fn rollmap_fill(marks: &[u8], out: &mut [u8]) -> Answer
     ensures gives { Gives (fill_job marks.now (length out.old)) out.old result out.new }
     ensures meets_filling { MeetsFilling marks.now result out.new }
 {
@@ -146,8 +137,7 @@ pub extern "C" fn rollmap_fill(marks: &[u8], out: &mut [u8]) -> Answer
 
 // Turns a log into marks at the start of `out`, and answers how many bytes these are: questions 4, then 15 and 16 of x, of y, 5 and 6
 // record by record, and 13. Turned back they are the log.
-#[unsafe(no_mangle)]
-pub extern "C" fn rollmap_log_to_marks(log: &[u8], out: &mut [u8]) -> Answer
+pub fn rollmap_log_to_marks(log: &[u8], out: &mut [u8]) -> Answer
     ensures gives { Gives (log_to_marks_job log.now (length out.old)) out.old result out.new }
     ensures meets_log { MeetsLog log.now result out.new }
 {
@@ -156,8 +146,7 @@ pub extern "C" fn rollmap_log_to_marks(log: &[u8], out: &mut [u8]) -> Answer
 
 // Turns marks into a log at the start of `out`, and answers how many bytes it has: questions 4, then 5 and 6 mark by mark, and 13. Turned
 // back it is the marks.
-#[unsafe(no_mangle)]
-pub extern "C" fn rollmap_marks_to_log(marks: &[u8], out: &mut [u8]) -> Answer
+pub fn rollmap_marks_to_log(marks: &[u8], out: &mut [u8]) -> Answer
     ensures gives { Gives (marks_to_log_job marks.now (length out.old)) out.old result out.new }
     ensures meets_marks { MeetsMarks marks.now result out.new }
 {
@@ -168,8 +157,7 @@ pub extern "C" fn rollmap_marks_to_log(marks: &[u8], out: &mut [u8]) -> Answer
 
 // Rearranges marks by columns at the start of `out`: all x, then all y, radii, priorities, kinds and tags, and each x and each y after the first
 // as its difference from the one before. Answers how many bytes these are: questions 4 and 13. Rearranged into marks again they are the same.
-#[unsafe(no_mangle)]
-pub extern "C" fn rollmap_to_columns(marks: &[u8], out: &mut [u8]) -> Answer
+pub fn rollmap_to_columns(marks: &[u8], out: &mut [u8]) -> Answer
     ensures gives { Gives (to_columns_job marks.now (length out.old)) out.old result out.new }
     ensures meets_columns { MeetsColumns marks.now result out.new }
 {
@@ -178,8 +166,7 @@ pub extern "C" fn rollmap_to_columns(marks: &[u8], out: &mut [u8]) -> Answer
 
 // Rearranges columns into marks at the start of `out`, and answers how many bytes these are: questions 4 and 13. Rearranged by columns again they
 // are the same.
-#[unsafe(no_mangle)]
-pub extern "C" fn rollmap_from_columns(columns: &[u8], out: &mut [u8]) -> Answer
+pub fn rollmap_from_columns(columns: &[u8], out: &mut [u8]) -> Answer
     ensures gives { Gives (from_columns_job columns.now (length out.old)) out.old result out.new }
     ensures meets_rows { MeetsRows columns.now result out.new }
 {
@@ -190,8 +177,7 @@ pub extern "C" fn rollmap_from_columns(columns: &[u8], out: &mut [u8]) -> Answer
 
 // The view at a stop; of a sheet scheduled here it meets demand 3, it is that at the wheel value of the same zoom, and that of the turned marks
 // without a turn.
-#[unsafe(no_mangle)]
-pub extern "C" fn rollmap_view_stop(
+pub fn rollmap_view_stop(
     sheet: &[u8],
     x0: i32,
     x1: i32,
@@ -216,8 +202,7 @@ pub extern "C" fn rollmap_view_stop(
 }
 
 // The view at a wheel value; of a sheet scheduled here it meets demand 3, and it is that of the turned marks without a turn.
-#[unsafe(no_mangle)]
-pub extern "C" fn rollmap_view_wheel(
+pub fn rollmap_view_wheel(
     sheet: &[u8],
     x0: i32,
     x1: i32,
@@ -243,16 +228,14 @@ pub extern "C" fn rollmap_view_wheel(
 // ---- reading a map
 
 // The least shown mark at or after `start` and below n, else 65,535.
-#[unsafe(no_mangle)]
-pub extern "C" fn rollmap_walk(map: &[u8], n: u32, start: u32) -> Answer
+pub fn rollmap_walk(map: &[u8], n: u32, start: u32) -> Answer
     ensures { result ≡ answer_of (walk_job map.now n start) }
 {
     viewing::walk(map, n, start)
 }
 
 // Whether the map of n marks shows mark m: 1 or 0, and 0 where m is not below n. It asks 13 as the walk does.
-#[unsafe(no_mangle)]
-pub extern "C" fn rollmap_is_shown(map: &[u8], n: u32, m: u32) -> Answer
+pub fn rollmap_is_shown(map: &[u8], n: u32, m: u32) -> Answer
     ensures { result ≡ answer_of (is_shown_job map.now n m) }
 {
     viewing::is_shown(map, n, m)

@@ -6,7 +6,7 @@ ghost use Rattle.report.specs.Text.{longest_input};
 ghost use Rattle.report.specs.Printing.{Room};
 ghost use Rattle.schedule.specs.Reading.{InRoom, Told, Reported};
 
-use libc::{STDERR_FILENO, STDIN_FILENO, STDOUT_FILENO};
+use std::io::{Print, Read};
 
 // The buffers of `MARKS` marks: 32 bytes of work each and 1,024, 14 bytes a record, 105 bytes a line and 29 for the first line.
 const MARKS: usize = 2000;
@@ -25,24 +25,23 @@ enum Reading {
 }
 
 // Reads once: Read(0) says that the input has ended.
-fn read_some(fd: i32, room: &mut [u8]) -> Reading
+fn read_some<R: Read>(from: &mut R, room: &mut [u8]) -> Reading
     ensures { InRoom result room.new }
 {
-    let got = libc::read(fd, room);
-    if got < 0 {
-        return Reading::Failed;
+    match from.read(room) {
+        Ok(got) => Reading::Read(got),
+        Err(_) => Reading::Failed,
     }
-    Reading::Read(io::count(got, room))
 }
 
 // Reads until the input ends or the room is full. The room has a byte more than an input may have, so that a longer one is seen to be longer.
-fn read_input(fd: i32, room: &mut [u8]) -> Reading
+fn read_input<R: Read>(from: &mut R, room: &mut [u8]) -> Reading
     requires { longest_input < length room.old }
     ensures { Told result room.new }
 {
     let mut size = 0;
     while size < room.len() {
-        let Reading::Read(more) = read_some(fd, &mut room[size..]) else {
+        let Reading::Read(more) = read_some(from, &mut room[size..]) else {
             return Reading::Failed;
         };
         if more == 0 {
@@ -71,29 +70,27 @@ fn print_read(
 }
 
 // Says on standard error what failed, where something did.
-fn complain(reading: Reading, is_written: bool) {
+fn complain(rt: &HostRuntime, reading: Reading, is_written: bool) {
     if let Reading::Failed = reading {
-        io::write_all(
-            STDERR_FILENO,
+        let _ = rt.stderr().write_all(
             b"schedule: standard input cannot be read; nothing is printed\n",
         );
         return;
     }
     if !is_written {
-        io::write_all(
-            STDERR_FILENO,
+        let _ = rt.stderr().write_all(
             b"schedule: standard output cannot be written; what is printed is not whole\n",
         );
     }
 }
 
-fn main() {
+fn main(rt: HostRuntime) {
     let mut input = [0u8; 65537];
-    let reading = read_input(STDIN_FILENO, &mut input);
+    let reading = read_input(&mut rt.stdin(), &mut input);
     let mut work = [0u8; WORK];
     let mut schedule = [0u8; SCHEDULE];
     let mut out = [0u8; TEXT];
     let length = print_read(reading, &input, &mut work, &mut schedule, &mut out);
-    let is_written = io::write_all(STDOUT_FILENO, &out[..length]);
-    complain(reading, is_written);
+    let is_written = rt.stdout().write_all(&out[..length]).is_ok();
+    complain(&rt, reading, is_written);
 }

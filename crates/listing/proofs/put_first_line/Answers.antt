@@ -11,7 +11,7 @@ use Rattle.listing.proofs.put_first_line.Goals.{After-put-next}
 
 -- the word
 word : (c : After-put-next) → let a = c.args in
-    Wrote a.out.now c.put-next.new.0 0 a.word.now c.put-next.result
+    Wrote a.out.now c.put-next.new.out 0 a.word.now c.put-next.result
 word c = record { holds = c.put-next.ensures.1; ends = c.put-next.ensures.0 }
 
 pub put_number-requires : goal.put_number-requires

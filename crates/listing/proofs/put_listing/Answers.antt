@@ -6,9 +6,6 @@ use Rattle.listing.specs.Lines.{text, listing}
 use Rattle.listing.specs.Laws.{first_room_lem}
 use Rattle.listing.proofs.put_listing.Goals as goal
 
-slice-aggregate-put-first-line : tie.Need-slice-aggregate-put-first-line
-slice-aggregate-put-first-line c = search rules
-
 pub put_marks-requires : goal.put_marks-requires
 put_marks-requires c =
     let k = c in

@@ -18,10 +18,7 @@ put_mark-next-requires c =
     let a = c.args in
     let p = c.requires in
     let w = l.invariant.1 in
-    let t = c.loop-m-test.true in (
-      (omega (arith, p.0.long, t), omega (arith, w.ends, wrote_length w, marks_room (removal_at a.schedule.now) l.m, p.1, t)),
-      p.0.zooms l.m t,
-    )
+    let t = c.loop-m-test.true in record { record_size_in_bounds = (omega (arith, p.0.long, t), omega (arith, w.ends, wrote_length w, marks_room (removal_at a.schedule.now) l.m, p.1, t)); zoomable = p.0.zooms l.m t }
 
 pub loop-m-preserved : goal.loop-m-preserved
 loop-m-preserved c =

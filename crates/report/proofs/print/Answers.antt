@@ -25,10 +25,10 @@ yes c = sym c.print_answer-number.ensures ∙ c.if-number-ne0.false
 part1 : (c : After-part-marks) → c.part-marks.result.now ≡ marks_part (split c.args.input.now)
 part1 c =
     let k = c in
-    c.part-marks.ensures ∙ rw k.layout_of-layout.ensures (layout_part _ (taken_laid _ (yes k)) 1)
+    c.part-marks.ensures ∙ rw k.layout_of-layout.ensures (layout_part _ (taken_laid _ (sym k.print_answer-number.ensures ∙ k.if-number-ne0.false)) 1)
 
 marks_few : (c : After-part-marks) → mark_count c.part-marks.result.now ≤ most_marks
-marks_few c = part1_few _ (input_bytes c) (yes c) (part1 c)
+marks_few c = part1_few _ (λ i. (c.shared_slice_known-1.given i).fits) (sym c.print_answer-number.ensures ∙ c.if-number-ne0.false) (part1 c)
 
 -- part 4 names the edition
 ranked : (c : After-choice_of-edition)
@@ -36,25 +36,22 @@ ranked : (c : After-choice_of-edition)
 ranked c =
     let k = c in
     let part4 : c.part.result.now ≡ edition_part (split k.args.input.now) =
-    c.part.ensures ∙ rw k.layout_of-layout.ensures (layout_part _ (taken_laid _ (yes k)) 4) in
+    c.part.ensures ∙ rw k.layout_of-layout.ensures (layout_part _ (taken_laid _ (sym k.print_answer-number.ensures ∙ k.if-number-ne0.false)) 4) in
     c.choice_of-edition.ensures ∙ ap choice_in part4
 
 -- part 5 has the popups
 popped : (c : After-part-popups) → c.part-popups.result.now ≡ popups_part (split c.args.input.now)
 popped c =
     let k = c in
-    c.part-popups.ensures ∙ rw k.layout_of-layout.ensures (layout_part _ (taken_laid _ (yes k)) 5)
+    c.part-popups.ensures ∙ rw k.layout_of-layout.ensures (layout_part _ (taken_laid _ (sym k.print_answer-number.ensures ∙ k.if-number-ne0.false)) 5)
 
 -- and part 7 names the shape
 shaped : (c : After-choice_of-shape) → c.choice_of-shape.result ≡ shape_of (split c.args.input.now)
 shaped c =
     let k = c in
     let part7 : c.part-2.result.now ≡ shape_part (split k.args.input.now) =
-    c.part-2.ensures ∙ rw k.layout_of-layout.ensures (layout_part _ (taken_laid _ (yes k)) 7) in
+    c.part-2.ensures ∙ rw k.layout_of-layout.ensures (layout_part _ (taken_laid _ (sym k.print_answer-number.ensures ∙ k.if-number-ne0.false)) 7) in
     c.choice_of-shape.ensures ∙ ap choice_in part7
-
-slice-aggregate-put-first-line : tie.Need-slice-aggregate-put-first-line
-slice-aggregate-put-first-line c = search rules
 
 pub returns-then-number-ne0 : goal.returns-then-number-ne0
 returns-then-number-ne0 c =

@@ -20,7 +20,7 @@ count : (c : After-part) → let s = c.args.input.now in
     length c.part.result.now / 11 ≡ sheet_count s
 count c =
     let k = c in
-    ap (λ (part : List ℕ). length part / 11) (c.part.ensures ∙ found_part _ k.opened-found.ensures (accepted k) 1)
+    ap (λ (part : List ℕ). length part / 11) (c.part.ensures ∙ found_part _ k.opened-found.ensures (sym (found_number _ k.opened-found.ensures) ∙ k.if-number-ne0.false) 1)
 
 pub returns-then-input-gt65536 : goal.returns-then-input-gt65536
 returns-then-input-gt65536 c = sym (answer_long _ (omega (arith, c.if-input-gt65536.true)))

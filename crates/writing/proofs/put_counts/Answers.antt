@@ -4,7 +4,6 @@ use mathlib.Core.Path.{◌≡◌, sym, ap, ◌∙◌}
 use mathlib.Core.List.{List, [], append-nil}
 use native.Mathlib.Omega.{arith}
 use borrow.Author.Rules.{rules}
-use borrow.Author.Tests.{not-true, not-false}
 use lib.ListN.{length, take, drop, length-drop, take-append-drop}
 use lib.Seq.{sets, sets-eq, length-take-le}
 use Rattle.counting.specs.Laws.{counts_length}
@@ -22,7 +21,7 @@ none_set l i h =
 pub returns-then-not-counted : goal.returns-then-not-counted
 returns-then-not-counted c =
     let b = c in
-    let no = not-true b.args.counted c.if-not-counted.true in
+    let no = c.if-not-counted.true in
     rw no (omega arith, none_set b.args.out.now b.args.end (omega (arith, b.requires.2, b.requires.3)))
 
 pub counts_of-counts-requires : goal.counts_of-counts-requires
@@ -32,19 +31,19 @@ counts_of-counts-requires c =
     let n = b.args.n in
     let first = slice_long b.args.out.now start (11 * n) (omega (arith, b.requires.1, b.requires.2, b.requires.3)) in
     let second = slice_long b.args.out.now (start + 11 * n) (14 * n) (omega (arith, b.requires.1, b.requires.2, b.requires.3)) in
-    ((b.requires.0, omega (arith, first), omega (arith, second)), popups_enough b.requires.4)
+    record { n_bound = (b.requires.0, omega (arith, first), omega (arith, second)); fact = popups_enough b.requires.4 }
 
 pub put-requires : goal.put-requires
 put-requires c =
     let b = c in
-    let yes = not-false b.args.counted c.if-not-counted.false in
+    let yes = c.if-not-counted.false in
     let room : b.args.end + 170 ≤ length b.args.out.now = rw yes at b.requires.3 in
     search (rules, room)
 
 pub returns : goal.returns
 returns c =
     let b = c in
-    let yes = not-false b.args.counted c.if-not-counted.false in
+    let yes = c.if-not-counted.false in
     let start = b.args.start in
     let n = b.args.n in
     let one : start + 11 * n - start ≡ 11 * n = omega arith in

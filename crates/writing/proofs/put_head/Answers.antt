@@ -6,7 +6,6 @@ use mathlib.Core.List.{List, [], ◌∷◌, ◌++◌}
 use native.Mathlib.Nat.{le_refl}
 use native.Mathlib.Omega.{arith}
 use borrow.Author.Rules.{rules}
-use lib.Dec.{lit<}
 use lib.ListN.{length, get_or, take}
 use lib.Seq.{length-take-le}
 use Rattle.jobs.specs.Steps.{if_any, codes_from, sizes_from}
@@ -17,9 +16,6 @@ use Rattle.writing.proofs.put_head.Goals.{After-list_part-count, After-list_part
 one_more : (t : Bool) {n m k : ℕ} → m ≡ n + cond t 1 0 → n ≤ k → m ≤ k + 1
 one_more true e h = omega arith
 one_more false e h = omega arith
-
-below : {m k long : ℕ} → m ≤ k → long ≡ 7 → k < 7 → m < long
-below h e f = omega arith
 
 -- none of the sizes is too large
 small_more : (l : List ℕ) (t : Bool) (x : ℕ) → x < 4294967296 → ((i : ℕ) → get_or l i 0 < 4294967296) → (i : ℕ) → get_or (l ++ if_any t x) i 0 < 4294967296
@@ -45,7 +41,7 @@ size_small i e p c v n h =
 
 -- what is listed
 named : (l : After-list_part-count)
-    → take l.list_part-count.result l.list_part-count.new.0
+    → take l.list_part-count.result l.list_part-count.new.codes
     ≡ codes_from l.args.index l.args.edition l.args.popups l.args.counts l.args.shape
 named l =
     l.list_part-count.ensures.1
@@ -57,7 +53,7 @@ named l =
     (l.list_part-fourth.ensures.1 ∙ ap (λ (k : List ℕ). k ++ if_any l.args.edition 4) l.list_part-third.ensures.1)))
 
 sized : (l : After-list_part-count)
-    → take l.list_part-count.result l.list_part-count.new.1.0
+    → take l.list_part-count.result l.list_part-count.new.sizes
     ≡ sizes_from l.args.n l.args.index l.args.edition l.args.popups l.args.counts l.args.shape
 sized l =
     l.list_part-count.ensures.2
@@ -72,65 +68,66 @@ few_1 : (l : After-list_part-third) → l.list_part-third.result ≤ 3
 few_1 l = one_more l.args.index l.list_part-third.ensures.0 (le_refl 2)
 
 few_2 : (l : After-list_part-fourth) → l.list_part-fourth.result ≤ 4
-few_2 l = one_more l.args.edition l.list_part-fourth.ensures.0 (few_1 l)
+few_2 l = one_more l.args.edition l.list_part-fourth.ensures.0 (one_more l.args.index l.list_part-third.ensures.0 (le_refl 2))
 
 few_3 : (l : After-list_part-fifth) → l.list_part-fifth.result ≤ 5
-few_3 l = one_more l.args.popups l.list_part-fifth.ensures.0 (few_2 l)
+few_3 l = one_more l.args.popups l.list_part-fifth.ensures.0 (one_more l.args.edition l.list_part-fourth.ensures.0 (one_more l.args.index l.list_part-third.ensures.0 (le_refl 2)))
 
 few_4 : (l : After-list_part-sixth) → l.list_part-sixth.result ≤ 6
-few_4 l = one_more l.args.counts l.list_part-sixth.ensures.0 (few_3 l)
+few_4 l = one_more l.args.counts l.list_part-sixth.ensures.0 (one_more l.args.popups l.list_part-fifth.ensures.0 (one_more l.args.edition l.list_part-fourth.ensures.0 (one_more l.args.index l.list_part-third.ensures.0 (le_refl 2))))
 
 few : (l : After-list_part-count) → l.list_part-count.result ≤ 7
-few l = one_more l.args.shape l.list_part-count.ensures.0 (few_4 l)
+few l = one_more l.args.shape l.list_part-count.ensures.0 (one_more l.args.counts l.list_part-sixth.ensures.0 (one_more l.args.popups l.list_part-fifth.ensures.0 (one_more l.args.edition l.list_part-fourth.ensures.0 (one_more l.args.index l.list_part-third.ensures.0 (le_refl 2)))))
 
 -- and it is as many as are counted
-named_long : (l : After-list_part-count) → length l.list_part-count.new.0 ≡ 7 → length (take l.list_part-count.result l.list_part-count.new.0) ≡ l.list_part-count.result
-named_long l long = length-take-le l.list_part-count.result l.list_part-count.new.0 (omega (arith, few l, long))
+named_long : (l : After-list_part-count) → length l.list_part-count.new.codes ≡ 7 → length (take l.list_part-count.result l.list_part-count.new.codes) ≡ l.list_part-count.result
+named_long l long = length-take-le l.list_part-count.result l.list_part-count.new.codes (omega (arith, few l, long))
 
-sized_long : (l : After-list_part-count) → length l.list_part-count.new.1.0 ≡ 7 → length (take l.list_part-count.result l.list_part-count.new.1.0) ≡ l.list_part-count.result
-sized_long l long = length-take-le l.list_part-count.result l.list_part-count.new.1.0 (omega (arith, few l, long))
+sized_long : (l : After-list_part-count) → length l.list_part-count.new.sizes ≡ 7 → length (take l.list_part-count.result l.list_part-count.new.sizes) ≡ l.list_part-count.result
+sized_long l long = length-take-le l.list_part-count.result l.list_part-count.new.sizes (omega (arith, few l, long))
 
 pub list_part-fourth-requires : goal.list_part-fourth-requires
 list_part-fourth-requires c =
     let h = few_1 (goal.at.list_part-fourth-requires c).After-list_part-third in
-    (below h c.codes-2-1.given (lit< tt), below h c.sizes-2-1.given (lit< tt))
+    (omega arith, omega arith)
 
 pub list_part-fifth-requires : goal.list_part-fifth-requires
 list_part-fifth-requires c =
     let h = few_2 (goal.at.list_part-fifth-requires c).After-list_part-fourth in
-    (below h c.codes-4-1.given (lit< tt), below h c.sizes-4-1.given (lit< tt))
+    (omega arith, omega arith)
 
 pub list_part-sixth-requires : goal.list_part-sixth-requires
 list_part-sixth-requires c =
     let h = few_3 (goal.at.list_part-sixth-requires c).After-list_part-fifth in
-    (below h c.codes-6-1.given (lit< tt), below h c.sizes-6-1.given (lit< tt))
+    (omega arith, omega arith)
 
 pub list_part-count-requires : goal.list_part-count-requires
 list_part-count-requires c =
     let h = few_4 (goal.at.list_part-count-requires c).After-list_part-sixth in
-    (below h c.codes-8-1.given (lit< tt), below h c.sizes-8-1.given (lit< tt))
+    (omega arith, omega arith)
 
 pub slice_bounds-codes-end : goal.slice_bounds-codes-end
-slice_bounds-codes-end c = omega (arith, few (goal.at.slice_bounds-codes-end c).After-list_part-count, c.codes-10-1.given)
+slice_bounds-codes-end c = omega (arith, few (goal.at.slice_bounds-codes-end c).After-list_part-count)
 
 pub slice_bounds-put_contents-end : goal.slice_bounds-put_contents-end
-slice_bounds-put_contents-end c = sym (named_long (goal.at.slice_bounds-put_contents-end c).After-list_part-count (omega (arith, c.codes-10-1.given)))
+slice_bounds-put_contents-end c = sym (named_long (goal.at.slice_bounds-put_contents-end c).After-list_part-count (omega arith))
 
 pub slice_bounds-sizes-end : goal.slice_bounds-sizes-end
-slice_bounds-sizes-end c = omega (arith, few (goal.at.slice_bounds-sizes-end c).After-list_part-count, c.sizes-10-1.given)
+slice_bounds-sizes-end c = omega (arith, few (goal.at.slice_bounds-sizes-end c).After-list_part-count)
 
 pub slice_bounds-put_contents-end-2 : goal.slice_bounds-put_contents-end-2
-slice_bounds-put_contents-end-2 c = sym (sized_long (goal.at.slice_bounds-put_contents-end-2 c).After-list_part-count (omega (arith, c.sizes-10-1.given)))
+slice_bounds-put_contents-end-2 c = sym (sized_long (goal.at.slice_bounds-put_contents-end-2 c).After-list_part-count (omega arith))
 
 pub put_contents-requires : goal.put_contents-requires
 put_contents-requires c =
-    let l = c in
-    let b = l in
-    let codes = named_long (goal.at.put_contents-requires l).After-list_part-count (omega (arith, c.codes-10-1.given)) in
-    let sizes = sized_long (goal.at.put_contents-requires l).After-list_part-count (omega (arith, c.sizes-10-1.given)) in (
-      (omega (arith, codes, few (goal.at.put_contents-requires l).After-list_part-count), sizes ∙ sym codes, rw (named (goal.at.put_contents-requires l).After-list_part-count) b.requires.1),
-      rw (sized (goal.at.put_contents-requires l).After-list_part-count) (size_small b.args.index b.args.edition b.args.popups b.args.counts b.args.shape b.args.n b.requires.0),
-    )
+    let l = (goal.at.put_contents-requires c).After-list_part-count in
+    let b = c.args in
+    let codes = named_long l (omega arith) in
+    let sizes = sized_long l (omega arith) in
+    record {
+      codes_len_bound = (omega (arith, codes, few l), sizes ∙ sym codes, rw (named l) c.requires.1);
+      by_index = rw (sized l) (size_small b.index b.edition b.popups b.counts b.shape b.n c.requires.0);
+    }
 
 pub returns : goal.returns
-returns c = let l = c in rw (named (goal.at.returns l).After-list_part-count, sized (goal.at.returns l).After-list_part-count) at c.put_contents.ensures
+returns c = let l = (goal.at.returns c).After-list_part-count in rw (named l, sized l) at c.put_contents.ensures

@@ -1,0 +1,6 @@
+-- `rollmap::rollmap_assemble`: what `assembly::assemble` gives. Assumes nothing.
+use borrow.Author.Rules.{rules}
+use Rattle.rollmap.proofs.rollmap_assemble.Goals as goal
+
+pub returns : goal.returns
+returns c = c.assemble.ensures

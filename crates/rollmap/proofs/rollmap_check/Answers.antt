@@ -1,0 +1,7 @@
+-- `rollmap::rollmap_check`: the sheet's own answer. Assumes nothing.
+use Rattle.jobs.specs.Laws.Outcomes.{check_gives}
+use borrow.Author.Rules.{rules}
+use Rattle.rollmap.proofs.rollmap_check.Goals as goal
+
+pub returns : goal.returns
+returns c = rw c.check.ensures (check_gives _)

@@ -1,0 +1,6 @@
+-- `rollmap::rollmap_judge`: what `judgement::judge` gives. Assumes nothing.
+use borrow.Author.Rules.{rules}
+use Rattle.rollmap.proofs.rollmap_judge.Goals as goal
+
+pub returns : goal.returns
+returns c = c.judge.ensures

@@ -1,0 +1,6 @@
+-- `rollmap::rollmap_log_to_marks`: what `conversions::log_to_marks` gives. Assumes nothing.
+use borrow.Author.Rules.{rules}
+use Rattle.rollmap.proofs.rollmap_log_to_marks.Goals as goal
+
+pub returns : goal.returns
+returns c = c.log_to_marks.ensures

@@ -1,0 +1,6 @@
+-- `rollmap::rollmap_marks_to_log`: what `conversions::marks_to_log` gives. Assumes nothing.
+use borrow.Author.Rules.{rules}
+use Rattle.rollmap.proofs.rollmap_marks_to_log.Goals as goal
+
+pub returns : goal.returns
+returns c = c.marks_to_log.ensures

@@ -1,0 +1,13 @@
+-- `rollmap::rollmap_view_stop`: the view at a stop. Assumes nothing.
+use borrow.Author.Rules.{rules}
+use mir.Facts.{to_z-of_z}
+use Rattle.jobs.specs.Stops.{stop_whole}
+use Rattle.jobs.specs.Turns.{turn_meets}
+use Rattle.rollmap.proofs.rollmap_view_stop.Goals as goal
+
+pub returns : goal.returns
+returns c =
+    let b = c in
+    let gives = rw (to_z-of_z {z = b.args.x0} b.ranges.x0, to_z-of_z {z = b.args.x1} b.ranges.x1, to_z-of_z {z = b.args.y0} b.ranges.y0, to_z-of_z {z = b.args.y1} b.ranges.y1) at c.view.ensures in
+    let told = stop_whole gives in
+    record { gives = told.0; meets_view = told.1; meets_turn = turn_meets gives }
