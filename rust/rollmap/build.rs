@@ -3,7 +3,7 @@
 use std::env;
 use std::path::{absolute, PathBuf};
 
-/// The archive, as `rt staticlib rollmap` writes it.
+/// The archive, as `./build` writes it.
 const ARCHIVE: &str = "librollmap.a";
 
 fn main() {
@@ -14,7 +14,7 @@ fn main() {
     println!("cargo::rerun-if-changed={}", archive.display());
     if !archive.is_file() {
         println!(
-            "cargo::error={} is missing: run `rt staticlib rollmap` at the root of the \
+            "cargo::error={} is missing: run `./build` at the root of the \
              repository, or set ROLLMAP_LIB_DIR to the folder that has {ARCHIVE}",
             archive.display()
         );

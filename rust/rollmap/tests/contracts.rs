@@ -70,7 +70,7 @@ fn every_public_function_says_what_it_gives() {
     let functions = all();
     assert!(functions.len() > 90, "{} functions", functions.len());
     for (file, function) in functions {
-        let says = function.head.contains("\n    ensures {");
+        let says = function.head.contains("\n    ensures ");
         assert!(says, "{} of {file} has no ensures", function.name);
     }
 }
@@ -84,7 +84,7 @@ fn no_exported_function_asks_anything() {
         .filter(|line| line.starts_with("struct rollmap_") && line.contains('('));
     assert_eq!(exported.len(), declared.count());
     for (file, function) in exported {
-        let asks = function.head.contains("requires {");
+        let asks = function.head.contains("\n    requires ");
         assert!(!asks, "{} of {file} has a requires", function.name);
         assert!(header.contains(&format!(" {}(", function.name)));
     }
@@ -92,12 +92,12 @@ fn no_exported_function_asks_anything() {
 
 #[test]
 fn a_lost_contract_is_seen() {
-    let source = "pub fn kept() -> u32\n    ensures { λ r. ⌜ r ≡ 1 ⌝ }\n{\n    1\n}\n\n\
-                  pub extern \"C\" fn lost(n: u32) -> u32\n    requires { ⌜ n ≤ 1 ⌝ }\n{\n    1\n}\n";
+    let source = "pub fn kept() -> u32\n    ensures { result ≡ 1 }\n{\n    1\n}\n\n\
+                  pub extern \"C\" fn lost(n: u32) -> u32\n    requires { n ≤ 1 }\n{\n    1\n}\n";
     let functions = public_functions(source);
     let names: Vec<_> = functions.iter().map(|it| it.name.as_str()).collect();
     assert_eq!(names, ["kept", "lost"]);
-    assert!(functions[0].head.contains("\n    ensures {") && !functions[0].exported);
-    assert!(!functions[1].head.contains("\n    ensures {") && functions[1].exported);
-    assert!(functions[1].head.contains("requires {"));
+    assert!(functions[0].head.contains("\n    ensures ") && !functions[0].exported);
+    assert!(!functions[1].head.contains("\n    ensures ") && functions[1].exported);
+    assert!(functions[1].head.contains("\n    requires "));
 }

@@ -94,7 +94,7 @@ fn printed(sheet: &[u8]) -> String {
         .stdin(Stdio::piped())
         .stdout(Stdio::piped())
         .spawn()
-        .expect("the program is built: run `rt check schedule`");
+        .expect("the program is built: run `./build`");
     program.stdin.take().unwrap().write_all(sheet).unwrap();
     let output = program.wait_with_output().unwrap();
     String::from_utf8(output.stdout).unwrap()

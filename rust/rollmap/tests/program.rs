@@ -40,7 +40,7 @@ fn run_in_pieces(input: &[u8], piece: usize) -> String {
         .stdout(Stdio::piped())
         .stderr(Stdio::piped())
         .spawn()
-        .expect("the program is built: run `rt check schedule`");
+        .expect("the program is built: run `./build`");
     let mut stdin = program.stdin.take().unwrap();
     let output = thread::scope(|scope| {
         scope.spawn(move || {

@@ -6,9 +6,9 @@ use Rattle.bitmap.proofs.walk.Goals as goal
 use Rattle.bitmap.proofs.walk.Goals.{After-next_in-t}
 
 -- what the turn's word tells
-turn : (c : After-next_in-t) → let l = c in
-    let a = l.args in
-    Turned a.map.now a.n a.start l.loop-i.i c.next_in-t.result
+turn : (c : After-next_in-t) →
+    let a = c.args in
+    Turned a.map.now a.n a.start c.loop-i.i c.next_in-t.result
 turn c =
     walk_turn (omega arith) c.loop-i.invariant
     (λ k. (c.shared_slice_known-1.given k).fits)

@@ -22,11 +22,10 @@ returns-then-number-ne0 c =
 
 pub last_answer-requires : goal.last_answer-requires
 last_answer-requires c =
-    let b = c in
-    let s = marks_part (together b.args.codes.now (map (λ x. x.now) b.args.bodies.now)) in
+    let s = marks_part (together c.args.codes.now (map (λ x. x.now) c.args.bodies.now)) in
     let e : c.part1_answer-number.result ≡ answer (part1_questions s) = rw c.find-marks.ensures at c.part1_answer-number.ensures in
     let good = ((part1_iff s).0 (sym e ∙ c.if-number-ne0.false)).0 in
-    record { codes_len = ((b.requires.0, b.requires.1, rw c.find-marks.ensures (record { counted = refl; marks = good }))); codes_value = b.requires.2 }
+    record { codes_len = ((c.requires.0, c.requires.1, rw c.find-marks.ensures (record { counted = refl; marks = good }))); codes_value = c.requires.2 }
 
 pub returns : goal.returns
 unfolding body_questions

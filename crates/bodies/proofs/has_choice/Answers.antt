@@ -13,19 +13,17 @@ use Rattle.bodies.proofs.has_choice.Goals as goal
 pub returns-then-not-names : goal.returns-then-not-names
 unfolding is_chosen
 returns-then-not-names c =
-    let b = c in
-    let codes = b.args.codes.now in
-    let bodies = map (λ x. x.now) b.args.bodies.now in
-    let same : length codes ≡ length bodies = rw length-map b.requires.0 in
-    let none : names codes b.args.code ≡ false = (sym c.names.ensures ∙ c.if-not-names.true) in
+    let codes = c.args.codes.now in
+    let bodies = map (λ x. x.now) c.args.bodies.now in
+    let same : length codes ≡ length bodies = rw length-map c.requires.0 in
+    let none : names codes c.args.code ≡ false = (sym c.names.ensures ∙ c.if-not-names.true) in
     rw (together_codes codes bodies same, none)
 
 pub returns : goal.returns
 unfolding is_chosen
 returns c =
-    let b = c in
-    let codes = b.args.codes.now in
-    let bodies = map (λ x. x.now) b.args.bodies.now in
-    let same : length codes ≡ length bodies = rw length-map b.requires.0 in
-    let there : names codes b.args.code ≡ true = (sym c.names.ensures ∙ c.if-not-names.false) in
+    let codes = c.args.codes.now in
+    let bodies = map (λ x. x.now) c.args.bodies.now in
+    let same : length codes ≡ length bodies = rw length-map c.requires.0 in
+    let there : names codes c.args.code ≡ true = (sym c.names.ensures ∙ c.if-not-names.false) in
     rw (together_codes codes bodies same, there, c.is_choice.ensures) (rw c.find.ensures)

@@ -17,25 +17,23 @@ use Rattle.bodies.proofs.has_counts.Goals as goal
 pub returns-then-not-names : goal.returns-then-not-names
 unfolding question23
 returns-then-not-names c =
-    let b = c in
-    let codes = b.args.codes.now in
-    let bodies = map (λ x. x.now) b.args.bodies.now in
-    let same : length codes ≡ length bodies = rw length-map b.requires.codes_len.0 in
+    let codes = c.args.codes.now in
+    let bodies = map (λ x. x.now) c.args.bodies.now in
+    let same : length codes ≡ length bodies = rw length-map c.requires.codes_len.0 in
     let none : names codes 6 ≡ false = (sym c.names.ensures ∙ c.if-not-names.true) in
     rw (together_codes codes bodies same, none)
 
 pub is_counts-requires : goal.is_counts-requires
 is_counts-requires c =
-    let b = c in
-    let codes = b.args.codes.now in
-    let bodies = map (λ x. x.now) b.args.bodies.now in
+    let codes = c.args.codes.now in
+    let bodies = map (λ x. x.now) c.args.bodies.now in
     let parts = together codes bodies in
-    let same : length codes ≡ length bodies = rw length-map b.requires.codes_len.0 in
+    let same : length codes ≡ length bodies = rw length-map c.requires.codes_len.0 in
     let six : names codes 6 ≡ true = (sym c.names.ensures ∙ c.if-not-names.false) in
-    let has-two : has parts 2 ≡ true = rw (together_codes codes bodies same) (six_with_two codes b.requires.bodies_value.2 six) in
-    let long = ((sizes_iff parts).0 b.requires.bodies_value.0).0 has-two in
-    let popped = popups_good parts (count_of parts) ((popups_asked parts).0 b.requires.bodies_value.1) in
-    let good = b.requires.codes_len.2 in record { n_bound = (
+    let has-two : has parts 2 ≡ true = rw (together_codes codes bodies same) (six_with_two codes c.requires.bodies_value.2 six) in
+    let long = ((sizes_iff parts).0 c.requires.bodies_value.0).0 has-two in
+    let popped = popups_good parts (count_of parts) ((popups_asked parts).0 c.requires.bodies_value.1) in
+    let good = c.requires.codes_len.2 in record { n_bound = (
         good.marks.few,
         omega (arith, ap length c.find-2.ensures, good.marks.there),
         omega (arith, ap length c.find-3.ensures, long, good.counted),
@@ -44,10 +42,9 @@ is_counts-requires c =
 pub returns : goal.returns
 unfolding question23
 returns c =
-    let b = c in
-    let codes = b.args.codes.now in
-    let bodies = map (λ x. x.now) b.args.bodies.now in
-    let same : length codes ≡ length bodies = rw length-map b.requires.codes_len.0 in
+    let codes = c.args.codes.now in
+    let bodies = map (λ x. x.now) c.args.bodies.now in
+    let same : length codes ≡ length bodies = rw length-map c.requires.codes_len.0 in
     let there : names codes 6 ≡ true = (sym c.names.ensures ∙ c.if-not-names.false) in
     rw (together_codes codes bodies same, there)
-    (c.is_counts.ensures ∙ rw (c.find.ensures, c.find-2.ensures, c.find-3.ensures, c.find-4.ensures, b.requires.codes_len.2.counted))
+    (c.is_counts.ensures ∙ rw (c.find.ensures, c.find-2.ensures, c.find-3.ensures, c.find-4.ensures, c.requires.codes_len.2.counted))

@@ -17,24 +17,22 @@ use Rattle.bodies.proofs.has_index.Goals as goal
 pub returns-then-not-names : goal.returns-then-not-names
 unfolding question9
 returns-then-not-names c =
-    let b = c in
-    let codes = b.args.codes.now in
-    let bodies = map (λ x. x.now) b.args.bodies.now in
-    let same : length codes ≡ length bodies = rw length-map b.requires.codes_len.0 in
+    let codes = c.args.codes.now in
+    let bodies = map (λ x. x.now) c.args.bodies.now in
+    let same : length codes ≡ length bodies = rw length-map c.requires.codes_len.0 in
     let none : names codes 3 ≡ false = (sym c.names.ensures ∙ c.if-not-names.true) in
     rw (together_codes codes bodies same, none)
 
 pub is_index-requires : goal.is_index-requires
 is_index-requires c =
-    let b = c in
-    let codes = b.args.codes.now in
-    let bodies = map (λ x. x.now) b.args.bodies.now in
-    let same : length codes ≡ length bodies = rw length-map b.requires.codes_len.0 in
+    let codes = c.args.codes.now in
+    let bodies = map (λ x. x.now) c.args.bodies.now in
+    let same : length codes ≡ length bodies = rw length-map c.requires.codes_len.0 in
     let three : names codes 3 ≡ true = (sym c.names.ensures ∙ c.if-not-names.false) in
     let has-three : has (together codes bodies) 3 ≡ true = rw (together_codes codes bodies same) three in
-    let has-two : has (together codes bodies) 2 ≡ true = rw (together_codes codes bodies same) (two_there codes b.requires.bodies_value.1 three) in
-    let sizes = (sizes_iff (together codes bodies)).0 b.requires.bodies_value.0 in
-    let good = b.requires.codes_len.2 in
+    let has-two : has (together codes bodies) 2 ≡ true = rw (together_codes codes bodies same) (two_there codes c.requires.bodies_value.1 three) in
+    let sizes = (sizes_iff (together codes bodies)).0 c.requires.bodies_value.0 in
+    let good = c.requires.codes_len.2 in
     record {
       few = good.marks.few;
       marks_long = omega (arith, ap length c.find.ensures, good.marks.there);
@@ -45,10 +43,9 @@ is_index-requires c =
 pub returns : goal.returns
 unfolding question9
 returns c =
-    let b = c in
-    let codes = b.args.codes.now in
-    let bodies = map (λ x. x.now) b.args.bodies.now in
-    let same : length codes ≡ length bodies = rw length-map b.requires.codes_len.0 in
+    let codes = c.args.codes.now in
+    let bodies = map (λ x. x.now) c.args.bodies.now in
+    let same : length codes ≡ length bodies = rw length-map c.requires.codes_len.0 in
     let there : names codes 3 ≡ true = (sym c.names.ensures ∙ c.if-not-names.false) in
     rw (together_codes codes bodies same, there)
-    (c.is_index.ensures ∙ rw (c.find.ensures, c.find-2.ensures, c.find-3.ensures, b.requires.codes_len.2.counted))
+    (c.is_index.ensures ∙ rw (c.find.ensures, c.find-2.ensures, c.find-3.ensures, c.requires.codes_len.2.counted))

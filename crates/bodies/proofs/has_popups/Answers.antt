@@ -13,10 +13,9 @@ use Rattle.bodies.proofs.has_popups.Goals as goal
 pub returns-then-not-names : goal.returns-then-not-names
 unfolding question21
 returns-then-not-names c =
-    let b = c in
-    let codes = b.args.codes.now in
-    let bodies = map (λ x. x.now) b.args.bodies.now in
-    let same : length codes ≡ length bodies = rw length-map b.requires.0 in
+    let codes = c.args.codes.now in
+    let bodies = map (λ x. x.now) c.args.bodies.now in
+    let same : length codes ≡ length bodies = rw length-map c.requires.0 in
     let none : names codes 5 ≡ false = (sym c.names.ensures ∙ c.if-not-names.true) in
     rw (together_codes codes bodies same, none)
 
@@ -26,9 +25,8 @@ is_popups-requires c = c.requires.2.marks.few
 pub returns : goal.returns
 unfolding question21
 returns c =
-    let b = c in
-    let codes = b.args.codes.now in
-    let bodies = map (λ x. x.now) b.args.bodies.now in
-    let same : length codes ≡ length bodies = rw length-map b.requires.0 in
+    let codes = c.args.codes.now in
+    let bodies = map (λ x. x.now) c.args.bodies.now in
+    let same : length codes ≡ length bodies = rw length-map c.requires.0 in
     let there : names codes 5 ≡ true = (sym c.names.ensures ∙ c.if-not-names.false) in
-    rw (together_codes codes bodies same, there, c.is_popups.ensures) (rw (c.find.ensures, b.requires.2.counted))
+    rw (together_codes codes bodies same, there, c.is_popups.ensures) (rw (c.find.ensures, c.requires.2.counted))

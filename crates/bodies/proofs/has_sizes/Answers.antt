@@ -17,9 +17,8 @@ overflow_mul-n-2 c = omega (arith, c.requires.2.marks.few)
 pub returns : goal.returns
 unfolding question7
 returns c =
-    let b = c in
-    let codes = b.args.codes.now in
-    let bodies = map (λ x. x.now) b.args.bodies.now in
-    let same : length codes ≡ length bodies = rw length-map b.requires.0 in
+    let codes = c.args.codes.now in
+    let bodies = map (λ x. x.now) c.args.bodies.now in
+    let same : length codes ≡ length bodies = rw length-map c.requires.0 in
     rw (together_codes codes bodies same, c.is_sized.ensures, c.is_sized-2.ensures, c.names.ensures, c.names-2.ensures)
-    (rw (c.find-schedule.ensures, c.find-index.ensures, b.requires.2.counted))
+    (rw (c.find-schedule.ensures, c.find-index.ensures, c.requires.2.counted))

@@ -12,107 +12,75 @@ returns-then-not-has_sizes c = sym (asked_no 7 _ (sym c.has_sizes.ensures ∙ c.
 pub returns-then-not-has_choice : goal.returns-then-not-has_choice
 unfolding last_questions question19 question24
 returns-then-not-has_choice c =
-    let a = c in
-    sym (asked_yes 7 _ (sym a.has_sizes.ensures ∙ a.if-not-has_sizes.false) ∙ asked_no 19 _ (sym c.has_choice.ensures ∙ c.if-not-has_choice.true))
+    sym (asked_yes 7 _ (sym c.has_sizes.ensures ∙ c.if-not-has_sizes.false) ∙ asked_no 19 _ (sym c.has_choice.ensures ∙ c.if-not-has_choice.true))
 
 pub returns-then-not-has_popups : goal.returns-then-not-has_popups
 unfolding last_questions question19 question24
 returns-then-not-has_popups c =
-    let b = c in
-    let a = b in
-    sym (asked_yes 7 _ (sym a.has_sizes.ensures ∙ a.if-not-has_sizes.false)
-    ∙ asked_yes 19 _ (sym b.has_choice.ensures ∙ b.if-not-has_choice.false)
+    sym (asked_yes 7 _ (sym c.has_sizes.ensures ∙ c.if-not-has_sizes.false)
+    ∙ asked_yes 19 _ (sym c.has_choice.ensures ∙ c.if-not-has_choice.false)
     ∙ asked_no 21 _ (sym c.has_popups.ensures ∙ c.if-not-has_popups.true))
 
 pub returns-then-not-has_choice-2 : goal.returns-then-not-has_choice-2
 unfolding last_questions question19 question24
 returns-then-not-has_choice-2 c =
-    let d = c in
-    let b = d in
-    let a = b in
-    sym (asked_yes 7 _ (sym a.has_sizes.ensures ∙ a.if-not-has_sizes.false)
-    ∙ asked_yes 19 _ (sym b.has_choice.ensures ∙ b.if-not-has_choice.false)
-    ∙ asked_yes 21 _ (sym d.has_popups.ensures ∙ d.if-not-has_popups.false)
+    sym (asked_yes 7 _ (sym c.has_sizes.ensures ∙ c.if-not-has_sizes.false)
+    ∙ asked_yes 19 _ (sym c.has_choice.ensures ∙ c.if-not-has_choice.false)
+    ∙ asked_yes 21 _ (sym c.has_popups.ensures ∙ c.if-not-has_popups.false)
     ∙ asked_no 24 _ (sym c.has_choice-2.ensures ∙ c.if-not-has_choice-2.true))
 
 pub has_schedule-requires : goal.has_schedule-requires
 has_schedule-requires c =
-    let d = c in
-    let a = d in
-    record { codes_len = a.requires.codes_len; bodies_value = (sym a.has_sizes.ensures ∙ a.if-not-has_sizes.false, (sym d.has_popups.ensures ∙ d.if-not-has_popups.false)) }
+    record { codes_len = c.requires.codes_len; bodies_value = (sym c.has_sizes.ensures ∙ c.if-not-has_sizes.false, (sym c.has_popups.ensures ∙ c.if-not-has_popups.false)) }
 
 pub returns-then-not-has_schedule : goal.returns-then-not-has_schedule
 unfolding last_questions question19 question24
 returns-then-not-has_schedule c =
-    let s = c in
-    let d = s in
-    let b = d in
-    let a = b in
-    sym (asked_yes 7 _ (sym a.has_sizes.ensures ∙ a.if-not-has_sizes.false)
-    ∙ asked_yes 19 _ (sym b.has_choice.ensures ∙ b.if-not-has_choice.false)
-    ∙ asked_yes 21 _ (sym d.has_popups.ensures ∙ d.if-not-has_popups.false)
-    ∙ asked_yes 24 _ (sym s.has_choice-2.ensures ∙ s.if-not-has_choice-2.false)
+    sym (asked_yes 7 _ (sym c.has_sizes.ensures ∙ c.if-not-has_sizes.false)
+    ∙ asked_yes 19 _ (sym c.has_choice.ensures ∙ c.if-not-has_choice.false)
+    ∙ asked_yes 21 _ (sym c.has_popups.ensures ∙ c.if-not-has_popups.false)
+    ∙ asked_yes 24 _ (sym c.has_choice-2.ensures ∙ c.if-not-has_choice-2.false)
     ∙ asked_no 8 _ (sym c.has_schedule.ensures ∙ c.if-not-has_schedule.true))
 
 pub has_index-requires : goal.has_index-requires
 has_index-requires c =
-    let a = c in
-    let p = a.requires in
-    record { codes_len = p.codes_len; bodies_value = (sym a.has_sizes.ensures ∙ a.if-not-has_sizes.false, p.codes_value) }
+    let p = c.requires in
+    record { codes_len = p.codes_len; bodies_value = (sym c.has_sizes.ensures ∙ c.if-not-has_sizes.false, p.codes_value) }
 
 pub returns-then-not-has_index : goal.returns-then-not-has_index
 unfolding last_questions question19 question24
 returns-then-not-has_index c =
-    let e = c in
-    let s = e in
-    let d = s in
-    let b = d in
-    let a = b in
-    sym (asked_yes 7 _ (sym a.has_sizes.ensures ∙ a.if-not-has_sizes.false)
-    ∙ asked_yes 19 _ (sym b.has_choice.ensures ∙ b.if-not-has_choice.false)
-    ∙ asked_yes 21 _ (sym d.has_popups.ensures ∙ d.if-not-has_popups.false)
-    ∙ asked_yes 24 _ (sym s.has_choice-2.ensures ∙ s.if-not-has_choice-2.false)
-    ∙ asked_yes 8 _ (sym e.has_schedule.ensures ∙ e.if-not-has_schedule.false)
+    sym (asked_yes 7 _ (sym c.has_sizes.ensures ∙ c.if-not-has_sizes.false)
+    ∙ asked_yes 19 _ (sym c.has_choice.ensures ∙ c.if-not-has_choice.false)
+    ∙ asked_yes 21 _ (sym c.has_popups.ensures ∙ c.if-not-has_popups.false)
+    ∙ asked_yes 24 _ (sym c.has_choice-2.ensures ∙ c.if-not-has_choice-2.false)
+    ∙ asked_yes 8 _ (sym c.has_schedule.ensures ∙ c.if-not-has_schedule.false)
     ∙ asked_no 9 _ (sym c.has_index.ensures ∙ c.if-not-has_index.true))
 
 pub has_counts-requires : goal.has_counts-requires
 has_counts-requires c =
-    let d = c in
-    let a = d in
-    let p = a.requires in
-    record { codes_len = p.codes_len; bodies_value = (sym a.has_sizes.ensures ∙ a.if-not-has_sizes.false, sym d.has_popups.ensures ∙ d.if-not-has_popups.false, p.codes_value) }
+    let p = c.requires in
+    record { codes_len = p.codes_len; bodies_value = (sym c.has_sizes.ensures ∙ c.if-not-has_sizes.false, sym c.has_popups.ensures ∙ c.if-not-has_popups.false, p.codes_value) }
 
 pub returns-then-has_counts : goal.returns-then-has_counts
 unfolding last_questions question19 question24
 returns-then-has_counts c =
-    let f = c in
-    let e = f in
-    let s = e in
-    let d = s in
-    let b = d in
-    let a = b in
-    sym (asked_yes 7 _ (sym a.has_sizes.ensures ∙ a.if-not-has_sizes.false)
-    ∙ asked_yes 19 _ (sym b.has_choice.ensures ∙ b.if-not-has_choice.false)
-    ∙ asked_yes 21 _ (sym d.has_popups.ensures ∙ d.if-not-has_popups.false)
-    ∙ asked_yes 24 _ (sym s.has_choice-2.ensures ∙ s.if-not-has_choice-2.false)
-    ∙ asked_yes 8 _ (sym e.has_schedule.ensures ∙ e.if-not-has_schedule.false)
-    ∙ asked_yes 9 _ (sym f.has_index.ensures ∙ f.if-not-has_index.false)
+    sym (asked_yes 7 _ (sym c.has_sizes.ensures ∙ c.if-not-has_sizes.false)
+    ∙ asked_yes 19 _ (sym c.has_choice.ensures ∙ c.if-not-has_choice.false)
+    ∙ asked_yes 21 _ (sym c.has_popups.ensures ∙ c.if-not-has_popups.false)
+    ∙ asked_yes 24 _ (sym c.has_choice-2.ensures ∙ c.if-not-has_choice-2.false)
+    ∙ asked_yes 8 _ (sym c.has_schedule.ensures ∙ c.if-not-has_schedule.false)
+    ∙ asked_yes 9 _ (sym c.has_index.ensures ∙ c.if-not-has_index.false)
     ∙ asked_yes 23 _ (sym c.has_counts.ensures ∙ c.if-has_counts.true)
     ∙ none_asked)
 
 pub returns-else-has_counts : goal.returns-else-has_counts
 unfolding last_questions question19 question24
 returns-else-has_counts c =
-    let f = c in
-    let e = f in
-    let s = e in
-    let d = s in
-    let b = d in
-    let a = b in
-    sym (asked_yes 7 _ (sym a.has_sizes.ensures ∙ a.if-not-has_sizes.false)
-    ∙ asked_yes 19 _ (sym b.has_choice.ensures ∙ b.if-not-has_choice.false)
-    ∙ asked_yes 21 _ (sym d.has_popups.ensures ∙ d.if-not-has_popups.false)
-    ∙ asked_yes 24 _ (sym s.has_choice-2.ensures ∙ s.if-not-has_choice-2.false)
-    ∙ asked_yes 8 _ (sym e.has_schedule.ensures ∙ e.if-not-has_schedule.false)
-    ∙ asked_yes 9 _ (sym f.has_index.ensures ∙ f.if-not-has_index.false)
+    sym (asked_yes 7 _ (sym c.has_sizes.ensures ∙ c.if-not-has_sizes.false)
+    ∙ asked_yes 19 _ (sym c.has_choice.ensures ∙ c.if-not-has_choice.false)
+    ∙ asked_yes 21 _ (sym c.has_popups.ensures ∙ c.if-not-has_popups.false)
+    ∙ asked_yes 24 _ (sym c.has_choice-2.ensures ∙ c.if-not-has_choice-2.false)
+    ∙ asked_yes 8 _ (sym c.has_schedule.ensures ∙ c.if-not-has_schedule.false)
+    ∙ asked_yes 9 _ (sym c.has_index.ensures ∙ c.if-not-has_index.false)
     ∙ asked_no 23 _ (sym c.has_counts.ensures ∙ c.if-has_counts.false))

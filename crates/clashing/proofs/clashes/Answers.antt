@@ -12,28 +12,23 @@ and_false true = refl
 and_false false = refl
 
 pub limit_at-w-requires : goal.limit_at-w-requires
-limit_at-w-requires c = let a = c in omega (arith, a.requires.2, a.requires.0.schedule_long)
+limit_at-w-requires c = omega (arith, c.requires.2, c.requires.0.schedule_long)
 
 pub less_small-requires : goal.less_small-requires
 less_small-requires c =
-    let b = c in
-    let a = b in (
-      rw c.limit_at-w.ensures (limit_small a.requires.0 (λ i. (b.type_inv.marks i).fits) a.requires.2),
-      rw a.requires.1.value_is (limit_small a.requires.0 (λ i. (b.type_inv.marks i).fits) a.requires.1.inside),
+    (
+      rw c.limit_at-w.ensures (limit_small c.requires.0 (λ i. (c.type_inv.marks i).fits) c.requires.2),
+      rw c.requires.1.value_is (limit_small c.requires.0 (λ i. (c.type_inv.marks i).fits) c.requires.1.inside),
     )
 
 pub returns-then-less_small : goal.returns-then-less_small
 unfolding clash
 returns-then-less_small c =
-    let l = c in
-    let a = l in
-    rw (← a.requires.1.value_is, ← l.limit_at-w.ensures, ← c.less_small.ensures, c.if-less_small.true) (and_false (not (eqb a.args.g a.args.q.m)))
+    rw (← c.requires.1.value_is, ← c.limit_at-w.ensures, ← c.less_small.ensures, c.if-less_small.true) (and_false (not (eqb c.args.g c.args.q.m)))
 
 pub clashes_standing-requires : goal.clashes_standing-requires
 clashes_standing-requires c =
-    let l = c in
-    let a = l in
-    record { asked = a.requires; w_value = (l.limit_at-w.ensures, sym c.less_small.ensures ∙ c.if-less_small.false) }
+    record { asked = c.requires; w_value = (c.limit_at-w.ensures, sym c.less_small.ensures ∙ c.if-less_small.false) }
 
 pub returns : goal.returns
 returns c = c.clashes_standing.ensures

@@ -14,13 +14,11 @@ use Rattle.clashing.proofs.clashes_standing.Goals.{After-pair_with-f}
 -- both removal values can be compared
 own_small : (e : After-pair_with-f) → Small e.args.q.value
 own_small e =
-    let a = e in
-    rw a.requires.asked.1.value_is (limit_small a.requires.asked.0 (λ i. (e.type_inv.marks i).fits) a.requires.asked.1.inside)
+    rw e.requires.asked.1.value_is (limit_small e.requires.asked.0 (λ i. (e.type_inv.marks i).fits) e.requires.asked.1.inside)
 
 other_small : (e : After-pair_with-f) → Small e.args.w
 other_small e =
-    let a = e in
-    rw a.requires.w_value.0 (limit_small a.requires.asked.0 (λ i. (e.type_inv.marks i).fits) a.requires.asked.2)
+    rw e.requires.w_value.0 (limit_small e.requires.asked.0 (λ i. (e.type_inv.marks i).fits) e.requires.asked.2)
 
 pub returns-then-g-q : goal.returns-then-g-q
 unfolding clash
@@ -28,12 +26,11 @@ returns-then-g-q c = rw (eq-eqb _ _ c.if-g-q.true)
 
 pub pair_with-f-requires : goal.pair_with-f-requires
 pair_with-f-requires c =
-    let a = c in
-    let p = a.requires.asked.0 in
-    let m = a.requires.asked.1.inside in
-    let g = a.requires.asked.2 in
+    let p = c.requires.asked.0 in
+    let m = c.requires.asked.1.inside in
+    let g = c.requires.asked.2 in
     record {
-      label_is = a.requires.asked.1.label_is;
+      label_is = c.requires.asked.1.label_is;
       marked = omega (arith, g, p.marks.there);
       used = (p.marks.each _ g).used;
       own_used = (p.marks.each _ m).used;
@@ -47,125 +44,99 @@ less_small-requires c = (c.pair_with-f.ensures.1, own_small (goal.at.less_small-
 pub returns-then-less_small : goal.returns-then-less_small
 unfolding clash
 returns-then-less_small c =
-    let e = c in
-    let a = e in
-    rw (ne_eqb _ _ e.if-g-q.false, ← a.requires.asked.1.value_is, ← a.requires.w_value.0, a.requires.w_value.1, ← e.pair_with-f.ensures.0, ← c.less_small.ensures, c.if-less_small.true)
+    rw (ne_eqb _ _ c.if-g-q.false, ← c.requires.asked.1.value_is, ← c.requires.w_value.0, c.requires.w_value.1, ← c.pair_with-f.ensures.0, ← c.less_small.ensures, c.if-less_small.true)
 
 pub less_small-requires-2 : goal.less_small-requires-2
-less_small-requires-2 c = let e = c in (own_small (goal.at.less_small-requires-2 e).After-pair_with-f, e.pair_with-f.ensures.1)
+less_small-requires-2 c = (own_small (goal.at.less_small-requires-2 c).After-pair_with-f, c.pair_with-f.ensures.1)
 
 pub returns-then-less_small-2 : goal.returns-then-less_small-2
 unfolding clash
 returns-then-less_small-2 c =
-    let d = c in
-    let e = d in
-    let a = e in
     rw (
-      ne_eqb _ _ e.if-g-q.false,
-      ← a.requires.asked.1.value_is,
-      ← a.requires.w_value.0,
-      a.requires.w_value.1,
-      ← e.pair_with-f.ensures.0,
-      ← d.less_small.ensures,
-      d.if-less_small.false,
+      ne_eqb _ _ c.if-g-q.false,
+      ← c.requires.asked.1.value_is,
+      ← c.requires.w_value.0,
+      c.requires.w_value.1,
+      ← c.pair_with-f.ensures.0,
+      ← c.less_small.ensures,
+      c.if-less_small.false,
       ← c.less_small-2.ensures,
       c.if-less_small-2.true,
     )
 
 pub less_small-requires-3 : goal.less_small-requires-3
-less_small-requires-3 c = let e = c in (e.pair_with-f.ensures.1, other_small (goal.at.less_small-requires-3 e).After-pair_with-f)
+less_small-requires-3 c = (c.pair_with-f.ensures.1, other_small (goal.at.less_small-requires-3 c).After-pair_with-f)
 
 pub returns-then-not-less_small : goal.returns-then-not-less_small
 unfolding clash
 returns-then-not-less_small c =
-    let h = c in
-    let d = h in
-    let e = d in
-    let a = e in
     rw (
-      ne_eqb _ _ e.if-g-q.false,
-      ← a.requires.asked.1.value_is,
-      ← a.requires.w_value.0,
-      a.requires.w_value.1,
-      ← e.pair_with-f.ensures.0,
-      ← d.less_small.ensures,
-      d.if-less_small.false,
-      ← h.less_small-2.ensures,
-      h.if-less_small-2.false,
+      ne_eqb _ _ c.if-g-q.false,
+      ← c.requires.asked.1.value_is,
+      ← c.requires.w_value.0,
+      c.requires.w_value.1,
+      ← c.pair_with-f.ensures.0,
+      ← c.less_small.ensures,
+      c.if-less_small.false,
+      ← c.less_small-2.ensures,
+      c.if-less_small-2.false,
       ← c.less_small-3.ensures,
       c.if-not-less_small.true,
     )
 
 pub outranks-requires : goal.outranks-requires
 outranks-requires c =
-    let a = c in
-    (omega (arith, a.requires.asked.2, a.requires.asked.0.marks.there), omega (arith, a.requires.asked.1.inside, a.requires.asked.0.marks.there))
+    (omega (arith, c.requires.asked.2, c.requires.asked.0.marks.there), omega (arith, c.requires.asked.1.inside, c.requires.asked.0.marks.there))
 
 pub returns-then-not-outranks : goal.returns-then-not-outranks
 unfolding clash
 returns-then-not-outranks c =
-    let k = c in
-    let h = k in
-    let d = h in
-    let e = d in
-    let a = e in
     rw (
-      ne_eqb _ _ e.if-g-q.false,
-      ← a.requires.asked.1.value_is,
-      ← a.requires.w_value.0,
-      a.requires.w_value.1,
-      ← e.pair_with-f.ensures.0,
-      ← d.less_small.ensures,
-      d.if-less_small.false,
-      ← h.less_small-2.ensures,
-      h.if-less_small-2.false,
-      ← k.less_small-3.ensures,
-      k.if-not-less_small.false,
+      ne_eqb _ _ c.if-g-q.false,
+      ← c.requires.asked.1.value_is,
+      ← c.requires.w_value.0,
+      c.requires.w_value.1,
+      ← c.pair_with-f.ensures.0,
+      ← c.less_small.ensures,
+      c.if-less_small.false,
+      ← c.less_small-2.ensures,
+      c.if-less_small-2.false,
+      ← c.less_small-3.ensures,
+      c.if-not-less_small.false,
       ← c.outranks.ensures,
       c.if-not-outranks.true,
     )
 
 pub eliminator_at-requires : goal.eliminator_at-requires
 eliminator_at-requires c =
-    let a = c in
-    omega (arith, a.requires.asked.1.inside, a.requires.asked.0.schedule_long)
+    omega (arith, c.requires.asked.1.inside, c.requires.asked.0.schedule_long)
 
 pub outranks-requires-2 : goal.outranks-requires-2
 outranks-requires-2 c =
-    let h = c in
-    let d = h in
-    let e = d in
-    let a = e in
-    let marks = a.args.marks.now in
-    let popups = a.args.popups.now in
-    let f = pair_value a.args.q.shape marks popups a.args.g a.args.q.m in
-    let told : less f (limit_at a.args.schedule.now a.args.q.m) ≡ false = rw (← e.pair_with-f.ensures.0, ← a.requires.asked.1.value_is) (sym d.less_small.ensures ∙ d.if-less_small.false) in
-    let l = tie_named a.requires.asked.0 a.requires.asked.1.inside f (pairs_positive a.args.q.shape marks popups a.args.g a.args.q.m) told in
-    (omega (arith, a.requires.asked.2, a.requires.asked.0.marks.there), omega (arith, l, c.eliminator_at.ensures, a.requires.asked.0.marks.there))
+    let marks = c.args.marks.now in
+    let popups = c.args.popups.now in
+    let f = pair_value c.args.q.shape marks popups c.args.g c.args.q.m in
+    let told : less f (limit_at c.args.schedule.now c.args.q.m) ≡ false = rw (← c.pair_with-f.ensures.0, ← c.requires.asked.1.value_is) (sym c.less_small.ensures ∙ c.if-less_small.false) in
+    let l = tie_named c.requires.asked.0 c.requires.asked.1.inside f (pairs_positive c.args.q.shape marks popups c.args.g c.args.q.m) told in
+    (omega (arith, c.requires.asked.2, c.requires.asked.0.marks.there), omega (arith, l, c.eliminator_at.ensures, c.requires.asked.0.marks.there))
 
 pub returns : goal.returns
 unfolding clash
 returns c =
-    let n = c in
-    let k = n in
-    let h = k in
-    let d = h in
-    let e = d in
-    let a = e in
     rw (
-      ne_eqb _ _ e.if-g-q.false,
-      ← a.requires.asked.1.value_is,
-      ← a.requires.w_value.0,
-      a.requires.w_value.1,
-      ← e.pair_with-f.ensures.0,
-      ← d.less_small.ensures,
-      d.if-less_small.false,
-      ← h.less_small-2.ensures,
-      h.if-less_small-2.false,
-      ← k.less_small-3.ensures,
-      k.if-not-less_small.false,
-      ← n.outranks.ensures,
-      n.if-not-outranks.false,
+      ne_eqb _ _ c.if-g-q.false,
+      ← c.requires.asked.1.value_is,
+      ← c.requires.w_value.0,
+      c.requires.w_value.1,
+      ← c.pair_with-f.ensures.0,
+      ← c.less_small.ensures,
+      c.if-less_small.false,
+      ← c.less_small-2.ensures,
+      c.if-less_small-2.false,
+      ← c.less_small-3.ensures,
+      c.if-not-less_small.false,
+      ← c.outranks.ensures,
+      c.if-not-outranks.false,
       ← c.eliminator_at.ensures,
     )
     c.outranks-2.ensures

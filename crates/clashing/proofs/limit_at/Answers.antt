@@ -10,13 +10,11 @@ use Rattle.clashing.proofs.limit_at.Goals as goal
 pub returns-then-f-eq0 : goal.returns-then-f-eq0
 unfolding limit_of value_at
 returns-then-f-eq0 c =
-    let a = c in
-    let is : c.fraction_of-f.result ≡ fraction_at a.args.schedule.now a.args.m = c.fraction_of-f.ensures ∙ ap fraction_of c.record_at.ensures in
+    let is : c.fraction_of-f.result ≡ fraction_at c.args.schedule.now c.args.m = c.fraction_of-f.ensures ∙ ap fraction_of c.record_at.ensures in
     rw (eq-eqb _ _ (ap (λ (f : Fraction). f.den) (sym is) ∙ c.if-f-eq0.true))
 
 pub returns : goal.returns
 unfolding limit_of value_at
 returns c =
-    let a = c in
-    let is : c.fraction_of-f.result ≡ fraction_at a.args.schedule.now a.args.m = c.fraction_of-f.ensures ∙ ap fraction_of c.record_at.ensures in
+    let is : c.fraction_of-f.result ≡ fraction_at c.args.schedule.now c.args.m = c.fraction_of-f.ensures ∙ ap fraction_of c.record_at.ensures in
     rw (ne_eqb _ _ (λ z. c.if-f-eq0.false (ap (λ (f : Fraction). f.den) is ∙ z))) is

@@ -22,11 +22,9 @@ less_small-requires c =
 pub returns-then-less_small : goal.returns-then-less_small
 unfolding size_to_search
 returns-then-less_small c =
-    let p = c in
-    rw (← p.place_on.ensures, ← c.gap_to-d.ensures, ← c.less_small.ensures, c.if-less_small.true)
+    rw (← c.place_on.ensures, ← c.gap_to-d.ensures, ← c.less_small.ensures, c.if-less_small.true)
 
 pub returns-else-less_small : goal.returns-else-less_small
 unfolding size_to_search
 returns-else-less_small c =
-    let p = c in
-    rw (← p.place_on.ensures, ← c.gap_to-d.ensures, ← c.less_small.ensures, c.if-less_small.false)
+    rw (← c.place_on.ensures, ← c.gap_to-d.ensures, ← c.less_small.ensures, c.if-less_small.false)

@@ -23,27 +23,23 @@ difference-requires-in-loop-m c = (c.read-y.ensures.1, c.loop-m.invariant.4.smal
 
 pub put_entry-requires : goal.put_entry-requires
 put_entry-requires c =
-    let l = c in
-    let a = l in
-    (c.loop-m-test.true, omega (arith, a.requires.0, l.loop-m.invariant.1), a.requires.1)
+    (c.loop-m-test.true, omega (arith, c.requires.0, c.loop-m.invariant.1), c.requires.1)
 
 pub loop-m-preserved : goal.loop-m-preserved
 loop-m-preserved c =
-    let l = c in
-    let r = c in
-    let a = l.args in
+    let a = c.args in
     let s = a.s.now in
-    let m = l.loop-m.m in
+    let m = c.loop-m.m in
     let z : le_at 2 s (11 * m) ≡ field 2 0 s m = rw (add-zero (11 * m)) in
-    let x = difference (field 2 0 s) m l.loop-m.invariant.3 (r.read-x.ensures.0 ∙ z) r.read-x.ensures.1 in
-    let y = difference (field 2 2 s) m l.loop-m.invariant.4 c.read-y.ensures.0 c.read-y.ensures.1 in
+    let x = difference (field 2 0 s) m c.loop-m.invariant.3 (c.read-x.ensures.0 ∙ z) c.read-x.ensures.1 in
+    let y = difference (field 2 2 s) m c.loop-m.invariant.4 c.read-y.ensures.0 c.read-y.ensures.1 in
     let dx = c.difference.ensures ∙ x in
     let dy = c.difference-in-loop-m.ensures ∙ y in
-    let more = entered_more s _ a.n m dx dy c.loop-m-test.true l.loop-m.invariant.2 c.put_entry.ensures in (
+    let more = entered_more s _ a.n m dx dy c.loop-m-test.true c.loop-m.invariant.2 c.put_entry.ensures in (
       omega arith,
       ap length more ∙ filled_length _ _ _,
       more,
-      kept_more _ m r.read-x.ensures.1 (r.read-x.ensures.0 ∙ z),
+      kept_more _ m c.read-x.ensures.1 (c.read-x.ensures.0 ∙ z),
       kept_more _ m c.read-y.ensures.1 c.read-y.ensures.0,
     )
 
@@ -53,7 +49,6 @@ shape_of-out c = c.loop-m.invariant.1
 pub returns : goal.returns
 unfolding to_columns
 returns c =
-    let l = c in
-    let a = l.args in
-    let e : l.loop-m.m ≡ a.n = omega arith in
-    rw e at l.loop-m.invariant.2 ∙ filled_all _ a.n _
+    let a = c.args in
+    let e : c.loop-m.m ≡ a.n = omega arith in
+    rw e at c.loop-m.invariant.2 ∙ filled_all _ a.n _

@@ -4,6 +4,5 @@ use Rattle.columns.proofs.put_entry.Goals as goal
 
 pub returns : goal.returns
 returns c =
-    let r = c in
-    rw (← r.read-tag.ensures.0, ← r.read-kind.ensures.0, ← r.read-priority.ensures.0, ← r.read-radius.ensures.0)
+    rw (← c.read-tag.ensures.0, ← c.read-kind.ensures.0, ← c.read-priority.ensures.0, ← c.read-radius.ensures.0)
     c.enter.ensures

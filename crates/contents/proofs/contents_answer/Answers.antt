@@ -25,16 +25,14 @@ bodies_join-requires c = (whole_iff _).0 (sym c.has_contents.ensures ∙ c.if-no
 pub returns-then-bodies_join : goal.returns-then-bodies_join
 unfolding contents_questions
 returns-then-bodies_join c =
-    let h = c in
-    sym (asked_yes 1 _ (sym h.has_contents.ensures ∙ h.if-not-has_contents.false)
-    ∙ asked_yes 2 _ (sym h.has_codes.ensures ∙ c.if-not-has_codes.false)
+    sym (asked_yes 1 _ (sym c.has_contents.ensures ∙ c.if-not-has_contents.false)
+    ∙ asked_yes 2 _ (sym c.has_codes.ensures ∙ c.if-not-has_codes.false)
     ∙ asked_yes 3 _ (sym c.bodies_join.ensures ∙ c.if-bodies_join.true)
     ∙ none_asked)
 
 pub returns-else-bodies_join : goal.returns-else-bodies_join
 unfolding contents_questions
 returns-else-bodies_join c =
-    let h = c in
-    sym (asked_yes 1 _ (sym h.has_contents.ensures ∙ h.if-not-has_contents.false)
-    ∙ asked_yes 2 _ (sym h.has_codes.ensures ∙ c.if-not-has_codes.false)
+    sym (asked_yes 1 _ (sym c.has_contents.ensures ∙ c.if-not-has_contents.false)
+    ∙ asked_yes 2 _ (sym c.has_codes.ensures ∙ c.if-not-has_codes.false)
     ∙ asked_no 3 _ (sym c.bodies_join.ensures ∙ c.if-bodies_join.false))

@@ -14,27 +14,24 @@ loop-i-init c = (omega arith, refl)
 
 pub returns-then-codes-i : goal.returns-then-codes-i
 returns-then-codes-i c =
-    let s = c in
-    let l = s.loop-i in
-    let a = s.args in
+    let l = c.loop-i in
+    let a = c.args in
     let i-in : l.i < length (map (λ x. x.now) a.bodies.now) = rw length-map (omega arith) in
     c.body_of.ensures
-    ∙ find_found a.codes.now (map (λ x. x.now) a.bodies.now) l.i a.code s.loop-i-test.true i-in c.if-codes-i.true
+    ∙ find_found a.codes.now (map (λ x. x.now) a.bodies.now) l.i a.code c.loop-i-test.true i-in c.if-codes-i.true
     ∙ l.invariant.1
 
 pub loop-i-preserved : goal.loop-i-preserved
 loop-i-preserved c =
-    let s = c in
-    let l = s.loop-i in
-    let a = s.args in
+    let l = c.loop-i in
+    let a = c.args in
     let i-in : l.i < length (map (λ x. x.now) a.bodies.now) = rw length-map (omega arith) in (
       omega arith,
-      find_passed a.codes.now (map (λ x. x.now) a.bodies.now) l.i a.code s.loop-i-test.true i-in c.if-codes-i.false ∙ l.invariant.1,
+      find_passed a.codes.now (map (λ x. x.now) a.bodies.now) l.i a.code c.loop-i-test.true i-in c.if-codes-i.false ∙ l.invariant.1,
     )
 
 pub returns : goal.returns
 returns c =
-    let s = c in
-    let l = s.loop-i in
-    let a = s.args in
-    find_past a.codes.now (map (λ x. x.now) a.bodies.now) l.i a.code s.loop-i-test.false ∙ l.invariant.1
+    let l = c.loop-i in
+    let a = c.args in
+    find_past a.codes.now (map (λ x. x.now) a.bodies.now) l.i a.code c.loop-i-test.false ∙ l.invariant.1

@@ -17,24 +17,20 @@ overflow_mul-result c = omega (arith, stops_most c.value_at.result)
 
 pub overflow_add-result-2 : goal.overflow_add-result-2
 overflow_add-result-2 c =
-    let value = c in
-    omega (arith, stops_most value.value_at.result, kind_group_few value.kind_at.result)
+    omega (arith, stops_most c.value_at.result, kind_group_few c.kind_at.result)
 
 pub overflow_mul-result-2 : goal.overflow_mul-result-2
 overflow_mul-result-2 c = omega (arith, stops_most c.value_at.result)
 
 pub overflow_add-result-3 : goal.overflow_add-result-3
 overflow_add-result-3 c =
-    let value = c in
-    omega (arith, stops_most value.value_at.result, kind_group_few value.kind_at.result)
+    omega (arith, stops_most c.value_at.result, kind_group_few c.kind_at.result)
 
 pub returns : goal.returns
 unfolding begin_cell end_cell
 returns c =
-    let value = c in
-    let kind = value in
-    let group = value.group_of-group.ensures ∙ ap (λ (k : ℕ). group_number (kind_group k)) kind.kind_at.ensures in
-    let end = c.stops_lived-end.ensures ∙ ap stops_lived value.value_at.ensures in
+    let group = c.group_of-group.ensures ∙ ap (λ (k : ℕ). group_number (kind_group k)) c.kind_at.ensures in
+    let end = c.stops_lived-end.ensures ∙ ap stops_lived c.value_at.ensures in
     let popup = c.popup_stop.ensures in
     let first = c.smaller-first.ensures ∙ ap₂ min popup end in
     record { begin_value = omega (arith, first, group); end_value = omega (arith, end, group) }

@@ -77,8 +77,7 @@ loop-i-smaller c = omega (arith, c.loop-i-test.true)
 
 pub loop-i-preserved : goal.loop-i-preserved
 loop-i-preserved c =
-    let l = c in
-    added_more l.loop-i.invariant c.loop-i-test.true refl refl c.write.ensures
+    added_more c.loop-i.invariant c.loop-i-test.true refl refl c.write.ensures
 
 pub returns : goal.returns
 returns c = added_all c.loop-i.invariant (omega (arith, c.loop-i-test.false))

@@ -32,12 +32,11 @@ bounds-counts-i c = omega (arith, c.loop-i-test.true)
 pub returns-then-body-i : goal.returns-then-body-i
 unfolding is_counts
 returns-then-body-i c =
-    let l = c in
-    let is = l.counts_of-counts.ensures in
-    let a = l.args in
+    let is = c.counts_of-counts.ensures in
+    let a = c.args in
     let same = same_at a.body.now (counts_of a.marks.now a.schedule.now a.popups.now a.n) in
-    let other : same l.loop-i.i ≡ false = rw (← is) (ne_eqb _ _ c.if-body-i.true) in
-    sym (and_no (eqb (length a.body.now) 170) (every_not same 170 l.loop-i.i c.loop-i-test.true other))
+    let other : same c.loop-i.i ≡ false = rw (← is) (ne_eqb _ _ c.if-body-i.true) in
+    sym (and_no (eqb (length a.body.now) 170) (every_not same 170 c.loop-i.i c.loop-i-test.true other))
 
 pub overflow_add-i : goal.overflow_add-i
 overflow_add-i c = omega (arith, c.loop-i-test.true)
@@ -47,16 +46,14 @@ loop-i-smaller c = omega (arith, c.loop-i-test.true)
 
 pub loop-i-preserved : goal.loop-i-preserved
 loop-i-preserved c =
-    let l = c in
-    (omega (arith, c.loop-i-test.true), every_more _ l.loop-i.i l.loop-i.invariant.1 (eq-eqb _ _ c.if-body-i.false))
+    (omega (arith, c.loop-i-test.true), every_more _ c.loop-i.i c.loop-i.invariant.1 (eq-eqb _ _ c.if-body-i.false))
 
 pub returns : goal.returns
 unfolding is_counts
 returns c =
-    let l = c in
-    let is = l.counts_of-counts.ensures in
-    let a = l.args in
-    let q : l.loop-i.i ≡ 170 = omega (arith, l.loop-i.invariant.0, c.loop-i-test.false) in
+    let is = c.counts_of-counts.ensures in
+    let a = c.args in
+    let q : c.loop-i.i ≡ 170 = omega (arith, c.loop-i.invariant.0, c.loop-i-test.false) in
     let same = same_at a.body.now (counts_of a.marks.now a.schedule.now a.popups.now a.n) in
-    let all : every same 170 ≡ true = rw (← is, ← q) l.loop-i.invariant.1 in
-    sym (and_both (eq-eqb (length a.body.now) 170 l.if-body-ne-COUNTS_SIZE.false) all)
+    let all : every same 170 ≡ true = rw (← is, ← q) c.loop-i.invariant.1 in
+    sym (and_both (eq-eqb (length a.body.now) 170 c.if-body-ne-COUNTS_SIZE.false) all)

@@ -14,44 +14,41 @@ lived b = stops_lived (At b.args.f)
 
 pub small_reached-second-requires : goal.small_reached-second-requires
 small_reached-second-requires c =
-    let b = c in (b.requires.0, b.requires.1, omega arith, omega (arith, c.small_reached-first.ensures, step_most (lived (goal.at.small_reached-second-requires b).Start) 0 9))
+    (c.requires.0, c.requires.1, omega arith, omega (arith, c.small_reached-first.ensures, step_most (lived (goal.at.small_reached-second-requires c).Start) 0 9))
 
 pub small_reached-third-requires : goal.small_reached-third-requires
 small_reached-third-requires c =
-    let b = c in
     let one = c.small_reached-first.result in
-    (b.requires.0, b.requires.1, omega arith, omega (arith, c.small_reached-second.ensures, step_most (lived (goal.at.small_reached-third-requires b).Start) one 4, c.small_reached-first.ensures, step_most (lived (goal.at.small_reached-third-requires b).Start) 0 9))
+    (c.requires.0, c.requires.1, omega arith, omega (arith, c.small_reached-second.ensures, step_most (lived (goal.at.small_reached-third-requires c).Start) one 4, c.small_reached-first.ensures, step_most (lived (goal.at.small_reached-third-requires c).Start) 0 9))
 
 pub small_reached-fourth-requires : goal.small_reached-fourth-requires
 small_reached-fourth-requires c =
-    let b = c in
     let one = c.small_reached-first.result in
     let two = c.small_reached-second.result in (
-      b.requires.0,
-      b.requires.1,
+      c.requires.0,
+      c.requires.1,
       omega arith,
-      omega (arith, c.small_reached-third.ensures, step_most (lived (goal.at.small_reached-fourth-requires b).Start) two 2, c.small_reached-second.ensures, step_most (lived (goal.at.small_reached-fourth-requires b).Start) one 4, c.small_reached-first.ensures, step_most (lived (goal.at.small_reached-fourth-requires b).Start) 0 9),
+      omega (arith, c.small_reached-third.ensures, step_most (lived (goal.at.small_reached-fourth-requires c).Start) two 2, c.small_reached-second.ensures, step_most (lived (goal.at.small_reached-fourth-requires c).Start) one 4, c.small_reached-first.ensures, step_most (lived (goal.at.small_reached-fourth-requires c).Start) 0 9),
     )
 
 pub small_reached-requires : goal.small_reached-requires
 small_reached-requires c =
-    let b = c in
     let one = c.small_reached-first.result in
     let two = c.small_reached-second.result in
     let three = c.small_reached-third.result in (
-      b.requires.0,
-      b.requires.1,
+      c.requires.0,
+      c.requires.1,
       omega arith,
       omega (
         arith,
         c.small_reached-fourth.ensures,
-        step_most (lived (goal.at.small_reached-requires b).Start) three 1,
+        step_most (lived (goal.at.small_reached-requires c).Start) three 1,
         c.small_reached-third.ensures,
-        step_most (lived (goal.at.small_reached-requires b).Start) two 2,
+        step_most (lived (goal.at.small_reached-requires c).Start) two 2,
         c.small_reached-second.ensures,
-        step_most (lived (goal.at.small_reached-requires b).Start) one 4,
+        step_most (lived (goal.at.small_reached-requires c).Start) one 4,
         c.small_reached-first.ensures,
-        step_most (lived (goal.at.small_reached-requires b).Start) 0 9,
+        step_most (lived (goal.at.small_reached-requires c).Start) 0 9,
       ),
     )
 

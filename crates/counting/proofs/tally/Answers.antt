@@ -21,45 +21,37 @@ cells_of-cells-requires c =
 
 pub add_one-requires : goal.add_one-requires
 add_one-requires c =
-    let l = c in
-    let a = l in
     let is = c.cells_of-cells.ensures.begin_value in
-    let small = begin_small a.args.marks.now a.args.schedule.now a.args.popups.now l.loop-m.m in
-    tallied_room l.loop-m.invariant.1.begun (omega (arith, is, small)) (omega (arith, a.requires.n_bound.0))
+    let small = begin_small c.args.marks.now c.args.schedule.now c.args.popups.now c.loop-m.m in
+    tallied_room c.loop-m.invariant.1.begun (omega (arith, is, small)) (omega (arith, c.requires.n_bound.0))
 
 pub add_one-requires-in-loop-m : goal.add_one-requires-in-loop-m
 add_one-requires-in-loop-m c =
-    let l = c in
-    let a = l in
     let is = c.cells_of-cells.ensures.end_value in
-    let small = end_small a.args.marks.now a.args.schedule.now a.args.popups.now l.loop-m.m in
-    tallied_room l.loop-m.invariant.1.gone (omega (arith, is, small)) (omega (arith, a.requires.n_bound.0))
+    let small = end_small c.args.marks.now c.args.schedule.now c.args.popups.now c.loop-m.m in
+    tallied_room c.loop-m.invariant.1.gone (omega (arith, is, small)) (omega (arith, c.requires.n_bound.0))
 
 pub overflow_add-m : goal.overflow_add-m
 overflow_add-m c =
-    let l = c in
-    omega (arith, l.loop-m.invariant.0, l.requires.n_bound.0)
+    omega (arith, c.loop-m.invariant.0, c.requires.n_bound.0)
 
 pub loop-m-smaller : goal.loop-m-smaller
 loop-m-smaller c = omega (arith, c.loop-m-test.true)
 
 pub loop-m-preserved : goal.loop-m-preserved
 loop-m-preserved c =
-    let cells = c in
-    let l = cells in
-    let a = l in
-    let s = a.args.marks.now in
-    let p = a.args.schedule.now in
-    let q = a.args.popups.now in
-    let m = l.loop-m.m in
-    let begin = cells.cells_of-cells.ensures.begin_value in
-    let end = cells.cells_of-cells.ensures.end_value in
+    let s = c.args.marks.now in
+    let p = c.args.schedule.now in
+    let q = c.args.popups.now in
+    let m = c.loop-m.m in
+    let begin = c.cells_of-cells.ensures.begin_value in
+    let end = c.cells_of-cells.ensures.end_value in
     let first = c.add_one.ensures in
     let second = c.add_one-in-loop-m.ensures in (
-      omega (arith, cells.loop-m-test.true),
+      omega (arith, c.loop-m-test.true),
       record {
-        begun = tallied_more l.loop-m.invariant.1.begun begin (omega (arith, begin, begin_small s p q m)) first;
-        gone = tallied_more l.loop-m.invariant.1.gone end (omega (arith, end, end_small s p q m)) second;
+        begun = tallied_more c.loop-m.invariant.1.begun begin (omega (arith, begin, begin_small s p q m)) first;
+        gone = tallied_more c.loop-m.invariant.1.gone end (omega (arith, end, end_small s p q m)) second;
       },
     )
 
@@ -71,7 +63,5 @@ shape_of-ends c = c.loop-m.invariant.1.gone.long ∙ sym c.requires.entered.gone
 
 pub returns : goal.returns
 returns c =
-    let l = c in
-    let a = l in
-    let e : l.loop-m.m ≡ a.args.n = omega (arith, l.loop-m.invariant.0, c.loop-m-test.false) in
-    rw (← e) l.loop-m.invariant.1
+    let e : c.loop-m.m ≡ c.args.n = omega (arith, c.loop-m.invariant.0, c.loop-m-test.false) in
+    rw (← e) c.loop-m.invariant.1

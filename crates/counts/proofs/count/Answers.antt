@@ -24,14 +24,16 @@ there c code = layout_there _ (accepted c) (found_layout _ c.opened-found.ensure
 
 pub returns-then-number-ne0 : goal.returns-then-number-ne0
 returns-then-number-ne0 c =
-    count_whole (λ i. (c.type_inv.sheet i).fits)
-    (count_refused c.args.sheet.now _ (found_number _ c.opened-found.ensures) (omega (arith, c.if-number-ne0.true)) c.refused.ensures)
+    let w = count_whole (λ i. (c.type_inv.sheet i).fits) {before = c.args.out.now}
+    (count_refused c.args.sheet.now _ (found_number _ c.opened-found.ensures) (omega (arith, c.if-number-ne0.true)) c.refused.ensures) in
+    record { gives = w.0; meets_counting = w.1 }
 
 pub returns-then-not-is_there : goal.returns-then-not-is_there
 returns-then-not-is_there c =
     let k = (goal.at.returns-then-not-is_there c).Else-number-ne0 in
-    count_whole (λ i. (c.type_inv.sheet i).fits)
-    (count_unscheduled c.args.sheet.now _ (accepted k) (sym (c.is_there.ensures ∙ there k 2) ∙ c.if-not-is_there.true) c.refused-then-not-is_there.ensures)
+    let w = count_whole (λ i. (c.type_inv.sheet i).fits) {before = c.args.out.now}
+    (count_unscheduled c.args.sheet.now _ (accepted k) (sym (c.is_there.ensures ∙ there k 2) ∙ c.if-not-is_there.true) c.refused-then-not-is_there.ensures) in
+    record { gives = w.0; meets_counting = w.1 }
 
 pub copied-requires : goal.copied-requires
 copied-requires c = sheet_small c.args.sheet.now (accepted (goal.at.copied-requires c).Else-number-ne0) (λ i. (c.type_inv.sheet i).fits)
@@ -43,8 +45,9 @@ returns-then-is_there c =
     let ok = accepted k in
     let two : has (split s) 2 ≡ true = sym (c.is_there.ensures ∙ there k 2) ∙ c.if-not-is_there.false in
     let six : has (split s) 6 ≡ true = sym (c.is_there-2.ensures ∙ there k 6) ∙ c.if-is_there.true in
-    count_whole (λ i. (c.type_inv.sheet i).fits)
-    (count_roomed s _ ok two s (counted_same s ok two (λ i. (c.type_inv.sheet i).fits) six) c.copied.ensures)
+    let w = count_whole (λ i. (c.type_inv.sheet i).fits) {before = c.args.out.now}
+    (count_roomed s _ ok two s (counted_same s ok two (λ i. (c.type_inv.sheet i).fits) six) c.copied.ensures) in
+    record { gives = w.0; meets_counting = w.1 }
 
 pub put_counted-requires : goal.put_counted-requires
 put_counted-requires c =
@@ -58,5 +61,6 @@ pub returns : goal.returns
 returns c =
     let k = (goal.at.returns c).Else-number-ne0 in
     let s = c.args.sheet.now in
-    count_whole (λ i. (c.type_inv.sheet i).fits)
-    (count_roomed s _ (accepted k) (sym (c.is_there.ensures ∙ there k 2) ∙ c.if-not-is_there.false) (with_own_counts s) refl c.put_counted.ensures)
+    let w = count_whole (λ i. (c.type_inv.sheet i).fits) {before = c.args.out.now}
+    (count_roomed s _ (accepted k) (sym (c.is_there.ensures ∙ there k 2) ∙ c.if-not-is_there.false) (with_own_counts s) refl c.put_counted.ensures) in
+    record { gives = w.0; meets_counting = w.1 }

@@ -5,7 +5,4 @@ use Rattle.elimination.proofs.put_record.Goals as goal
 
 pub returns : goal.returns
 returns c =
-    let d = c in
-    let n = d in
-    let e = n in
-    record_put _ _ _ e.write.ensures n.write-2.ensures d.write-3.ensures
+    record_put _ _ _ c.write.ensures c.write-2.ensures c.write-3.ensures

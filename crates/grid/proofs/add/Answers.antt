@@ -12,13 +12,11 @@ taking_in-requires-2 c = (rw c.region_at-group.ensures c.requires.small.1, c.req
 
 pub put_region-requires-2 : goal.put_region-requires-2
 put_region-requires-2 c =
-    let a = c in
-    omega (arith, a.requires.p_bound, c.put_link.ensures.kept.long, c.put_region.ensures.kept.long)
+    omega (arith, c.requires.p_bound, c.put_link.ensures.kept.long, c.put_region.ensures.kept.long)
 
 pub returns : goal.returns
 returns c =
-    let a = c in
     let own = c.region_at-own.ensures in
     let group = c.region_at-group.ensures in
-    added a.args.at a.args.groups a.args.p a.args.c a.args.label a.args.value a.requires.p_bound.1 (rw own at c.put_link.ensures)
+    added c.args.at c.args.groups c.args.p c.args.c c.args.label c.args.value c.requires.p_bound.1 (rw own at c.put_link.ensures)
     (rw (c.taking_in.ensures, own) at c.put_region.ensures) (rw (c.taking_in-2.ensures, group) at c.put_region-2.ensures)

@@ -16,18 +16,14 @@ loop-i-init c = (omega arith, refl, cleared_none _ _ _)
 
 pub put_region-requires : goal.put_region-requires
 put_region-requires c =
-    let i = c in
-    let l = i in
-    omega (arith, i.loop-i-test.true, l.loop-i.invariant, l.requires, l.loop-i.invariant.2.kept.long)
+    omega (arith, c.loop-i-test.true, c.loop-i.invariant, c.requires, c.loop-i.invariant.2.kept.long)
 
 pub loop-i-preserved : goal.loop-i-preserved
 loop-i-preserved c =
-    let k = c in
-    let i = k in
-    let l = i in (
+    (
       omega arith,
-      l.loop-i.invariant.1,
-      cleared_more (omega (arith, i.loop-i-test.true, l.loop-i.invariant.1)) l.loop-i.invariant.2 (rw k.empty.ensures at k.put_region.ensures),
+      c.loop-i.invariant.1,
+      cleared_more (omega (arith, c.loop-i-test.true, c.loop-i.invariant.1)) c.loop-i.invariant.2 (rw c.empty.ensures at c.put_region.ensures),
     )
 
 pub shape_of-w : goal.shape_of-w
@@ -35,6 +31,5 @@ shape_of-w c = c.loop-i.invariant.2.kept.long
 
 pub returns : goal.returns
 returns c =
-    let l = c in
-    let e : l.loop-i.i ≡ region_count l.args.groups = omega (arith, l.loop-i.invariant.0, l.loop-i.invariant.1, c.loop-i-test.false) in
-    rw e at l.loop-i.invariant.2
+    let e : c.loop-i.i ≡ region_count c.args.groups = omega (arith, c.loop-i.invariant.0, c.loop-i.invariant.1, c.loop-i-test.false) in
+    rw e at c.loop-i.invariant.2

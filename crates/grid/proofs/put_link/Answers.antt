@@ -5,5 +5,4 @@ use Rattle.grid.proofs.put_link.Goals as goal
 
 pub returns : goal.returns
 returns c =
-    let a = c in
-    link_is a.args.at a.args.groups a.args.q a.args.before a.requires a.ranges.before.fits c.write.ensures
+    link_is c.args.at c.args.groups c.args.q c.args.before c.requires c.ranges.before.fits c.write.ensures

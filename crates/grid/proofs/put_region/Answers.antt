@@ -6,8 +6,7 @@ use Rattle.grid.proofs.put_region.Goals as goal
 
 pub returns : goal.returns
 returns c =
-    let a = c in
-    put_is a.args.at a.args.i a.args.r a.requires
+    put_is c.args.at c.args.i c.args.r c.requires
     (record {
       west = omega arith;
       east = omega arith;

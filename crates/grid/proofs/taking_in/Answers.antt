@@ -6,7 +6,6 @@ use Rattle.grid.proofs.taking_in.Goals as goal
 
 pub returns : goal.returns
 returns c =
-    let a = c in
     rw (
       c.larger.ensures,
       c.larger-2.ensures,
@@ -16,6 +15,6 @@ returns c =
       c.later_of.ensures,
       c.shifted-x.ensures,
       c.shifted-y.ensures,
-      to_z-of_z {w = w16} {z = a.args.label.x} (search rules),
-      to_z-of_z {w = w16} {z = a.args.label.y} (search rules),
+      to_z-of_z {w = w16} {z = c.args.label.x} (search rules),
+      to_z-of_z {w = w16} {z = c.args.label.y} (search rules),
     )

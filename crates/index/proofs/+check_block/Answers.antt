@@ -23,37 +23,31 @@ check_block-right-requires t c =
 
 pub beats_head-beats_left-requires : goal.beats_head-beats_left-requires
 beats_head-beats_left-requires t c =
-    let k = c in
-    let r = k.requires in
-    record { root_scheduled = root_scheduled r k.if-size-eq0.false k.entry-root.ensures.0; fits = omega arith; scheduled = r.scheduled }
+    let r = c.requires in
+    record { root_scheduled = root_scheduled r c.if-size-eq0.false c.entry-root.ensures.0; fits = omega arith; scheduled = r.scheduled }
 
 pub beats_head-beats_right-requires : goal.beats_head-beats_right-requires
 beats_head-beats_right-requires t c =
-    let k = c in
-    let r = k.requires in
-    record { root_scheduled = root_scheduled r k.if-size-eq0.false k.entry-root.ensures.0; fits = omega arith; scheduled = r.scheduled }
+    let r = c.requires in
+    record { root_scheduled = root_scheduled r c.if-size-eq0.false c.entry-root.ensures.0; fits = omega arith; scheduled = r.scheduled }
 
 pub axis_key-kx-requires : goal.axis_key-kx-requires
 axis_key-kx-requires t c =
-    let k = c in
-    let r = k.requires in
-    (root_marked r k.if-size-eq0.false k.entry-root.ensures.0, k.entry-root.ensures.1)
+    let r = c.requires in
+    (root_marked r c.if-size-eq0.false c.entry-root.ensures.0, c.entry-root.ensures.1)
 
 pub axis_key-ky-requires : goal.axis_key-ky-requires
 axis_key-ky-requires t c =
-    let k = c in
-    let r = k.requires in
-    (root_marked r k.if-size-eq0.false k.entry-root.ensures.0, k.entry-root.ensures.1)
+    let r = c.requires in
+    (root_marked r c.if-size-eq0.false c.entry-root.ensures.0, c.entry-root.ensures.1)
 
 pub join_findings-requires : goal.join_findings-requires
 join_findings-requires t c = (c.axis_key-kx.ensures.1, c.axis_key-ky.ensures.1)
 
 pub returns : goal.returns
 returns t c =
-    let h = c in
-    let k = h in
-    let a = k.args in
+    let a = c.args in
     finding_made a.marks.now a.schedule.now a.index.now (λ i. omega (arith, c.type_inv.index i)) a.axis a.lo a.size
-    k.if-size-eq0.false k.entry-root.ensures.0 h.check_block-left.ensures
-    h.check_block-right.ensures h.beats_head-beats_left.ensures h.beats_head-beats_right.ensures
+    c.if-size-eq0.false c.entry-root.ensures.0 c.check_block-left.ensures
+    c.check_block-right.ensures c.beats_head-beats_left.ensures c.beats_head-beats_right.ensures
     c.axis_key-kx.ensures.0 c.axis_key-ky.ensures.0 c.join_findings.ensures

@@ -19,8 +19,7 @@ returns-then-n-entry c =
 
 pub loop-i-preserved : goal.loop-i-preserved
 loop-i-preserved c =
-    let k = c in
-    (search rules, below_more _ _ k.loop-i.invariant.1 (omega (arith, c.entry.ensures.0)))
+    (search rules, below_more _ _ c.loop-i.invariant.1 (omega (arith, c.entry.ensures.0)))
 
 pub returns : goal.returns
 returns c = (λ e k h. c.loop-i.invariant.1 k (omega arith), λ all. refl)

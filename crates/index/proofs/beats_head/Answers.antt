@@ -8,8 +8,7 @@ use Rattle.index.proofs.beats_head.Goals as goal
 
 pub beats-requires : goal.beats-requires
 beats-requires c =
-    let k = c in
-    (k.requires.root_scheduled, omega (arith, c.entry.ensures.0, k.requires.scheduled k.args.lo (omega arith)))
+    (c.requires.root_scheduled, omega (arith, c.entry.ensures.0, c.requires.scheduled c.args.lo (omega arith)))
 
 pub returns : goal.returns
 returns c =

@@ -9,23 +9,19 @@ use Rattle.index.proofs.is_index.Goals as goal
 
 pub check_block-found-requires : goal.check_block-found-requires
 check_block-found-requires c =
-    let k = c in
-    let a = k.args in
-    checkable_whole a.marks.now a.schedule.now a.index.now a.n k.requires
+    let a = c.args in
+    checkable_whole a.marks.now a.schedule.now a.index.now a.n c.requires
     (c.all_below.ensures.0 c.if-all_below.true)
 
 pub returns-then-all_below : goal.returns-then-all_below
 returns-then-all_below c =
-    let b = c in
-    let k = b in
-    let a = k.args in
-    whole_is a.marks.now a.schedule.now a.index.now a.n k.requires (λ i. omega (arith, c.type_inv.index i))
-    (b.all_below.ensures.0 c.if-all_below.true) c.check_block-found.ensures
+    let a = c.args in
+    whole_is a.marks.now a.schedule.now a.index.now a.n c.requires (λ i. omega (arith, c.type_inv.index i))
+    (c.all_below.ensures.0 c.if-all_below.true) c.check_block-found.ensures
 
 pub returns : goal.returns
 returns c =
-    let k = c in
-    let a = k.args in
+    let a = c.args in
     sym
-    (whole_not a.marks.now a.schedule.now a.index.now a.n k.requires
+    (whole_not a.marks.now a.schedule.now a.index.now a.n c.requires
     (λ all. false≢true (sym c.if-all_below.false ∙ c.all_below.ensures.1 all)))

@@ -7,12 +7,8 @@ returns-then-later c = rw (← c.later.ensures, c.if-later.true)
 
 pub returns-then-level : goal.returns-then-level
 returns-then-level c =
-    let l = c in
-    let k = l in
-    rw (← k.later.ensures, l.if-later.false) (rw (← l.level.ensures, c.if-level.true))
+    rw (← c.later.ensures, c.if-later.false) (rw (← c.level.ensures, c.if-level.true))
 
 pub returns : goal.returns
 returns c =
-    let l = c in
-    let k = l in
-    rw (← k.later.ensures, l.if-later.false) (rw (← l.level.ensures, c.if-level.false))
+    rw (← c.later.ensures, c.if-later.false) (rw (← c.level.ensures, c.if-level.false))

@@ -11,14 +11,12 @@ use Rattle.joining.proofs.has_room.Goals as goal
 
 pub returns-then-room-head : goal.returns-then-room-head
 returns-then-room-head c =
-    let b = c in
-    let bodies = map (λ x. x.now) b.args.bodies.now in
-    let size = together_size b.args.codes.now bodies (rw length-map b.requires.0) in
-    sym (lt-leb _ b.args.room (omega arith))
+    let bodies = map (λ x. x.now) c.args.bodies.now in
+    let size = together_size c.args.codes.now bodies (rw length-map c.requires.0) in
+    sym (lt-leb _ c.args.room (omega arith))
 
 pub returns : goal.returns
 returns c =
-    let b = c in
-    let bodies = map (λ x. x.now) b.args.bodies.now in
-    rw (together_size b.args.codes.now bodies (rw length-map b.requires.0))
-    (c.fits.ensures ∙ leb_less (contents_size (length b.args.codes.now)) (length (chain bodies)) b.args.room c.if-room-head.false)
+    let bodies = map (λ x. x.now) c.args.bodies.now in
+    rw (together_size c.args.codes.now bodies (rw length-map c.requires.0))
+    (c.fits.ensures ∙ leb_less (contents_size (length c.args.codes.now)) (length (chain bodies)) c.args.room c.if-room-head.false)

@@ -22,16 +22,15 @@ put-at-requires c =
 
 pub loop-i-preserved : goal.loop-i-preserved
 loop-i-preserved c =
-    let b = c in
     let p = c.put-at.ensures in
-    let a = b.args in
-    let l = b.loop-i in
-    let t = b.loop-i-test.true in
-    let e = chain_less (λ x. x.now) a.bodies.now l.i t b.body_of.ensures in (
+    let a = c.args in
+    let l = c.loop-i in
+    let t = c.loop-i-test.true in
+    let e = chain_less (λ x. x.now) a.bodies.now l.i t c.body_of.ensures in (
       omega arith,
       c.put-at.auto.out ∙ l.invariant.1,
       omega arith,
-      bodies_turn (λ x. x.now) a.bodies.now l.out l.at l.i t b.body_of.ensures p ∙ l.invariant.3,
+      bodies_turn (λ x. x.now) a.bodies.now l.out l.at l.i t c.body_of.ensures p ∙ l.invariant.3,
     )
 
 pub shape_of-out : goal.shape_of-out

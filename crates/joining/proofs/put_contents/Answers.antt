@@ -14,19 +14,15 @@ loop-i-init c = (omega arith, refl, omega arith, refl)
 
 pub overflow_add-offset : goal.overflow_add-offset
 overflow_add-offset c =
-    let l = c in
-    let start = l in
-    omega (arith, start.requires.by_index l.loop-i.i)
+    omega (arith, c.requires.by_index c.loop-i.i)
 
 pub loop-i-preserved : goal.loop-i-preserved
 loop-i-preserved c =
-    let b = c in
-    let start = b in
-    let l = b.loop-i in (
+    let l = c.loop-i in (
       omega arith,
       c.put_entry.auto.out ∙ l.invariant.1,
-      omega (arith, start.requires.by_index l.i),
-      entries_turn l.out l.i l.offset start.args.codes.now start.args.sizes.now (omega arith) (omega arith) c.put_entry.ensures ∙ l.invariant.3,
+      omega (arith, c.requires.by_index l.i),
+      entries_turn l.out l.i l.offset c.args.codes.now c.args.sizes.now (omega arith) (omega arith) c.put_entry.ensures ∙ l.invariant.3,
     )
 
 pub shape_of-out : goal.shape_of-out

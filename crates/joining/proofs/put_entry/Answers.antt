@@ -6,7 +6,5 @@ use Rattle.joining.proofs.put_entry.Goals as goal
 
 pub returns : goal.returns
 returns c =
-    let b = c in
-    let w = b in
-    let a = w.args in
-    entry_sets a.out.now (contents_size a.i) a.code a.offset a.size w.write.ensures b.write-2.ensures c.write-3.ensures
+    let a = c.args in
+    entry_sets a.out.now (contents_size a.i) a.code a.offset a.size c.write.ensures c.write-2.ensures c.write-3.ensures

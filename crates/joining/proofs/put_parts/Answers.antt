@@ -11,32 +11,28 @@ use Rattle.joining.proofs.put_parts.Goals as goal
 
 pub slice_bounds-put_contents-end : goal.slice_bounds-put_contents-end
 slice_bounds-put_contents-end c =
-    let b = c in
-    sym (length-take-le (length b.args.bodies.now) c.sizes_of-sizes.result (omega (arith, c.sizes_of-sizes.ensures.0)))
+    sym (length-take-le (length c.args.bodies.now) c.sizes_of-sizes.result (omega (arith, c.sizes_of-sizes.ensures.0)))
 
 pub put_contents-start-requires : goal.put_contents-start-requires
 put_contents-start-requires c =
-    let b = c in
-    let codes = b.args.codes.now in
-    let bodies = map (λ x. x.now) b.args.bodies.now in
+    let codes = c.args.codes.now in
+    let bodies = map (λ x. x.now) c.args.bodies.now in
     let e = c.sizes_of-sizes.ensures.1 in
-    let size = together_size codes bodies (rw length-map b.requires.codes_len.0) in
-    let many : length (sizes_of bodies) ≡ length codes = rw (length-map, length-map) (sym b.requires.codes_len.0) in
+    let size = together_size codes bodies (rw length-map c.requires.codes_len.0) in
+    let many : length (sizes_of bodies) ≡ length codes = rw (length-map, length-map) (sym c.requires.codes_len.0) in
     record { codes_len_bound = (omega arith, rw e many, omega arith); by_index = λ i. rw e (size_below bodies 4294967296 (omega arith) i) }
 
 pub put_bodies-requires : goal.put_bodies-requires
 put_bodies-requires c =
-    let b = c in
     let put = c.put_contents-start in
-    omega (arith, together_size b.args.codes.now (map (λ x. x.now) b.args.bodies.now) (rw length-map b.requires.codes_len.0), put.ensures.0, put.auto.out)
+    omega (arith, together_size c.args.codes.now (map (λ x. x.now) c.args.bodies.now) (rw length-map c.requires.codes_len.0), put.ensures.0, put.auto.out)
 
 pub returns : goal.returns
 returns c =
-    let b = c in
-    let codes = b.args.codes.now in
-    let bodies = map (λ x. x.now) b.args.bodies.now in
-    let same : length codes ≡ length bodies = rw length-map b.requires.codes_len.0 in
+    let codes = c.args.codes.now in
+    let bodies = map (λ x. x.now) c.args.bodies.now in
+    let same : length codes ≡ length bodies = rw length-map c.requires.codes_len.0 in
     let e = c.sizes_of-sizes.ensures.1 in
     let put = c.put_contents-start.ensures in
     let wrote = c.put_bodies.ensures in
-    (wrote.0 ∙ rw put.0 (sym (together_size codes bodies same)), parts_sets codes bodies same b.args.out.now (put.0, rw e at put.1) wrote.1)
+    (wrote.0 ∙ rw put.0 (sym (together_size codes bodies same)), parts_sets codes bodies same c.args.out.now (put.0, rw e at put.1) wrote.1)

@@ -19,23 +19,18 @@ entry-root-requires t c =
 
 pub fill-left-requires : goal.fill-left-requires
 fill-left-requires t c =
-    let a = c in
-    (omega arith, fill_left a.requires c.if-size-eq0.false)
+    (omega arith, fill_left c.requires c.if-size-eq0.false)
 
 pub fill-right-requires : goal.fill-right-requires
 fill-right-requires t c =
-    let i = c in
-    let a = i in
-    (omega arith, fill_right a.requires i.if-size-eq0.false c.fill-left.ensures.long)
+    (omega arith, fill_right c.requires c.if-size-eq0.false c.fill-left.ensures.long)
 
 pub corner_on-requires : goal.corner_on-requires
 corner_on-requires t c = tt
 
 pub overflow_cast-splits : goal.overflow_cast-splits
 overflow_cast-splits t c =
-    let f = c in
-    let a = f in
-    record { fits = rw c.corner_on.ensures (corner_small a.args.axis f.fill-left.ensures) }
+    record { fits = rw c.corner_on.ensures (corner_small c.args.axis c.fill-left.ensures) }
 
 pub offset_bounds-splits-lo : goal.offset_bounds-splits-lo
 offset_bounds-splits-lo t c =
@@ -44,24 +39,18 @@ offset_bounds-splits-lo t c =
 
 pub bounds-splits-lo : goal.bounds-splits-lo
 bounds-splits-lo t c =
-    let f = c in
-    let a = f in
-    let p = a.requires in
-    omega (arith, p.there, p.room, c.fill-right.ensures.long, f.fill-left.ensures.long)
+    let p = c.requires in
+    omega (arith, p.there, p.room, c.fill-right.ensures.long, c.fill-left.ensures.long)
 
 pub coordinate-x-requires : goal.coordinate-x-requires
 coordinate-x-requires t c =
-    let e = c in
-    let a = e in
-    let p = a.requires in
-    omega (arith, e.entry-root.ensures.0, p.below a.args.lo (omega (arith, p.there)), p.marks_long)
+    let p = c.requires in
+    omega (arith, c.entry-root.ensures.0, p.below c.args.lo (omega (arith, p.there)), p.marks_long)
 
 pub coordinate-y-requires : goal.coordinate-y-requires
 coordinate-y-requires t c =
-    let e = c in
-    let a = e in
-    let p = a.requires in
-    omega (arith, e.entry-root.ensures.0, p.below a.args.lo (omega (arith, p.there)), p.marks_long)
+    let p = c.requires in
+    omega (arith, c.entry-root.ensures.0, p.below c.args.lo (omega (arith, p.there)), p.marks_long)
 
 pub greater-requires : goal.greater-requires
 greater-requires t c = tt
@@ -77,20 +66,14 @@ greater-requires-4 t c = tt
 
 pub shape_of-splits : goal.shape_of-splits
 shape_of-splits t c =
-    let f = c in
-    let f' = f in
-    simp length-set (f.fill-right.ensures.long ∙ f'.fill-left.ensures.long)
+    simp length-set (c.fill-right.ensures.long ∙ c.fill-left.ensures.long)
 
 pub returns : goal.returns
 returns t c =
-    let c' = c in
-    let f = c' in
-    let f' = f in
-    let a = f' in
-    let p = a.requires in
-    filled_node p f'.if-size-eq0.false a.args.axis f'.fill-left.ensures f.fill-right.ensures c'.corner_on.ensures
-    (omega (arith, p.there, p.room, f.fill-right.ensures.long, f'.fill-left.ensures.long)) refl
-    (c'.coordinate-x.ensures.0 ∙ ap (coordinate _ true) f'.entry-root.ensures.0)
-    (c'.coordinate-y.ensures.0 ∙ ap (coordinate _ false) f'.entry-root.ensures.0)
-    c'.coordinate-x.ensures.1 c'.coordinate-y.ensures.1
+    let p = c.requires in
+    filled_node p c.if-size-eq0.false c.args.axis c.fill-left.ensures c.fill-right.ensures c.corner_on.ensures
+    (omega (arith, p.there, p.room, c.fill-right.ensures.long, c.fill-left.ensures.long)) refl
+    (c.coordinate-x.ensures.0 ∙ ap (coordinate _ true) c.entry-root.ensures.0)
+    (c.coordinate-y.ensures.0 ∙ ap (coordinate _ false) c.entry-root.ensures.0)
+    c.coordinate-x.ensures.1 c.coordinate-y.ensures.1
     (rw (← c.greater.ensures) c.greater-2.ensures) (rw (← c.greater-3.ensures) c.greater-4.ensures)

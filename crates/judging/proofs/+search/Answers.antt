@@ -35,36 +35,29 @@ entry-root-requires t c =
 
 pub limit_at-w-requires : goal.limit_at-w-requires
 limit_at-w-requires t c =
-    let e = c in
-    let p = e.requires in
-    omega (arith, root_below p e.if-size-eq0.false e.entry-root.ensures.0, p.indexed.asked.schedule_long)
+    let p = c.requires in
+    omega (arith, root_below p c.if-size-eq0.false c.entry-root.ensures.0, p.indexed.asked.schedule_long)
 
 pub is_over-requires : goal.is_over-requires
 is_over-requires t c =
-    let e = c in
-    let p = e.requires in
-    let b = e in
-    let below = root_below p e.if-size-eq0.false e.entry-root.ensures.0 in
-    (rw c.limit_at-w.ensures (limit_small p.indexed.asked (λ i. (b.type_inv.marks i).fits) below), p.fits.value_small)
+    let p = c.requires in
+    let below = root_below p c.if-size-eq0.false c.entry-root.ensures.0 in
+    (rw c.limit_at-w.ensures (limit_small p.indexed.asked (λ i. (c.type_inv.marks i).fits) below), p.fits.value_small)
 
 pub returns-then-is_over : goal.returns-then-is_over
 returns-then-is_over t c =
-    let e = c in
-    searched_over e.requires e.if-size-eq0.false e.entry-root.ensures.0 c.limit_at-w.ensures (sym c.is_over.ensures ∙ c.if-is_over.true)
+    searched_over c.requires c.if-size-eq0.false c.entry-root.ensures.0 c.limit_at-w.ensures (sym c.is_over.ensures ∙ c.if-is_over.true)
 
 pub clashes_standing-requires : goal.clashes_standing-requires
 clashes_standing-requires t c =
-    let e = c in
-    let p = e.requires in
-    let q = e.args.q in
+    let p = c.requires in
+    let q = c.args.q in
     let still = still_there q.tight c.limit_at-w.result q.value (sym c.is_over.ensures ∙ c.if-is_over.false) in
-    record { asked = (p.indexed.asked, p.subject, root_below p e.if-size-eq0.false e.entry-root.ensures.0); w_value = (c.limit_at-w.ensures, still) }
+    record { asked = (p.indexed.asked, p.subject, root_below p c.if-size-eq0.false c.entry-root.ensures.0); w_value = (c.limit_at-w.ensures, still) }
 
 pub returns-then-clashes_standing : goal.returns-then-clashes_standing
 returns-then-clashes_standing t c =
-    let g = c in
-    let e = g in
-    searched_root e.requires e.if-size-eq0.false e.entry-root.ensures.0 (sym g.clashes_standing.ensures ∙ c.if-clashes_standing.true)
+    searched_root c.requires c.if-size-eq0.false c.entry-root.ensures.0 (sym c.clashes_standing.ensures ∙ c.if-clashes_standing.true)
 
 pub offset_bounds-splits-lo : goal.offset_bounds-splits-lo
 offset_bounds-splits-lo t c =
@@ -87,38 +80,27 @@ returns-then-right-eq0 t c = whole t (goal.at.returns-then-right-eq0 t c).After-
 
 pub search-requires : goal.search-requires
 search-requires t c =
-    let h = c in
-    let e = h in
-    half_call e.requires e.if-size-eq0.false false h.size_to_search-right.ensures (omega arith)
+    half_call c.requires c.if-size-eq0.false false c.size_to_search-right.ensures (omega arith)
 
 pub returns-then-left-eq0 : goal.returns-then-left-eq0
 returns-then-left-eq0 t c = whole t (goal.at.returns-then-left-eq0 t c).After-size_to_search-right (searched_none c.if-left-eq0.true) c.search.ensures
 
 pub search-requires-2 : goal.search-requires-2
 search-requires-2 t c =
-    let h = c in
-    let e = h in
-    half_call e.requires e.if-size-eq0.false true h.size_to_search-left.ensures (omega arith)
+    half_call c.requires c.if-size-eq0.false true c.size_to_search-left.ensures (omega arith)
 
 pub returns-then-not-search : goal.returns-then-not-search
 returns-then-not-search t c =
-    let x = c in
-    let h = x in
-    let e = h in
-    searched_half e.requires e.if-size-eq0.false true h.size_to_search-left.ensures (rw c.if-not-search.true at x.search-2.ensures)
+    searched_half c.requires c.if-size-eq0.false true c.size_to_search-left.ensures (rw c.if-not-search.true at c.search-2.ensures)
 
 pub returns-then-right-eq0-2 : goal.returns-then-right-eq0-2
 returns-then-right-eq0-2 t c =
-    let x = c in
-    whole t (goal.at.returns-then-right-eq0-2 t x).After-size_to_search-right (rw c.if-not-search.false at x.search-2.ensures) (searched_none c.if-right-eq0-2.true)
+    whole t (goal.at.returns-then-right-eq0-2 t c).After-size_to_search-right (rw c.if-not-search.false at c.search-2.ensures) (searched_none c.if-right-eq0-2.true)
 
 pub search-requires-3 : goal.search-requires-3
 search-requires-3 t c =
-    let h = c in
-    let e = h in
-    half_call e.requires e.if-size-eq0.false false h.size_to_search-right.ensures (omega arith)
+    half_call c.requires c.if-size-eq0.false false c.size_to_search-right.ensures (omega arith)
 
 pub returns : goal.returns
 returns t c =
-    let x = c in
-    whole t (goal.at.returns t x).After-size_to_search-right (rw c.if-not-search.false at x.search-2.ensures) c.search-3.ensures
+    whole t (goal.at.returns t c).After-size_to_search-right (rw c.if-not-search.false at c.search-2.ensures) c.search-3.ensures

@@ -28,6 +28,5 @@ loop-m-preserved c =
 pub returns : goal.returns
 unfolding all_clear
 returns c =
-    let a = c in
-    let q : c.loop-m.m ≡ a.args.n = omega arith in
+    let q : c.loop-m.m ≡ c.args.n = omega arith in
     sym (rw q at c.loop-m.invariant.1)

@@ -10,10 +10,8 @@ fill-requires c = fillable c.requires refl
 
 pub judge_by-requires : goal.judge_by-requires
 judge_by-requires c =
-    let a = c in
-    (tabled a.requires refl c.fill.ensures, refl)
+    (tabled c.requires refl c.fill.ensures, refl)
 
 pub returns : goal.returns
 returns c =
-    let b = c in
-    c.judge_by.ensures ∙ judge_clear b.requires.asked (λ i. (b.type_inv.marks i).fits)
+    c.judge_by.ensures ∙ judge_clear c.requires.asked (λ i. (c.type_inv.marks i).fits)

@@ -11,12 +11,9 @@ all_clear-requires c =
 
 pub all_clear-requires-2 : goal.all_clear-requires-2
 all_clear-requires-2 c =
-    let l = c in
-    let p = l in
-    let a = p in
     record {
-      tabled = a.requires.0;
-      small = p.pick_bound-bound.ensures.0;
-      fits = omega (arith, l.list_large-k.ensures.long);
-      listed = l.list_large-k.ensures.listed (omega arith);
+      tabled = c.requires.0;
+      small = c.pick_bound-bound.ensures.0;
+      fits = omega (arith, c.list_large-k.ensures.long);
+      listed = c.list_large-k.ensures.listed (omega arith);
     }

@@ -19,23 +19,19 @@ bounds-large-i c = omega (arith, c.requires.2.0)
 
 pub overflow_cast-large : goal.overflow_cast-large
 overflow_cast-large c =
-    let a = c in
-    record { fits = omega (arith, a.requires.2.1 c.loop-i.i (omega arith)) }
+    record { fits = omega (arith, c.requires.2.1 c.loop-i.i (omega arith)) }
 
 pub clashes-requires : goal.clashes-requires
 clashes-requires c =
-    let a = c in
-    (a.requires.0, a.requires.1, a.requires.2.1 c.loop-i.i (omega arith))
+    (c.requires.0, c.requires.1, c.requires.2.1 c.loop-i.i (omega arith))
 
 pub returns-then-clashes : goal.returns-then-clashes
 returns-then-clashes c =
-    let l = c in
-    record { clear = λ u. absurd (false≢true u); found = λ u. (l.loop-i.i, omega arith, sym c.clashes.ensures ∙ c.if-clashes.true) }
+    record { clear = λ u. absurd (false≢true u); found = λ u. (c.loop-i.i, omega arith, sym c.clashes.ensures ∙ c.if-clashes.true) }
 
 pub loop-i-preserved : goal.loop-i-preserved
 loop-i-preserved c =
-    let l = c in
-    (omega arith, below_more _ _ l.loop-i.invariant.1 (sym c.clashes.ensures ∙ c.if-clashes.false))
+    (omega arith, below_more _ _ c.loop-i.invariant.1 (sym c.clashes.ensures ∙ c.if-clashes.false))
 
 pub returns : goal.returns
 returns c = record { clear = λ u j h. c.loop-i.invariant.1 j (omega arith); found = λ u. absurd (true≢false u) }

@@ -13,8 +13,7 @@ loop-m-init c = (omega arith, omega arith, c.requires.1, listed_none)
 
 pub shape_of-large-then-k-ge-MOST_LARGE : goal.shape_of-large-then-k-ge-MOST_LARGE
 shape_of-large-then-k-ge-MOST_LARGE c =
-    let a = c in
-    c.loop-m.invariant.2 ∙ sym a.requires.1
+    c.loop-m.invariant.2 ∙ sym c.requires.1
 
 pub returns-then-k-ge-MOST_LARGE : goal.returns-then-k-ge-MOST_LARGE
 returns-then-k-ge-MOST_LARGE c = record { listed = λ h. absurd (omega arith); long = c.loop-m.invariant.2 }
@@ -33,21 +32,19 @@ radius_at-requires c = omega (arith, c.requires.0.there)
 
 pub loop-m-preserved : goal.loop-m-preserved
 loop-m-preserved c =
-    let l = c in (
+    (
       omega arith,
-      rw c.advance-k.ensures (advanced_most (ltb l.args.bound c.radius_at.result) (omega arith)),
-      simp length-set l.loop-m.invariant.2,
+      rw c.advance-k.ensures (advanced_most (ltb c.args.bound c.radius_at.result) (omega arith)),
+      simp length-set c.loop-m.invariant.2,
       rw c.advance-k.ensures
-          (listed_more (omega arith) (omega (arith, l.loop-m.invariant.2)) refl (ap (ltb l.args.bound) c.radius_at.ensures) l.loop-m.invariant.3),
+          (listed_more (omega arith) (omega (arith, c.loop-m.invariant.2)) refl (ap (ltb c.args.bound) c.radius_at.ensures) c.loop-m.invariant.3),
     )
 
 pub shape_of-large : goal.shape_of-large
 shape_of-large c =
-    let a = c in
-    c.loop-m.invariant.2 ∙ sym a.requires.1
+    c.loop-m.invariant.2 ∙ sym c.requires.1
 
 pub returns : goal.returns
 returns c =
-    let a = c in
-    let q : c.loop-m.m ≡ a.args.n = omega arith in
+    let q : c.loop-m.m ≡ c.args.n = omega arith in
     record { listed = λ h. rw q at c.loop-m.invariant.3; long = c.loop-m.invariant.2 }

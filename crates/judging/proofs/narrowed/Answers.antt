@@ -8,21 +8,19 @@ use Rattle.judging.specs.Search.{most_large}
 use Rattle.judging.proofs.narrowed.Goals as goal
 
 pub loop-step-init : goal.loop-step-init
-loop-step-init c = let a = c in (omega arith, a.requires.2, a.requires.1)
+loop-step-init c = (omega arith, c.requires.2, c.requires.1)
 
 pub list_large-requires : goal.list_large-requires
 list_large-requires c =
-    let a = c in
-    (a.requires.0, c.loop-step.invariant.2)
+    (c.requires.0, c.loop-step.invariant.2)
 
 pub lowered-bound-requires : goal.lowered-bound-requires
 lowered-bound-requires c = omega (arith, c.loop-step.invariant.0)
 
 pub loop-step-preserved : goal.loop-step-preserved
 loop-step-preserved c =
-    let l = c in
     let e = c.lowered-bound.ensures in
-    (omega (arith, e.1, l.loop-step.invariant.0), omega (arith, e.0, l.loop-step.invariant.1), c.list_large.ensures.long)
+    (omega (arith, e.1, c.loop-step.invariant.0), omega (arith, e.0, c.loop-step.invariant.1), c.list_large.ensures.long)
 
 pub shape_of-large : goal.shape_of-large
 shape_of-large c = c.loop-step.invariant.2 ∙ sym c.requires.1

@@ -12,26 +12,22 @@ loop-bound-init c = (omega arith, c.requires.1, omega arith)
 
 pub list_large-more-requires : goal.list_large-more-requires
 list_large-more-requires c =
-    let a = c in
-    (a.requires.0, c.loop-bound.invariant.1)
+    (c.requires.0, c.loop-bound.invariant.1)
 
 pub overflow_add-n : goal.overflow_add-n
 overflow_add-n c = omega (arith, c.requires.0.few)
 
 pub overflow_add-above : goal.overflow_add-above
 overflow_add-above c =
-    let l = c in
-    omega (arith, l.loop-bound.invariant.2, l.requires.0.few)
+    omega (arith, c.loop-bound.invariant.2, c.requires.0.few)
 
 pub narrowed-requires : goal.narrowed-requires
 narrowed-requires c =
-    let l = c in
-    (l.requires.0, c.list_large-more.ensures.long, l.loop-bound.invariant.0)
+    (c.requires.0, c.list_large-more.ensures.long, c.loop-bound.invariant.0)
 
 pub shape_of-large-then-n-more : goal.shape_of-large-then-n-more
 shape_of-large-then-n-more c =
-    let l = c in
-    c.narrowed.ensures.1 ∙ sym l.requires.1
+    c.narrowed.ensures.1 ∙ sym c.requires.1
 
 pub returns-then-n-more : goal.returns-then-n-more
 returns-then-n-more c = c.narrowed.ensures
@@ -43,8 +39,7 @@ loop-bound-preserved c =
 
 pub shape_of-large : goal.shape_of-large
 shape_of-large c =
-    let a = c in
-    c.loop-bound.invariant.1 ∙ sym a.requires.1
+    c.loop-bound.invariant.1 ∙ sym c.requires.1
 
 pub returns : goal.returns
 returns c = (c.loop-bound.invariant.0, c.loop-bound.invariant.1)

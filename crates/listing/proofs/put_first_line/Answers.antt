@@ -16,13 +16,11 @@ word c = record { holds = c.put-next.ensures.1; ends = c.put-next.ensures.0 }
 
 pub put_number-requires : goal.put_number-requires
 put_number-requires c =
-    let k = c in
-    simp length-set (omega (arith, (word (goal.at.put_number-requires k).After-put-next).ends, wrote_length (word (goal.at.put_number-requires k).After-put-next), k.requires))
+    simp length-set (omega (arith, (word (goal.at.put_number-requires c).After-put-next).ends, wrote_length (word (goal.at.put_number-requires c).After-put-next), c.requires))
 
 pub shape_of-out : goal.shape_of-out
 shape_of-out c =
-    let k = c in
-    wrote_length c.put_number.ensures ∙ simp length-set (wrote_length (word (goal.at.shape_of-out k).After-put-next))
+    wrote_length c.put_number.ensures ∙ simp length-set (wrote_length (word (goal.at.shape_of-out c).After-put-next))
 
 pub returns : goal.returns
 returns c = first_line _ _ (word (goal.at.returns c).After-put-next) c.put_number.ensures

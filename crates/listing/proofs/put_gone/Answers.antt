@@ -38,10 +38,5 @@ put_number-requires c =
 
 pub returns : goal.returns
 returns c =
-    let k₅ = c in
-    let k₄ = k₅ in
-    let k₃ = k₄ in
-    let k₂ = k₃ in
-    let k₁ = k₂ in
-    let last = rw k₅.zoom_nearest.ensures at k₅.put_number.ensures in
-    gone_line _ _ _ k₁.put_number-second.ensures k₂.put_number-third.ensures k₃.put_number-fourth.ensures k₄.put_number-fifth.ensures last
+    let last = rw c.zoom_nearest.ensures at c.put_number.ensures in
+    gone_line _ _ _ c.put_number-second.ensures c.put_number-third.ensures c.put_number-fourth.ensures c.put_number-fifth.ensures last

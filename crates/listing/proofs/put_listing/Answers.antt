@@ -8,10 +8,9 @@ use Rattle.listing.proofs.put_listing.Goals as goal
 
 pub put_marks-requires : goal.put_marks-requires
 put_marks-requires c =
-    let k = c in
-    let a = k.args in
-    let p = k.requires in
-    let w = k.put_first_line-next.ensures in
+    let a = c.args in
+    let p = c.requires in
+    let w = c.put_first_line-next.ensures in
     (p.0, omega (arith, w.ends, wrote_length w, first_room_lem (text "marks") a.n (omega arith), p.1))
 
 pub returns : goal.returns

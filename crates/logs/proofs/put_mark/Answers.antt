@@ -6,13 +6,11 @@ use Rattle.logs.proofs.put_mark.Goals as goal
 
 pub place_bits-x-requires : goal.place_bits-x-requires
 place_bits-x-requires c =
-    let start = c in
-    (omega (arith, start.requires.0.long), (start.requires.0.each start.args.r start.requires.1).x.place)
+    (omega (arith, c.requires.0.long), (c.requires.0.each c.args.r c.requires.1).x.place)
 
 pub place_bits-y-requires : goal.place_bits-y-requires
 place_bits-y-requires c =
-    let start = c in
-    (omega (arith, start.requires.0.long), (start.requires.0.each start.args.r start.requires.1).y.place)
+    (omega (arith, c.requires.0.long), (c.requires.0.each c.args.r c.requires.1).y.place)
 
 pub returns : goal.returns
 returns c =

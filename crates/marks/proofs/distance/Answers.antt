@@ -23,9 +23,8 @@ squares c =
 
 pub overflow_add-result : goal.overflow_add-result
 overflow_add-result c =
-    let a = c in
     let e = squares (goal.at.overflow_add-result c).After-squared-y in
-    record { fits = omega (arith, e.0, e.1, square_most _ a.ranges.dx, square_most _ a.ranges.dy) }
+    record { fits = omega (arith, e.0, e.1, square_most _ c.ranges.dx, square_most _ c.ranges.dy) }
 
 pub returns-then-shape-ne-SQUARE : goal.returns-then-shape-ne-SQUARE
 unfolding distance

@@ -5,6 +5,4 @@ use Rattle.marks.proofs.label_at.Goals as goal
 
 pub returns : goal.returns
 returns c =
-    let y = c in
-    let x = y in
-    rw (place_passed x.place_x.type_inv x.place_x.ensures, place_passed y.place_y.type_inv y.place_y.ensures, c.radius_at.ensures)
+    rw (place_passed c.place_x.type_inv c.place_x.ensures, place_passed c.place_y.type_inv c.place_y.ensures, c.radius_at.ensures)

@@ -11,26 +11,19 @@ use Rattle.marks.proofs.outranks.Goals as goal
 pub returns-then-p-q : goal.returns-then-p-q
 unfolding outranks
 returns-then-p-q c =
-    let q = c in
-    rw (← q.priority_at-p.ensures, ← q.priority_at-q.ensures)
+    rw (← c.priority_at-p.ensures, ← c.priority_at-q.ensures)
     (rw (ne_eqb _ _ c.if-p-q.true) (sym (or-false _)))
 
 -- they are equal, and the radii decide
 pub returns-then-u-v : goal.returns-then-u-v
 unfolding outranks
 returns-then-u-v c =
-    let v = c in
-    let e = v in
-    let q = e in
-    rw (← q.priority_at-p.ensures, ← q.priority_at-q.ensures, ← v.rank_radius-u.ensures, ← v.rank_radius-v.ensures)
-    (rw (le-ltb _ _ (le_of_eq e.if-p-q.false), eq-eqb _ _ e.if-p-q.false, ne_eqb _ _ c.if-u-v.true) (sym (or-false _)))
+    rw (← c.priority_at-p.ensures, ← c.priority_at-q.ensures, ← c.rank_radius-u.ensures, ← c.rank_radius-v.ensures)
+    (rw (le-ltb _ _ (le_of_eq c.if-p-q.false), eq-eqb _ _ c.if-p-q.false, ne_eqb _ _ c.if-u-v.true) (sym (or-false _)))
 
 -- both are equal: the numbers decide
 pub returns : goal.returns
 unfolding outranks
 returns c =
-    let v = c in
-    let e = v in
-    let q = e in
-    rw (← q.priority_at-p.ensures, ← q.priority_at-q.ensures, ← v.rank_radius-u.ensures, ← v.rank_radius-v.ensures)
-    (rw (le-ltb _ _ (le_of_eq e.if-p-q.false), eq-eqb _ _ e.if-p-q.false, le-ltb _ _ (le_of_eq c.if-u-v.false), eq-eqb _ _ c.if-u-v.false))
+    rw (← c.priority_at-p.ensures, ← c.priority_at-q.ensures, ← c.rank_radius-u.ensures, ← c.rank_radius-v.ensures)
+    (rw (le-ltb _ _ (le_of_eq c.if-p-q.false), eq-eqb _ _ c.if-p-q.false, le-ltb _ _ (le_of_eq c.if-u-v.false), eq-eqb _ _ c.if-u-v.false))

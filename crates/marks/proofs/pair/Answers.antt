@@ -15,15 +15,10 @@ returns-then-popups-eq0 c =
 
 pub pair_of-requires : goal.pair_of-requires
 pair_of-requires c =
-    let b = c in
-    let a = b in
     let p = c.requires.a_bound in
-    (c.touching-touch.ensures.1, rw (c.larger.ensures, a.popup_at.ensures, b.popup_at-2.ensures) (larger_most _ _ 65536 p.2.small p.3.small))
+    (c.touching-touch.ensures.1, rw (c.larger.ensures, c.popup_at.ensures, c.popup_at-2.ensures) (larger_most _ _ 65536 p.2.small p.3.small))
 
 pub returns : goal.returns
 unfolding pair_value
 returns c =
-    let g = c in
-    let b = g in
-    let a = b in
-    c.pair_of.ensures.0 ∙ ap₂ pair_of c.touching-touch.ensures.0 (g.larger.ensures ∙ ap₂ larger a.popup_at.ensures b.popup_at-2.ensures)
+    c.pair_of.ensures.0 ∙ ap₂ pair_of c.touching-touch.ensures.0 (c.larger.ensures ∙ ap₂ larger c.popup_at.ensures c.popup_at-2.ensures)

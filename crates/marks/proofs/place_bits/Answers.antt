@@ -27,9 +27,8 @@ is c = c.shifted-s.ensures ∙ ap shifted (to_z-of_z c.ranges.v)
 
 pub returns-then-s-lt32768 : goal.returns-then-s-lt32768
 returns-then-s-lt32768 c =
-    let s = c in
     let e = is (goal.at.returns-then-s-lt32768 c).After-shifted-s in
-    rw e (below s.args.v s.ranges.v (omega (arith, e, c.if-s-lt32768.true)))
+    rw e (below c.args.v c.ranges.v (omega (arith, e, c.if-s-lt32768.true)))
 
 pub returns : goal.returns
 returns c =

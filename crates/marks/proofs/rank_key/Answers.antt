@@ -7,8 +7,7 @@ use Rattle.marks.proofs.rank_key.Goals as goal
 
 pub overflow_sub-radius : goal.overflow_sub-radius
 overflow_sub-radius c =
-    let a = c in
-    omega (arith, rank_radius_bound a.args.edition a.args.s.now a.args.m a.requires.2)
+    omega (arith, rank_radius_bound c.args.edition c.args.s.now c.args.m c.requires.2)
 
 pub returns : goal.returns
 unfolding rank_key

@@ -11,5 +11,4 @@ touching_of-requires c =
 pub returns : goal.returns
 unfolding touching
 returns c =
-    let b = c in
-    (rw (b.label_at.ensures, b.label_at-2.ensures) at c.touching_of.ensures.0, c.touching_of.ensures.1)
+    (rw (c.label_at.ensures, c.label_at-2.ensures) at c.touching_of.ensures.0, c.touching_of.ensures.1)

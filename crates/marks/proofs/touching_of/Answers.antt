@@ -21,14 +21,11 @@ placed_b c =
 pub returns : goal.returns
 unfolding touching_of
 returns c =
-    let y = c in
-    let x = y in
-    let p = placed_a (goal.at.returns x).After-difference in
-    let q = placed_b (goal.at.returns x).After-difference in
-    let a = x in
-    let r = a.requires in
-    let e = c.distance-num.ensures ∙ ap₂ (λ u v. distance a.args.shape (nat_abs u) (nat_abs v))
-    (told p.x_fits q.x_fits x.difference.ensures) (told p.y_fits q.y_fits y.difference-2.ensures) in
+    let p = placed_a (goal.at.returns c).After-difference in
+    let q = placed_b (goal.at.returns c).After-difference in
+    let r = c.requires in
+    let e = c.distance-num.ensures ∙ ap₂ (λ u v. distance c.args.shape (nat_abs u) (nat_abs v))
+    (told p.x_fits q.x_fits c.difference.ensures) (told p.y_fits q.y_fits c.difference-2.ensures) in
     (rw e, rw e (touching_of_small _ _ _ p q r.0 r.1))
 
 pub overflow_mul-den : goal.overflow_mul-den

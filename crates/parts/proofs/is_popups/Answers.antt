@@ -27,25 +27,20 @@ popup_at-requires c = inr (omega (arith, c.if-body-n.false, c.loop-m-test.true))
 pub returns-then-not-is_popup : goal.returns-then-not-is_popup
 unfolding is_popups
 returns-then-not-is_popup c =
-    let p = c in
-    let l = p in
-    let b = l in
-    let no = every_not (λ i. is_popup (popup_at b.args.body.now i)) b.args.n l.loop-m.m p.loop-m-test.true
-    (rw (← p.popup_at.ensures) (sym c.is_popup.ensures ∙ c.if-not-is_popup.true)) in
-    rw (eq-eqb _ _ l.if-body-n.false, no)
+    let no = every_not (λ i. is_popup (popup_at c.args.body.now i)) c.args.n c.loop-m.m c.loop-m-test.true
+    (rw (← c.popup_at.ensures) (sym c.is_popup.ensures ∙ c.if-not-is_popup.true)) in
+    rw (eq-eqb _ _ c.if-body-n.false, no)
 
 pub loop-m-preserved : goal.loop-m-preserved
 loop-m-preserved c =
-    let p = c in
-    let l = p in (
-      omega (arith, p.loop-m-test.true),
-      every_more _ l.loop-m.m l.loop-m.invariant.1 (rw (← p.popup_at.ensures) (sym c.is_popup.ensures ∙ c.if-not-is_popup.false)),
+    (
+      omega (arith, c.loop-m-test.true),
+      every_more _ c.loop-m.m c.loop-m.invariant.1 (rw (← c.popup_at.ensures) (sym c.is_popup.ensures ∙ c.if-not-is_popup.false)),
     )
 
 pub returns : goal.returns
 unfolding is_popups
 returns c =
-    let l = c in
-    let q : l.loop-m.m ≡ l.args.n = omega (arith, l.loop-m.invariant.0) in
-    let all : every (λ i. is_popup (popup_at l.args.body.now i)) l.args.n ≡ true = rw q at l.loop-m.invariant.1 in
-    rw (eq-eqb _ _ l.if-body-n.false, all)
+    let q : c.loop-m.m ≡ c.args.n = omega (arith, c.loop-m.invariant.0) in
+    let all : every (λ i. is_popup (popup_at c.args.body.now i)) c.args.n ≡ true = rw q at c.loop-m.invariant.1 in
+    rw (eq-eqb _ _ c.if-body-n.false, all)

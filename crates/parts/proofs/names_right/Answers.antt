@@ -27,10 +27,9 @@ pair-requires c =
 pub returns : goal.returns
 unfolding names_right
 returns c =
-    let b = c in
     rw (
-      lt-ltb _ _ b.if-n-by.false,
-      (sym b.outranks.ensures ∙ b.if-not-outranks.false),
+      lt-ltb _ _ c.if-n-by.false,
+      (sym c.outranks.ensures ∙ c.if-not-outranks.false),
       c.exactly.ensures,
       c.fraction_of.ensures,
       c.pair.ensures,

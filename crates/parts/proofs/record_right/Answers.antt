@@ -7,30 +7,25 @@ use Rattle.parts.proofs.record_right.Goals as goal
 
 pub returns-then-is_never : goal.returns-then-is_never
 returns-then-is_never c =
-    let d = c in
-    right_of_lem _ _ _ d.record_at-d.ensures (rw (sym c.is_never.ensures ∙ c.if-is_never.true))
+    right_of_lem _ _ _ c.record_at-d.ensures (rw (sym c.is_never.ensures ∙ c.if-is_never.true))
 
 pub returns-then-not-names_right : goal.returns-then-not-names_right
 returns-then-not-names_right c =
-    let d = c in
-    right_of_lem _ _ _ d.record_at-d.ensures
+    right_of_lem _ _ _ c.record_at-d.ensures
     (rw (sym c.is_never.ensures ∙ c.if-is_never.false, (sym c.names_right.ensures ∙ c.if-not-names_right.true)))
 
 pub value_at-requires : goal.value_at-requires
 value_at-requires c =
-    let d = c in
-    let a = d.args in
-    let right = named (record { marks = a.marks.now; count = a.n; edition = a.edition; shape = a.shape; popups = a.popups.now }) d.record_at-d.result a.m (sym c.names_right.ensures ∙ c.if-not-names_right.false) in
+    let a = c.args in
+    let right = named (record { marks = a.marks.now; count = a.n; edition = a.edition; shape = a.shape; popups = a.popups.now }) c.record_at-d.result a.m (sym c.names_right.ensures ∙ c.if-not-names_right.false) in
     omega (arith, right.below)
 
 pub returns : goal.returns
 returns c =
-    let b = c in
-    let d = b in
-    right_of_lem _ _ _ d.record_at-d.ensures
+    right_of_lem _ _ _ c.record_at-d.ensures
     (rw (
-      sym b.is_never.ensures ∙ b.if-is_never.false,
-      (sym b.names_right.ensures ∙ b.if-not-names_right.false),
+      sym c.is_never.ensures ∙ c.if-is_never.false,
+      (sym c.names_right.ensures ∙ c.if-not-names_right.false),
       c.later.ensures,
       c.value_at.ensures,
       c.value_of.ensures,

@@ -7,11 +7,10 @@ use Rattle.reaching.proofs.is_window.Goals as goal
 pub returns : goal.returns
 unfolding is_window
 returns c =
-    let first = c in
-    let e = first.args.window in
-    let told = first.struct_told-1.given in
+    let e = c.args.window in
+    let told = c.struct_told-1.given in
     rw (
-      rw (to_z-of_z {z = e.x0} (sfits_of told.0.1)) at first.is_edge.ensures,
+      rw (to_z-of_z {z = e.x0} (sfits_of told.0.1)) at c.is_edge.ensures,
       rw (to_z-of_z {z = e.x1} (sfits_of told.1.0.1)) at c.is_edge-2.ensures,
       rw (to_z-of_z {z = e.y0} (sfits_of told.1.1.0.1)) at c.is_edge-3.ensures,
       rw (to_z-of_z {z = e.y1} (sfits_of told.1.1.1.0.1)) at c.is_edge-4.ensures,

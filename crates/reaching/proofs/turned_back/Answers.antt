@@ -20,32 +20,28 @@ overflow_sub-quarters c = omega (arith, turn_most c.args.window c.requires)
 
 pub turned_corner-a-requires : goal.turned_corner-a-requires
 turned_corner-a-requires c =
-    let s = c in
     let told = c.struct_told-2-1.given in (
       omega arith,
-      rw (to_z-of_z {z = s.args.window.x0} (sfits_of told.0.1)) (x0_edge s.args.window s.requires),
-      rw (to_z-of_z {z = s.args.window.y0} (sfits_of told.1.1.0.1)) (y0_edge s.args.window s.requires),
+      rw (to_z-of_z {z = c.args.window.x0} (sfits_of told.0.1)) (x0_edge c.args.window c.requires),
+      rw (to_z-of_z {z = c.args.window.y0} (sfits_of told.1.1.0.1)) (y0_edge c.args.window c.requires),
     )
 
 pub turned_corner-b-requires : goal.turned_corner-b-requires
 turned_corner-b-requires c =
-    let s = c in
     let told = c.struct_told-4-1.given in (
       omega arith,
-      rw (to_z-of_z {z = s.args.window.x1} (sfits_of told.1.0.1)) (x1_edge s.args.window s.requires),
-      rw (to_z-of_z {z = s.args.window.y1} (sfits_of told.1.1.1.0.1)) (y1_edge s.args.window s.requires),
+      rw (to_z-of_z {z = c.args.window.x1} (sfits_of told.1.0.1)) (x1_edge c.args.window c.requires),
+      rw (to_z-of_z {z = c.args.window.y1} (sfits_of told.1.1.1.0.1)) (y1_edge c.args.window c.requires),
     )
 
 pub returns : goal.returns
 unfolding turned_back
 returns c =
-    let b = c in
-    let a = b in
-    let w = a.args.window in
-    let first = a.struct_told-2-1.given in
-    let last = b.struct_told-4-1.given in
+    let w = c.args.window in
+    let first = c.struct_told-2-1.given in
+    let last = c.struct_told-4-1.given in
     let corners =
     ap₂ between
-    (a.turned_corner-a.ensures ∙ ap₂ (corner_of (4 - w.turn)) (to_z-of_z {w = w32} {z = w.x0} (sfits_of first.0.1)) (to_z-of_z {w = w32} {z = w.y0} (sfits_of first.1.1.0.1)))
-    (b.turned_corner-b.ensures ∙ ap₂ (corner_of (4 - w.turn)) (to_z-of_z {w = w32} {z = w.x1} (sfits_of last.1.0.1)) (to_z-of_z {w = w32} {z = w.y1} (sfits_of last.1.1.1.0.1))) in
+    (c.turned_corner-a.ensures ∙ ap₂ (corner_of (4 - w.turn)) (to_z-of_z {w = w32} {z = w.x0} (sfits_of first.0.1)) (to_z-of_z {w = w32} {z = w.y0} (sfits_of first.1.1.0.1)))
+    (c.turned_corner-b.ensures ∙ ap₂ (corner_of (4 - w.turn)) (to_z-of_z {w = w32} {z = w.x1} (sfits_of last.1.0.1)) (to_z-of_z {w = w32} {z = w.y1} (sfits_of last.1.1.1.0.1))) in
     rw (c.lower.ensures, c.higher.ensures, c.lower-2.ensures, c.higher-2.ensures) corners

@@ -24,8 +24,7 @@ yes c = sym c.print_answer-number.ensures ∙ c.if-number-ne0.false
 
 part1 : (c : After-part-marks) → c.part-marks.result.now ≡ marks_part (split c.args.input.now)
 part1 c =
-    let k = c in
-    c.part-marks.ensures ∙ rw k.layout_of-layout.ensures (layout_part _ (taken_laid _ (sym k.print_answer-number.ensures ∙ k.if-number-ne0.false)) 1)
+    c.part-marks.ensures ∙ rw c.layout_of-layout.ensures (layout_part _ (taken_laid _ (sym c.print_answer-number.ensures ∙ c.if-number-ne0.false)) 1)
 
 marks_few : (c : After-part-marks) → mark_count c.part-marks.result.now ≤ most_marks
 marks_few c = part1_few _ (λ i. (c.shared_slice_known-1.given i).fits) (sym c.print_answer-number.ensures ∙ c.if-number-ne0.false) (part1 c)
@@ -34,51 +33,45 @@ marks_few c = part1_few _ (λ i. (c.shared_slice_known-1.given i).fits) (sym c.p
 ranked : (c : After-choice_of-edition)
     → c.choice_of-edition.result ≡ edition_of (split c.args.input.now)
 ranked c =
-    let k = c in
-    let part4 : c.part.result.now ≡ edition_part (split k.args.input.now) =
-    c.part.ensures ∙ rw k.layout_of-layout.ensures (layout_part _ (taken_laid _ (sym k.print_answer-number.ensures ∙ k.if-number-ne0.false)) 4) in
+    let part4 : c.part.result.now ≡ edition_part (split c.args.input.now) =
+    c.part.ensures ∙ rw c.layout_of-layout.ensures (layout_part _ (taken_laid _ (sym c.print_answer-number.ensures ∙ c.if-number-ne0.false)) 4) in
     c.choice_of-edition.ensures ∙ ap choice_in part4
 
 -- part 5 has the popups
 popped : (c : After-part-popups) → c.part-popups.result.now ≡ popups_part (split c.args.input.now)
 popped c =
-    let k = c in
-    c.part-popups.ensures ∙ rw k.layout_of-layout.ensures (layout_part _ (taken_laid _ (sym k.print_answer-number.ensures ∙ k.if-number-ne0.false)) 5)
+    c.part-popups.ensures ∙ rw c.layout_of-layout.ensures (layout_part _ (taken_laid _ (sym c.print_answer-number.ensures ∙ c.if-number-ne0.false)) 5)
 
 -- and part 7 names the shape
 shaped : (c : After-choice_of-shape) → c.choice_of-shape.result ≡ shape_of (split c.args.input.now)
 shaped c =
-    let k = c in
-    let part7 : c.part-2.result.now ≡ shape_part (split k.args.input.now) =
-    c.part-2.ensures ∙ rw k.layout_of-layout.ensures (layout_part _ (taken_laid _ (sym k.print_answer-number.ensures ∙ k.if-number-ne0.false)) 7) in
+    let part7 : c.part-2.result.now ≡ shape_part (split c.args.input.now) =
+    c.part-2.ensures ∙ rw c.layout_of-layout.ensures (layout_part _ (taken_laid _ (sym c.print_answer-number.ensures ∙ c.if-number-ne0.false)) 7) in
     c.choice_of-shape.ensures ∙ ap choice_in part7
 
 pub returns-then-number-ne0 : goal.returns-then-number-ne0
 returns-then-number-ne0 c =
-    let k = c in
-    let p = k.requires in
-    prints_refusal _ k.print_answer-number.ensures (omega (arith, k.if-number-ne0.true)) _ _ (omega (arith, p.out_room)) c.put_first_line.ensures
+    let p = c.requires in
+    prints_refusal _ c.print_answer-number.ensures (omega (arith, c.if-number-ne0.true)) _ _ (omega (arith, p.out_room)) c.put_first_line.ensures
 
 pub layout_of-layout-requires : goal.layout_of-layout-requires
 layout_of-layout-requires c = (taken_laid _ (yes (goal.at.layout_of-layout-requires c).Else-number-ne0)).whole
 
 pub schedule-requires : goal.schedule-requires
 schedule-requires c =
-    let k = c in
     let p = c.requires in
     record {
-      good = part1_good _ (input_bytes (goal.at.schedule-requires c).Else-number-ne0) (yes (goal.at.schedule-requires c).Else-number-ne0) (part1 (goal.at.schedule-requires k).After-part-marks);
-      popped = popups_good _ (input_bytes (goal.at.schedule-requires c).Else-number-ne0) (yes (goal.at.schedule-requires c).Else-number-ne0) (part1 (goal.at.schedule-requires k).After-part-marks) (popped (goal.at.schedule-requires c).After-part-popups) (ranked (goal.at.schedule-requires c).After-choice_of-edition) (shaped (goal.at.schedule-requires c).After-choice_of-shape);
-      work_room = omega (arith, p.work_room, marks_few (goal.at.schedule-requires k).After-part-marks);
-      out_room = omega (arith, p.schedule_room, marks_few (goal.at.schedule-requires k).After-part-marks);
+      good = part1_good _ (input_bytes (goal.at.schedule-requires c).Else-number-ne0) (yes (goal.at.schedule-requires c).Else-number-ne0) (part1 (goal.at.schedule-requires c).After-part-marks);
+      popped = popups_good _ (input_bytes (goal.at.schedule-requires c).Else-number-ne0) (yes (goal.at.schedule-requires c).Else-number-ne0) (part1 (goal.at.schedule-requires c).After-part-marks) (popped (goal.at.schedule-requires c).After-part-popups) (ranked (goal.at.schedule-requires c).After-choice_of-edition) (shaped (goal.at.schedule-requires c).After-choice_of-shape);
+      work_room = omega (arith, p.work_room, marks_few (goal.at.schedule-requires c).After-part-marks);
+      out_room = omega (arith, p.schedule_room, marks_few (goal.at.schedule-requires c).After-part-marks);
     }
 
 pub put_listing-requires : goal.put_listing-requires
 put_listing-requires c =
-    let k = c in
     let p = c.requires in (
-      taken_printable _ (input_bytes (goal.at.put_listing-requires c).Else-number-ne0) (yes (goal.at.put_listing-requires c).Else-number-ne0) (part1 (goal.at.put_listing-requires k).After-part-marks) (popped (goal.at.put_listing-requires c).After-part-popups) (ranked (goal.at.put_listing-requires c).After-choice_of-edition) (shaped (goal.at.put_listing-requires c).After-choice_of-shape) _ c.schedule.ensures,
-      omega (arith, p.out_room, marks_few (goal.at.put_listing-requires k).After-part-marks),
+      taken_printable _ (input_bytes (goal.at.put_listing-requires c).Else-number-ne0) (yes (goal.at.put_listing-requires c).Else-number-ne0) (part1 (goal.at.put_listing-requires c).After-part-marks) (popped (goal.at.put_listing-requires c).After-part-popups) (ranked (goal.at.put_listing-requires c).After-choice_of-edition) (shaped (goal.at.put_listing-requires c).After-choice_of-shape) _ c.schedule.ensures,
+      omega (arith, p.out_room, marks_few (goal.at.put_listing-requires c).After-part-marks),
     )
 
 pub returns : goal.returns

@@ -19,8 +19,7 @@ accepted c = sym (found_number _ c.opened-found.ensures) ∙ c.if-number-ne0.fal
 count : (c : After-part) → let s = c.args.input.now in
     length c.part.result.now / 11 ≡ sheet_count s
 count c =
-    let k = c in
-    ap (λ (part : List ℕ). length part / 11) (c.part.ensures ∙ found_part _ k.opened-found.ensures (sym (found_number _ k.opened-found.ensures) ∙ k.if-number-ne0.false) 1)
+    ap (λ (part : List ℕ). length part / 11) (c.part.ensures ∙ found_part _ c.opened-found.ensures (sym (found_number _ c.opened-found.ensures) ∙ c.if-number-ne0.false) 1)
 
 pub returns-then-input-gt65536 : goal.returns-then-input-gt65536
 returns-then-input-gt65536 c = sym (answer_long _ (omega (arith, c.if-input-gt65536.true)))
@@ -32,10 +31,8 @@ returns-then-number-ne0 c =
 
 pub returns-then-part-gt2000 : goal.returns-then-part-gt2000
 returns-then-part-gt2000 c =
-    let k = c in
-    sym (answer_many _ (omega (arith, k.if-input-gt65536.false)) (accepted (goal.at.returns-then-part-gt2000 k).Else-number-ne0) (omega (arith, count (goal.at.returns-then-part-gt2000 c).After-part, c.if-part-gt2000.true)))
+    sym (answer_many _ (omega (arith, c.if-input-gt65536.false)) (accepted (goal.at.returns-then-part-gt2000 c).Else-number-ne0) (omega (arith, count (goal.at.returns-then-part-gt2000 c).After-part, c.if-part-gt2000.true)))
 
 pub returns-else-part-gt2000 : goal.returns-else-part-gt2000
 returns-else-part-gt2000 c =
-    let k = c in
-    sym (answer_taken _ (omega (arith, k.if-input-gt65536.false)) (accepted (goal.at.returns-else-part-gt2000 k).Else-number-ne0) (omega (arith, count (goal.at.returns-else-part-gt2000 c).After-part, c.if-part-gt2000.false)))
+    sym (answer_taken _ (omega (arith, c.if-input-gt65536.false)) (accepted (goal.at.returns-else-part-gt2000 c).Else-number-ne0) (omega (arith, count (goal.at.returns-else-part-gt2000 c).After-part, c.if-part-gt2000.false)))

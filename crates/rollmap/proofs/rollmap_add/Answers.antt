@@ -5,5 +5,4 @@ use Rattle.rollmap.proofs.rollmap_add.Goals as goal
 
 pub returns : goal.returns
 returns c =
-    let b = c in
-    rw (to_z-of_z {z = b.args.x} b.ranges.x, to_z-of_z {z = b.args.y} b.ranges.y) at c.add.ensures
+    rw (to_z-of_z {z = c.args.x} c.ranges.x, to_z-of_z {z = c.args.y} c.ranges.y) at c.add.ensures

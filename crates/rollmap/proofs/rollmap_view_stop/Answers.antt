@@ -7,7 +7,6 @@ use Rattle.rollmap.proofs.rollmap_view_stop.Goals as goal
 
 pub returns : goal.returns
 returns c =
-    let b = c in
-    let gives = rw (to_z-of_z {z = b.args.x0} b.ranges.x0, to_z-of_z {z = b.args.x1} b.ranges.x1, to_z-of_z {z = b.args.y0} b.ranges.y0, to_z-of_z {z = b.args.y1} b.ranges.y1) at c.view.ensures in
+    let gives = rw (to_z-of_z {z = c.args.x0} c.ranges.x0, to_z-of_z {z = c.args.x1} c.ranges.x1, to_z-of_z {z = c.args.y0} c.ranges.y0, to_z-of_z {z = c.args.y1} c.ranges.y1) at c.view.ensures in
     let told = stop_whole gives in
     record { gives = told.0; meets_view = told.1; meets_turn = turn_meets gives }

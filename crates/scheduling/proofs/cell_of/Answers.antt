@@ -9,7 +9,5 @@ use Rattle.scheduling.proofs.cell_of.Goals.{then-plan, else-plan}
 
 pub overflow_add-small : goal.overflow_add-small
 overflow_add-small c =
-    let i = c in
-    let a = c in
-    let low : i.if-plan.cell ≤ 134217728 = elim i.if-plan.branch [ then-plan w ↦ omega arith | else-plan w ↦ omega arith ] in
-    omega (arith, low, div-le_self i.if-plan.cell (a.args.plan.groups - 1), a.requires.few)
+    let low : c.if-plan.cell ≤ 134217728 = elim c.if-plan.branch [ then-plan w ↦ omega arith | else-plan w ↦ omega arith ] in
+    omega (arith, low, div-le_self c.if-plan.cell (c.args.plan.groups - 1), c.requires.few)

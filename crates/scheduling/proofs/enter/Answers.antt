@@ -6,10 +6,9 @@ use Rattle.scheduling.proofs.enter.Goals as goal
 
 pub add-requires : goal.add-requires
 add-requires c =
-    let a = c in
     record {
-      p_bound = (a.requires.0, a.requires.1, a.requires.2, a.requires.3);
-      small = (a.requires.4.latest_small _ (omega (arith, a.requires.1)), a.requires.4.latest_small _ (omega (arith, a.requires.1)));
+      p_bound = (c.requires.0, c.requires.1, c.requires.2, c.requires.3);
+      small = (c.requires.4.latest_small _ (omega (arith, c.requires.1)), c.requires.4.latest_small _ (omega (arith, c.requires.1)));
     }
 
 pub returns-then-value-eq0 : goal.returns-then-value-eq0

@@ -18,20 +18,16 @@ rank_key-requires c =
 
 pub put-requires : goal.put-requires
 put-requires c =
-    let l = c in
-    omega (arith, c.loop-i-test.true, l.loop-i.invariant.1.long, l.requires.1)
+    omega (arith, c.loop-i-test.true, c.loop-i.invariant.1.long, c.requires.1)
 
 pub loop-i-preserved : goal.loop-i-preserved
 loop-i-preserved c =
-    let v = c in
-    let k = v in
-    (omega arith, keyed_more k.loop-i.invariant.1 k.rank_key.ensures v.put.ensures)
+    (omega arith, keyed_more c.loop-i.invariant.1 c.rank_key.ensures c.put.ensures)
 
 pub shape_of-work : goal.shape_of-work
 shape_of-work c = c.loop-i.invariant.1.long
 
 pub returns : goal.returns
 returns c =
-    let l = c in
-    let e : l.loop-i.i ≡ l.args.n = omega arith in
-    rw e at l.loop-i.invariant.1
+    let e : c.loop-i.i ≡ c.args.n = omega arith in
+    rw e at c.loop-i.invariant.1

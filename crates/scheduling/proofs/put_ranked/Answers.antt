@@ -7,23 +7,16 @@ use Rattle.scheduling.proofs.put_ranked.Goals as goal
 
 pub put_rows-requires : goal.put_rows-requires
 put_rows-requires c =
-    let o = c in
-    let k = o in
-    let a = k in
-    let p = a.requires in
-    let rs = ranks a.args.edition a.args.marks.now p.0.few k.put_keys.ensures.keys o.sort.ensures in
+    let p = c.requires in
+    let rs = ranks c.args.edition c.args.marks.now p.0.few c.put_keys.ensures.keys c.sort.ensures in
     record {
-      n_bound = (p.0.few, p.0.there, omega (arith, o.sort.ensures.long, k.put_keys.ensures.long, p.1));
+      n_bound = (p.0.few, p.0.there, omega (arith, c.sort.ensures.long, c.put_keys.ensures.long, p.1));
       by_index = (rs.inside, (λ i h. (p.0.each i h).used), p.2);
     }
 
 pub returns : goal.returns
 returns c =
-    let f = c in
-    let o = f in
-    let k = o in
-    let a = k in
     record {
-      long = f.put_rows.ensures.long ∙ o.sort.ensures.long ∙ k.put_keys.ensures.long;
-      in_rank = in_rank (ranks a.args.edition a.args.marks.now a.requires.0.few k.put_keys.ensures.keys o.sort.ensures) f.put_rows.ensures;
+      long = c.put_rows.ensures.long ∙ c.sort.ensures.long ∙ c.put_keys.ensures.long;
+      in_rank = in_rank (ranks c.args.edition c.args.marks.now c.requires.0.few c.put_keys.ensures.keys c.sort.ensures) c.put_rows.ensures;
     }

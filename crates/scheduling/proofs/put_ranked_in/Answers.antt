@@ -15,15 +15,12 @@ rest_is a at = take_all (length a - at) (drop at a) (omega (arith, length-drop a
 
 pub slice_bounds-put_ranked-end : goal.slice_bounds-put_ranked-end
 slice_bounds-put_ranked-end c =
-    let a = c in
-    sym (length-take-le (mark_size * a.args.n) a.args.all.now a.requires.2)
+    sym (length-take-le (mark_size * c.args.n) c.args.all.now c.requires.2)
 
 pub put_ranked-requires : goal.put_ranked-requires
 put_ranked-requires c =
-    let a = c in
-    (a.requires.0, a.requires.1, rw (rest_is a.args.all.now a.args.at) a.requires.4)
+    (c.requires.0, c.requires.1, rw (rest_is c.args.all.now c.args.at) c.requires.4)
 
 pub returns : goal.returns
 returns c =
-    let a = c in
-    rw (rest_is a.args.all.now a.args.at) at c.put_ranked.ensures
+    rw (rest_is c.args.all.now c.args.at) at c.put_ranked.ensures

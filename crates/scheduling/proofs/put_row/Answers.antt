@@ -8,13 +8,8 @@ popup_at-requires c = c.requires.popup_there
 
 pub returns : goal.returns
 returns c =
-    let k = c in
-    let r = k in
-    let y = r in
-    let x = y in
-    let m = x in
-    row_put _ _ _ _ _ m.write.ensures
-    (rw x.read.ensures.0 at x.write-2.ensures)
-    (rw y.read-2.ensures.0 at y.write-3.ensures)
-    (rw r.radius_at.ensures at r.write-4.ensures)
-    (rw k.popup_at.ensures at k.write-5.ensures)
+    row_put _ _ _ _ _ c.write.ensures
+    (rw c.read.ensures.0 at c.write-2.ensures)
+    (rw c.read-2.ensures.0 at c.write-3.ensures)
+    (rw c.radius_at.ensures at c.write-4.ensures)
+    (rw c.popup_at.ensures at c.write-5.ensures)

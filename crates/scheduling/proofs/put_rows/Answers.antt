@@ -18,39 +18,29 @@ popup_there (inr e) h = inr (omega arith)
 -- the number that was read is one of a mark
 number : (c : After-put_row-arg-1) → c.get.result % 4096 < c.args.n
 number c =
-    let g = c in
-    let i = g in
-    let l = i in
-    rw (g.get.ensures, l.loop-q.invariant.1.keys l.loop-q.q (omega arith) i.loop-q-test.true) (l.requires.by_index.0 l.loop-q.q i.loop-q-test.true)
+    rw (c.get.ensures, c.loop-q.invariant.1.keys c.loop-q.q (omega arith) c.loop-q-test.true) (c.requires.by_index.0 c.loop-q.q c.loop-q-test.true)
 
 pub loop-q-init : goal.loop-q-init
 loop-q-init c = (omega arith, rows_none _ _ _ _)
 
 pub get-requires : goal.get-requires
 get-requires c =
-    let l = c in
-    omega (arith, c.loop-q-test.true, l.loop-q.invariant.1.long, l.requires.n_bound)
+    omega (arith, c.loop-q-test.true, c.loop-q.invariant.1.long, c.requires.n_bound)
 
 pub put_row-requires : goal.put_row-requires
 put_row-requires c =
     let k = number (goal.at.put_row-requires c).After-put_row-arg-1 in
-    let a = c in record {
-      m_bound = (omega arith, omega (arith, a.requires.n_bound), omega (arith, c.loop-q-test.true, a.requires.n_bound, c.loop-q.invariant.1.long));
-      popup_there = popup_there a.requires.by_index.2.sized k;
+    record {
+      m_bound = (omega arith, omega (arith, c.requires.n_bound), omega (arith, c.loop-q-test.true, c.requires.n_bound, c.loop-q.invariant.1.long));
+      popup_there = popup_there c.requires.by_index.2.sized k;
     }
 
 pub loop-q-preserved : goal.loop-q-preserved
 loop-q-preserved c =
-    let v = c in
-    let g = v in
-    let i = g in
-    let l = i in
-    let y = l in
-    let a = y in
-    let k = number (goal.at.loop-q-preserved v).After-put_row-arg-1 in (
+    let k = number (goal.at.loop-q-preserved c).After-put_row-arg-1 in (
       omega arith,
-      rows_more (λ j. (y.shared_slice_known-1.given j).fits) i.loop-q-test.true a.requires.n_bound.2 (omega arith)
-          (omega (arith, a.requires.by_index.1 _ k)) (a.requires.by_index.2.each _ k) (rw g.get.ensures) l.loop-q.invariant.1 v.put_row.ensures,
+      rows_more (λ j. (c.shared_slice_known-1.given j).fits) c.loop-q-test.true c.requires.n_bound.2 (omega arith)
+          (omega (arith, c.requires.by_index.1 _ k)) (c.requires.by_index.2.each _ k) (rw c.get.ensures) c.loop-q.invariant.1 c.put_row.ensures,
     )
 
 pub shape_of-work : goal.shape_of-work
@@ -58,6 +48,5 @@ shape_of-work c = c.loop-q.invariant.1.long
 
 pub returns : goal.returns
 returns c =
-    let l = c in
-    let e : l.loop-q.q ≡ l.args.n = omega arith in
-    rw e at l.loop-q.invariant.1
+    let e : c.loop-q.q ≡ c.args.n = omega arith in
+    rw e at c.loop-q.invariant.1

@@ -6,10 +6,8 @@ use Rattle.scheduling.proofs.rows_for.Goals as goal
 
 pub overflow_cast-result : goal.overflow_cast-result
 overflow_cast-result c =
-    let a = c in
-    omega (arith, div-le_self a.args.small a.args.columns, a.requires)
+    omega (arith, div-le_self c.args.small c.args.columns, c.requires)
 
 pub returns : goal.returns
 returns c =
-    let a = c in
-    omega (arith, div-le_self a.args.small a.args.columns, a.requires, c.if-rows-eq0.false)
+    omega (arith, div-le_self c.args.small c.args.columns, c.requires, c.if-rows-eq0.false)

@@ -9,20 +9,15 @@ use Rattle.scheduling.proofs.schedule.Goals as goal
 
 pub schedule_rows-requires : goal.schedule_rows-requires
 schedule_rows-requires c =
-    let r = c in
-    let a = r in
-    let p = a.requires in
-    let rows = r.put_ranked.ensures.in_rank in
+    let p = c.requires in
+    let rows = c.put_ranked.ensures.in_rank in
     record {
-      n_bound = (p.good.few, omega (arith, r.put_ranked.ensures.long, p.work_room), p.out_room);
-      rows_small = (rows_small rows _ (λ i h. (p.good.each i h).used) p.popped (λ e. omega (arith, ltb-false 0 (length a.args.popups.now) e)), numbered rows);
+      n_bound = (p.good.few, omega (arith, c.put_ranked.ensures.long, p.work_room), p.out_room);
+      rows_small = (rows_small rows _ (λ i h. (p.good.each i h).used) p.popped (λ e. omega (arith, ltb-false 0 (length c.args.popups.now) e)), numbered rows);
     }
 
 pub returns : goal.returns
 unfolding schedule_of
 returns c =
-    let s = c in
-    let r = s in
-    let a = r in
-    let p = a.requires in
-    s.schedule_rows.ensures.records_are _ _ (ordered r.put_ranked.ensures.in_rank a.args.shape p.good.few)
+    let p = c.requires in
+    c.schedule_rows.ensures.records_are _ _ (ordered c.put_ranked.ensures.in_rank c.args.shape p.good.few)

@@ -13,19 +13,14 @@ use Rattle.scheduling.proofs.schedule_behind.Goals as goal
 
 pub schedule_rows-requires : goal.schedule_rows-requires
 schedule_rows-requires c =
-    let r = c in
-    let a = r in
-    let rows = r.put_ranked_in.ensures.in_rank in record {
-      n_bound = (a.requires.0.few, omega (arith, r.put_ranked_in.ensures.long, a.requires.1), lent_long a.args.all.now a.args.n a.requires.2);
-      rows_small = (rows_small rows _ (λ i h. (a.requires.0.each i h).used) a.requires.4 (λ e. omega (arith, ltb-false a.args.at (length a.args.all.now) e, length-drop a.args.at a.args.all.now)), numbered rows);
+    let rows = c.put_ranked_in.ensures.in_rank in record {
+      n_bound = (c.requires.0.few, omega (arith, c.put_ranked_in.ensures.long, c.requires.1), lent_long c.args.all.now c.args.n c.requires.2);
+      rows_small = (rows_small rows _ (λ i h. (c.requires.0.each i h).used) c.requires.4 (λ e. omega (arith, ltb-false c.args.at (length c.args.all.now) e, length-drop c.args.at c.args.all.now)), numbered rows);
     }
 
 pub returns : goal.returns
 unfolding schedule_of
 returns c =
-    let s = c in
-    let r = s in
-    let a = r in
-    let held = a.args.all.now in
-    behind a.args.edition a.args.shape (drop a.args.at held) held a.args.n (mark_size * a.args.n) (length held - mark_size * a.args.n) refl refl
-    (s.schedule_rows.ensures.records_are _ _ (ordered r.put_ranked_in.ensures.in_rank a.args.shape a.requires.0.few))
+    let held = c.args.all.now in
+    behind c.args.edition c.args.shape (drop c.args.at held) held c.args.n (mark_size * c.args.n) (length held - mark_size * c.args.n) refl refl
+    (c.schedule_rows.ensures.records_are _ _ (ordered c.put_ranked_in.ensures.in_rank c.args.shape c.requires.0.few))

@@ -12,24 +12,16 @@ loop-q-init c = (omega arith, spread_none _ _ _)
 
 pub send_one-requires : goal.send_one-requires
 send_one-requires c =
-    let i = c in
-    let l = i in
-    let a = l in
-    (omega arith, omega (arith, l.loop-q.invariant.1.kept.long, a.requires.3.inside l.loop-q.q i.loop-q-test.true))
+    (omega arith, omega (arith, c.loop-q.invariant.1.kept.long, c.requires.3.inside c.loop-q.q c.loop-q-test.true))
 
 pub loop-q-preserved : goal.loop-q-preserved
 loop-q-preserved c =
-    let v = c in
-    let i = v in
-    let l = i in
-    let a = l in
-    (omega arith, spread_more i.loop-q-test.true a.requires.2 a.requires.3 l.loop-q.invariant.1 v.send_one.ensures)
+    (omega arith, spread_more c.loop-q-test.true c.requires.2 c.requires.3 c.loop-q.invariant.1 c.send_one.ensures)
 
 pub shape_of-out : goal.shape_of-out
 shape_of-out c = c.loop-q.invariant.1.kept.long
 
 pub returns : goal.returns
 returns c =
-    let l = c in
-    let e : l.loop-q.q ≡ l.args.n = omega arith in
-    rw e at l.loop-q.invariant.1
+    let e : c.loop-q.q ≡ c.args.n = omega arith in
+    rw e at c.loop-q.invariant.1

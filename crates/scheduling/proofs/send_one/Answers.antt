@@ -4,7 +4,4 @@ use Rattle.scheduling.proofs.send_one.Goals as goal
 
 pub returns : goal.returns
 returns c =
-    let p = c in
-    let s = p in
-    let r = s in
-    rw (r.read_u16-m.ensures, s.sent.ensures, r.row_record.ensures) at p.put_record.ensures
+    rw (c.read_u16-m.ensures, c.sent.ensures, c.row_record.ensures) at c.put_record.ensures

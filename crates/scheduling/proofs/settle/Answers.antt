@@ -10,7 +10,4 @@ best_of-found-requires c = search_for c.requires c.row_label-label.ensures
 
 pub returns : goal.returns
 returns c =
-    let k = c in
-    let f = k in
-    let a = f in
-    settles a.requires.below (omega (arith, a.requires.room)) (omega arith) (omega arith) (kept_none _ _ 0) k.put_record.ensures f.best_of-found.ensures
+    settles c.requires.below (omega (arith, c.requires.room)) (omega arith) (omega arith) (kept_none _ _ 0) c.put_record.ensures c.best_of-found.ensures

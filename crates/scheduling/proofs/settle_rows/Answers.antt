@@ -10,16 +10,11 @@ loop-p-init c = (omega arith, start _ _ _)
 
 pub settle-requires : goal.settle-requires
 settle-requires c =
-    let i = c in
-    let l = i in
-    let a = l in
-    ready a.requires.0 a.requires.1 a.requires.2 i.loop-p-test.true l.loop-p.invariant.1
+    ready c.requires.0 c.requires.1 c.requires.2 c.loop-p-test.true c.loop-p.invariant.1
 
 pub loop-p-preserved : goal.loop-p-preserved
 loop-p-preserved c =
-    let v = c in
-    let i = v in
-    (omega arith, advance i.loop-p-test.true i.loop-p.invariant.1 v.settle.ensures)
+    (omega arith, advance c.loop-p-test.true c.loop-p.invariant.1 c.settle.ensures)
 
 pub shape_of-w : goal.shape_of-w
 shape_of-w c = c.loop-p.invariant.1.fields.long

@@ -3,13 +3,11 @@ use borrow.Author.Rules.{rules}
 use Rattle.searching.proofs.better.Goals as goal
 
 pub pair_at-v-requires : goal.pair_at-v-requires
-pair_at-v-requires c = let a = c in (a.requires.0, a.requires.1)
+pair_at-v-requires c = (c.requires.0, c.requires.1)
 
 pub better_pair-requires : goal.better_pair-requires
 better_pair-requires c =
-    let v = c in
-    let a = v in
-    (v.pair_at-v.ensures.1, a.requires.1, a.requires.2, a.requires.3)
+    (c.pair_at-v.ensures.1, c.requires.1, c.requires.2, c.requires.3)
 
 pub returns-then-popped : goal.returns-then-popped
 returns-then-popped c =
@@ -18,9 +16,7 @@ returns-then-popped c =
 
 pub better_chosen-requires : goal.better_chosen-requires
 better_chosen-requires c =
-    let v = c in
-    let a = v in
-    (v.pair_at-v.ensures.1, a.requires.1, a.requires.2, a.requires.3)
+    (c.pair_at-v.ensures.1, c.requires.1, c.requires.2, c.requires.3)
 
 pub returns : goal.returns
 returns c =

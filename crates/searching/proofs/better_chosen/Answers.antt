@@ -16,43 +16,32 @@ not_both false b e = inl e
 
 pub precedes-sooner-requires : goal.precedes-sooner-requires
 precedes-sooner-requires c =
-    let a = c in
-    (a.requires.0.small, rw c.leader_value.ensures a.requires.2.small)
+    (c.requires.0.small, rw c.leader_value.ensures c.requires.2.small)
 
 pub less_small-stands-requires : goal.less_small-stands-requires
 less_small-stands-requires c =
-    let a = c in
-    (a.requires.0.small, rw c.row_value.ensures a.requires.0.removal_small)
+    (c.requires.0.small, rw c.row_value.ensures c.requires.0.removal_small)
 
 pub returns-then-sooner-stands : goal.returns-then-sooner-stands
 returns-then-sooner-stands c =
-    let two = c in
-    let e = two in
-    let one = e in
-    let b = one in
-    let a = b in
-    let both = (both_iff one.precedes-sooner.result two.less_small-stands.result).0 c.if-sooner-stands.true in (
-      record { small = a.requires.0.small; inside = omega (arith, a.requires.1) },
+    let both = (both_iff c.precedes-sooner.result c.less_small-stands.result).0 c.if-sooner-stands.true in (
+      record { small = c.requires.0.small; inside = omega (arith, c.requires.1) },
       record {
-        adds = λ shape v-is. take a.requires.1 v-is (rw (b.leader_value.ensures, a.requires.3) at (sym one.precedes-sooner.ensures ∙ both.0))
-            (rw e.row_value.ensures at ((less_iff _ _).0 (sym two.less_small-stands.ensures ∙ both.1)));
+        adds = λ shape v-is. take c.requires.1 v-is (rw (c.leader_value.ensures, c.requires.3) at (sym c.precedes-sooner.ensures ∙ both.0))
+            (rw c.row_value.ensures at ((less_iff _ _).0 (sym c.less_small-stands.ensures ∙ both.1)));
       },
       inl refl,
     )
 
 pub returns : goal.returns
 returns c =
-    let two = c in
-    let e = two in
-    let one = e in
-    let b = one in
-    let a = b in (
-      a.requires.2,
+    (
+      c.requires.2,
       record {
         adds = λ shape v-is.
-            elim (not_both one.precedes-sooner.result two.less_small-stands.result c.if-sooner-stands.false) [
-              | inl n ↦ keep_behind a.requires.1 v-is (rw (b.leader_value.ensures, a.requires.3) at (sym one.precedes-sooner.ensures ∙ n))
-              | inr n ↦ keep_gone a.requires.1 v-is (λ l. not_less (sym two.less_small-stands.ensures ∙ n) (rw e.row_value.ensures l))
+            elim (not_both c.precedes-sooner.result c.less_small-stands.result c.if-sooner-stands.false) [
+              | inl n ↦ keep_behind c.requires.1 v-is (rw (c.leader_value.ensures, c.requires.3) at (sym c.precedes-sooner.ensures ∙ n))
+              | inr n ↦ keep_gone c.requires.1 v-is (λ l. not_less (sym c.less_small-stands.ensures ∙ n) (rw c.row_value.ensures l))
             ];
       },
       inr refl,

@@ -5,12 +5,11 @@ use borrow.Author.Tests.{le-ltb}
 use Rattle.searching.proofs.better_next.Goals as goal
 
 pub pair_at-v-requires : goal.pair_at-v-requires
-pair_at-v-requires c = let a = c in (a.requires.0, a.requires.1)
+pair_at-v-requires c = (c.requires.0, c.requires.1)
 
 pub better_pair-requires : goal.better_pair-requires
 better_pair-requires c =
-    let a = c in
-    (c.pair_at-v.ensures.1, a.requires.1, a.requires.2, sym (le-ltb _ _ a.requires.3))
+    (c.pair_at-v.ensures.1, c.requires.1, c.requires.2, sym (le-ltb _ _ c.requires.3))
 
 pub returns : goal.returns
 returns c =

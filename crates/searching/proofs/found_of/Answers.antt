@@ -10,9 +10,8 @@ returns-then-best-eq0 c = record { found = λ shape x. searched_nobody c.if-best
 
 pub returns : goal.returns
 returns c =
-    let a = c in
     record {
       found = λ shape x.
-          searched (record { num = a.args.best.num; den = a.args.best.den; eliminator = c.read_u16-number.result }) refl c.read_u16-number.ensures (omega arith) a.requires.1
+          searched (record { num = c.args.best.num; den = c.args.best.den; eliminator = c.read_u16-number.result }) refl c.read_u16-number.ensures (omega arith) c.requires.1
           (omega (arith, c.if-best-eq0.false)) x;
     }

@@ -22,13 +22,9 @@ less_small-requires c =
 pub returns-then-less_small : goal.returns-then-less_small
 unfolding is_least
 returns-then-less_small c =
-    let l = c in
-    let v = l in
-    rw (rw (v.row_popup-k.ensures, v.leader_value.ensures) at (sym l.less_small.ensures ∙ c.if-less_small.true))
+    rw (rw (c.row_popup-k.ensures, c.leader_value.ensures) at (sym c.less_small.ensures ∙ c.if-less_small.true))
 
 pub returns : goal.returns
 unfolding is_least
 returns c =
-    let l = c in
-    let v = l in
-    rw (rw (v.row_popup-k.ensures, v.leader_value.ensures) at (sym l.less_small.ensures ∙ c.if-less_small.false))
+    rw (rw (c.row_popup-k.ensures, c.leader_value.ensures) at (sym c.less_small.ensures ∙ c.if-less_small.false))

@@ -7,24 +7,19 @@ use Rattle.searching.proofs.may_lead.Goals as goal
 
 pub less_small-requires : goal.less_small-requires
 less_small-requires c =
-    let a = c in
-    (rw c.leader_value.ensures a.requires.0, c.bound-bound.ensures.1)
+    (rw c.leader_value.ensures c.requires.0, c.bound-bound.ensures.1)
 
 pub returns-then-less_small : goal.returns-then-less_small
 unfolding may_lead
 returns-then-less_small c =
-    let l = c in
-    rw (rw (l.leader_value.ensures, l.bound-bound.ensures.0) at (sym l.less_small.ensures ∙ c.if-less_small.true))
+    rw (rw (c.leader_value.ensures, c.bound-bound.ensures.0) at (sym c.less_small.ensures ∙ c.if-less_small.true))
 
 pub less_small-requires-2 : goal.less_small-requires-2
 less_small-requires-2 c =
-    let a = c in
-    (c.bound-bound.ensures.1, a.requires.2)
+    (c.bound-bound.ensures.1, c.requires.2)
 
 pub returns : goal.returns
 unfolding may_lead
 returns c =
-    let b = c in
-    let l = c in
-    let far = rw (l.leader_value.ensures, b.bound-bound.ensures.0) at (sym l.less_small.ensures ∙ c.if-less_small.false) in
-    rw far (c.less_small-2.ensures ∙ ap (λ f. less f l.args.r.latest) b.bound-bound.ensures.0)
+    let far = rw (c.leader_value.ensures, c.bound-bound.ensures.0) at (sym c.less_small.ensures ∙ c.if-less_small.false) in
+    rw far (c.less_small-2.ensures ∙ ap (λ f. less f c.args.r.latest) c.bound-bound.ensures.0)

@@ -47,8 +47,7 @@ overflow_mul-right c = omega (arith, small_cross c.requires.1 c.requires.0)
 
 pub overflow_add-bound : goal.overflow_add-bound
 overflow_add-bound c =
-    let a = c in
-    bound_fits a.args.tie (small_cross a.requires.1 a.requires.0)
+    bound_fits c.args.tie (small_cross c.requires.1 c.requires.0)
 
 pub returns : goal.returns
 unfolding precedes less

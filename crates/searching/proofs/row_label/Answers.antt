@@ -5,6 +5,4 @@ use Rattle.searching.proofs.row_label.Goals as goal
 
 pub returns : goal.returns
 returns c =
-    let y = c in
-    let x = y in
-    rw (place_passed x.read_i16.type_inv x.read_i16.ensures, place_passed y.read_i16-2.type_inv y.read_i16-2.ensures, c.read_u16.ensures)
+    rw (place_passed c.read_i16.type_inv c.read_i16.ensures, place_passed c.read_i16-2.type_inv c.read_i16-2.ensures, c.read_u16.ensures)

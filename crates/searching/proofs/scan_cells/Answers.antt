@@ -23,39 +23,27 @@ overflow_add-c c = omega (arith, c.counted_down.ensures.1, c.requires.1.room, c.
 
 pub scan_near-best-requires : goal.scan_near-best-requires
 scan_near-best-requires c =
-    let l = c in
-    let a = l in
-    (a.requires.0, a.requires.1, omega (arith, c.counted_down.ensures.1, a.requires.2), l.loop-i.invariant.1)
+    (c.requires.0, c.requires.1, omega (arith, c.counted_down.ensures.1, c.requires.2), c.loop-i.invariant.1)
 
 pub returns-then-best-eq0 : goal.returns-then-best-eq0
 returns-then-best-eq0 c =
-    let d = c in
-    let i = d in
-    let l = i in
-    let a = l in
-    let n = c in (
-      n.scan_near-best.ensures.0,
-      at_zero a.requires.5 c.if-best-eq0.true
-          (cells_more a.args.g a.args.first l.loop-i.i (counted_low 16 a.args.first l.loop-i.i a.requires.3 i.loop-i-test.true) l.loop-i.invariant.2
-          (rw d.counted_down.ensures.0 at n.scan_near-best.ensures.1)),
+    (
+      c.scan_near-best.ensures.0,
+      at_zero c.requires.5 c.if-best-eq0.true
+          (cells_more c.args.g c.args.first c.loop-i.i (counted_low 16 c.args.first c.loop-i.i c.requires.3 c.loop-i-test.true) c.loop-i.invariant.2
+          (rw c.counted_down.ensures.0 at c.scan_near-best.ensures.1)),
     )
 
 pub loop-i-preserved : goal.loop-i-preserved
 loop-i-preserved c =
-    let d = c in
-    let i = d in
-    let l = i in
-    let a = l in
-    let n = c in (
-      omega (arith, i.loop-i-test.true),
-      n.scan_near-best.ensures.0,
-      cells_more a.args.g a.args.first l.loop-i.i (counted_low 16 a.args.first l.loop-i.i a.requires.3 i.loop-i-test.true) l.loop-i.invariant.2
-          (rw d.counted_down.ensures.0 at n.scan_near-best.ensures.1),
+    (
+      omega (arith, c.loop-i-test.true),
+      c.scan_near-best.ensures.0,
+      cells_more c.args.g c.args.first c.loop-i.i (counted_low 16 c.args.first c.loop-i.i c.requires.3 c.loop-i-test.true) c.loop-i.invariant.2
+          (rw c.counted_down.ensures.0 at c.scan_near-best.ensures.1),
     )
 
 pub returns : goal.returns
 returns c =
-    let l = c in
-    let a = l in
-    let e : l.loop-i.i ≡ 16 = omega (arith, l.loop-i.invariant.0, c.loop-i-test.false) in
-    (l.loop-i.invariant.1, cells_all a.args.g a.args.first a.requires.3 (rw e at l.loop-i.invariant.2))
+    let e : c.loop-i.i ≡ 16 = omega (arith, c.loop-i.invariant.0, c.loop-i-test.false) in
+    (c.loop-i.invariant.1, cells_all c.args.g c.args.first c.requires.3 (rw e at c.loop-i.invariant.2))

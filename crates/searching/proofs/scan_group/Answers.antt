@@ -9,14 +9,11 @@ use Rattle.searching.proofs.scan_group.Goals as goal
 
 pub may_lead-requires : goal.may_lead-requires
 may_lead-requires c =
-    let a = c in
     let e = c.region_at-region.ensures in
-    let i = cell_count a.args.groups + a.args.g in
-    let h : i < region_count a.args.groups = omega (arith, a.requires.2) in
-    (a.requires.4.small, rw e (a.requires.1.radius_low i h), rw e (a.requires.1.latest_small i h), a.requires.0.radius_small)
+    let i = cell_count c.args.groups + c.args.g in
+    let h : i < region_count c.args.groups = omega (arith, c.requires.2) in
+    (c.requires.4.small, rw e (c.requires.1.radius_low i h), rw e (c.requires.1.latest_small i h), c.requires.0.radius_small)
 
 pub returns : goal.returns
 returns c =
-    let m = c in
-    let a = m in
-    (a.requires.4, skip_group a.requires.0 a.requires.1 a.requires.2 (rw m.region_at-region.ensures at (sym m.may_lead.ensures ∙ c.if-may_lead.false)))
+    (c.requires.4, skip_group c.requires.0 c.requires.1 c.requires.2 (rw c.region_at-region.ensures at (sym c.may_lead.ensures ∙ c.if-may_lead.false)))

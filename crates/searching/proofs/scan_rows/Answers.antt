@@ -22,11 +22,10 @@ one_more b e =
 
 -- two rows more
 two_more : (c : After-better_next-best-in-loop-q)
-    → let l = c in BestOfFirst l.args.shape l.args.w.now l.args.p (l.loop-q.q + 2) c.better_next-best-in-loop-q.result
+    → BestOfFirst c.args.shape c.args.w.now c.args.p (c.loop-q.q + 2) c.better_next-best-in-loop-q.result
 two_more c =
-    let l = c in
-    let e : l.loop-q.q + 1 + 1 ≡ l.loop-q.q + 2 = omega arith in
-    rw e at (one_more (one_more l.loop-q.invariant.1 c.better_next-best.ensures) c.better_next-best-in-loop-q.ensures)
+    let e : c.loop-q.q + 1 + 1 ≡ c.loop-q.q + 2 = omega arith in
+    rw e at (one_more (one_more c.loop-q.invariant.1 c.better_next-best.ensures) c.better_next-best-in-loop-q.ensures)
 
 pub loop-q-init : goal.loop-q-init
 loop-q-init c = (
@@ -40,51 +39,40 @@ loop-q-init c = (
 
 pub better_next-best-requires : goal.better_next-best-requires
 better_next-best-requires c =
-    let l = c in
-    let a = l in
-    (a.requires.0, omega (arith, c.loop-q-test.true, a.requires.1), l.loop-q.invariant.1.admitted, l.loop-q.invariant.1.low)
+    (c.requires.0, omega (arith, c.loop-q-test.true, c.requires.1), c.loop-q.invariant.1.admitted, c.loop-q.invariant.1.low)
 
 pub better_next-best-requires-in-loop-q : goal.better_next-best-requires-in-loop-q
 better_next-best-requires-in-loop-q c =
-    let l = c in
-    let a = l in
-    let b = one_more l.loop-q.invariant.1 c.better_next-best.ensures in
-    (a.requires.0, omega (arith, c.loop-q-test.true, a.requires.1), b.admitted, b.low)
+    let b = one_more c.loop-q.invariant.1 c.better_next-best.ensures in
+    (c.requires.0, omega (arith, c.loop-q-test.true, c.requires.1), b.admitted, b.low)
 
 pub is_least-requires : goal.is_least-requires
 is_least-requires c =
-    let n = c in
-    let s = n.requires.0 in
-    (s.room, s.popup_small, (two_more (goal.at.is_least-requires n).After-better_next-best-in-loop-q).admitted)
+    let s = c.requires.0 in
+    (s.room, s.popup_small, (two_more (goal.at.is_least-requires c).After-better_next-best-in-loop-q).admitted)
 
 pub returns-then-is_least : goal.returns-then-is_least
 returns-then-is_least c =
-    let i = c in
-    let n = i in
-    let b = two_more (goal.at.returns-then-is_least n).After-better_next-best-in-loop-q in
-    record { admitted = b.admitted; adds = least_all b i.is_least.ensures c.if-is_least.true; low = omega (arith, b.low, n.loop-q-test.true) }
+    let b = two_more (goal.at.returns-then-is_least c).After-better_next-best-in-loop-q in
+    record { admitted = b.admitted; adds = least_all b c.is_least.ensures c.if-is_least.true; low = omega (arith, b.low, c.loop-q-test.true) }
 
 pub loop-q-preserved-else-is_least : goal.loop-q-preserved-else-is_least
-loop-q-preserved-else-is_least c = let n = c in (omega (arith, n.loop-q-test.true), two_more (goal.at.loop-q-preserved-else-is_least n).After-better_next-best-in-loop-q)
+loop-q-preserved-else-is_least c = (omega (arith, c.loop-q-test.true), two_more (goal.at.loop-q-preserved-else-is_least c).After-better_next-best-in-loop-q)
 
 pub loop-q-preserved : goal.loop-q-preserved
-loop-q-preserved c = let n = c in (omega (arith, n.loop-q-test.true), two_more (goal.at.loop-q-preserved n).After-better_next-best-in-loop-q)
+loop-q-preserved c = (omega (arith, c.loop-q-test.true), two_more (goal.at.loop-q-preserved c).After-better_next-best-in-loop-q)
 
 pub better_next-requires : goal.better_next-requires
 better_next-requires c =
-    let l = c in
-    let a = l in
-    (a.requires.0, omega (arith, c.if-q-end.true, a.requires.1), l.loop-q.invariant.1.admitted, l.loop-q.invariant.1.low)
+    (c.requires.0, omega (arith, c.if-q-end.true, c.requires.1), c.loop-q.invariant.1.admitted, c.loop-q.invariant.1.low)
 
 pub returns-then-q-end : goal.returns-then-q-end
 returns-then-q-end c =
-    let l = c in
-    let b = one_more l.loop-q.invariant.1 c.better_next.ensures in
-    let e : l.loop-q.q + 1 ≡ l.args.«end» = omega (arith, c.if-q-end.true, c.loop-q-test.false) in
+    let b = one_more c.loop-q.invariant.1 c.better_next.ensures in
+    let e : c.loop-q.q + 1 ≡ c.args.«end» = omega (arith, c.if-q-end.true, c.loop-q-test.false) in
     rw e at b
 
 pub returns : goal.returns
 returns c =
-    let l = c in
-    let e : l.loop-q.q ≡ l.args.«end» = omega (arith, l.loop-q.invariant.0, c.if-q-end.false) in
-    rw e at l.loop-q.invariant.1
+    let e : c.loop-q.q ≡ c.args.«end» = omega (arith, c.loop-q.invariant.0, c.if-q-end.false) in
+    rw e at c.loop-q.invariant.1

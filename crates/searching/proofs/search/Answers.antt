@@ -14,7 +14,7 @@ pub row_popup-requires : goal.row_popup-requires
 row_popup-requires c = c.requires.0.room
 
 pub scan_rows-top-requires : goal.scan_rows-top-requires
-scan_rows-top-requires c = let o = c in (o.requires.0, omega (arith, o.if-p-lt-FEW.false))
+scan_rows-top-requires c = (c.requires.0, omega (arith, c.if-p-lt-FEW.false))
 
 pub is_least-requires : goal.is_least-requires
 is_least-requires c = let s = c.requires.0 in (s.room, s.popup_small, c.scan_rows-top.ensures.admitted)

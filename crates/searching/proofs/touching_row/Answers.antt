@@ -4,8 +4,7 @@ use Rattle.searching.proofs.touching_row.Goals as goal
 
 pub touching_of-requires : goal.touching_of-requires
 touching_of-requires c =
-    let a = c in
-    (rw c.row_label.ensures a.requires.1, a.requires.2)
+    (rw c.row_label.ensures c.requires.1, c.requires.2)
 
 pub returns : goal.returns
 returns c = (rw c.row_label.ensures at c.touching_of.ensures.0, c.touching_of.ensures.1)

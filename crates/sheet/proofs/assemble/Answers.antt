@@ -19,40 +19,35 @@ use Rattle.sheet.proofs.assemble.Goals.{Else-number-ne0}
 small : (c : Else-number-ne0) → let a = c.args in
     length (join (together a.codes.now (map (λ x. x.now) a.bodies.now))) < 4294967296
 small c =
-    let b = c in
-    let codes = b.args.codes.now in
-    let bodies = map (λ x. x.now) b.args.bodies.now in
-    let same : length codes ≡ length bodies = rw length-map b.requires.0 in
-    let right : codes_right (codes_of (together codes bodies)) ≡ true = rw (together_codes codes bodies same) b.requires.1 in
+    let codes = c.args.codes.now in
+    let bodies = map (λ x. x.now) c.args.bodies.now in
+    let same : length codes ≡ length bodies = rw length-map c.requires.0 in
+    let right : codes_right (codes_of (together codes bodies)) ≡ true = rw (together_codes codes bodies same) c.requires.1 in
     let fits = (fitting_iff (together codes bodies)).0 (sym c.bodies_answer-number.ensures ∙ c.if-number-ne0.false) in
     omega (arith, (fitting_writable (together codes bodies) fits right).size_fits)
 
 pub bodies_answer-number-requires : goal.bodies_answer-number-requires
 bodies_answer-number-requires c =
-    let b = c in
-    (b.requires.0, omega (arith, codes_some b.args.codes.now b.requires.1, b.requires.0), b.requires.1)
+    (c.requires.0, omega (arith, codes_some c.args.codes.now c.requires.1, c.requires.0), c.requires.1)
 
 pub returns-then-number-ne0 : goal.returns-then-number-ne0
 returns-then-number-ne0 c = refused_bodies _ _ _ (omega (arith, c.if-number-ne0.true)) c.bodies_answer-number.ensures
 
 pub has_room-requires : goal.has_room-requires
 has_room-requires c =
-    let b = c in
-    (b.requires.0, omega (arith, codes_few b.args.codes.now b.requires.1, b.requires.0))
+    (c.requires.0, omega (arith, codes_few c.args.codes.now c.requires.1, c.requires.0))
 
 pub returns-then-not-has_room : goal.returns-then-not-has_room
 returns-then-not-has_room c = no_room _ _ (sym c.bodies_answer-number.ensures ∙ c.if-number-ne0.false) (sym c.has_room.ensures ∙ c.if-not-has_room.true)
 
 pub put_parts-size-requires : goal.put_parts-size-requires
 put_parts-size-requires c =
-    let b = c in
     let room = leb-true _ _ (sym c.has_room.ensures ∙ c.if-not-has_room.false) in
-    record { codes_len = (b.requires.0, omega (arith, codes_few b.args.codes.now b.requires.1, b.requires.0)); bodies_in_bounds = (room, small (goal.at.put_parts-size-requires c).Else-number-ne0) }
+    record { codes_len = (c.requires.0, omega (arith, codes_few c.args.codes.now c.requires.1, c.requires.0)); bodies_in_bounds = (room, small (goal.at.put_parts-size-requires c).Else-number-ne0) }
 
 pub overflow_cast-result : goal.overflow_cast-result
 overflow_cast-result c = omega (arith, c.put_parts-size.ensures.0, small (goal.at.overflow_cast-result c).Else-number-ne0)
 
 pub returns : goal.returns
 returns c =
-    let h = c in
-    written _ _ (sym h.bodies_answer-number.ensures ∙ h.if-number-ne0.false) (sym c.has_room.ensures ∙ c.if-not-has_room.false) c.put_parts-size.ensures
+    written _ _ (sym c.bodies_answer-number.ensures ∙ c.if-number-ne0.false) (sym c.has_room.ensures ∙ c.if-not-has_room.false) c.put_parts-size.ensures

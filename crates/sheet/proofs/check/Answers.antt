@@ -76,8 +76,7 @@ body-requires-7 c = laid (goal.at.body-requires-7 c).Else-number-ne0
 
 pub slice_bounds-codes-end : goal.slice_bounds-codes-end
 slice_bounds-codes-end c =
-    let codes = c in
-    omega (arith, codes.codes_of-codes.ensures.0, few _ _ (laid (goal.at.slice_bounds-codes-end codes).Else-number-ne0) codes.count_at-count.ensures)
+    omega (arith, c.codes_of-codes.ensures.0, few _ _ (laid (goal.at.slice_bounds-codes-end c).Else-number-ne0) c.count_at-count.ensures)
 
 pub slice_bounds-bodies_answer-end : goal.slice_bounds-bodies_answer-end
 slice_bounds-bodies_answer-end c = sym (read _ _ _ (laid (goal.at.slice_bounds-bodies_answer-end c).Else-number-ne0) c.count_at-count.ensures c.codes_of-codes.ensures.0)
@@ -87,26 +86,19 @@ slice_bounds-lent-end c = few _ _ (laid (goal.at.slice_bounds-lent-end c).Else-n
 
 pub slice_bounds-bodies_answer-end-2 : goal.slice_bounds-bodies_answer-end-2
 slice_bounds-bodies_answer-end-2 c =
-    let k = c in
-    sym (length-take-le k.count_at-count.result _ (few _ _ (laid (goal.at.slice_bounds-bodies_answer-end-2 k).Else-number-ne0) k.count_at-count.ensures))
+    sym (length-take-le c.count_at-count.result _ (few _ _ (laid (goal.at.slice_bounds-bodies_answer-end-2 c).Else-number-ne0) c.count_at-count.ensures))
 
 pub bodies_answer-requires : goal.bodies_answer-requires
 bodies_answer-requires c =
-    let b = c in
-    let codes = b in
-    let k = codes in
-    let l = laid (goal.at.bodies_answer-requires k).Else-number-ne0 in
-    let bodies = length-take-le k.count_at-count.result (b.body.result ∷ b.body-2.result ∷ b.body-3.result ∷ b.body-4.result ∷ b.body-5.result ∷ b.body-6.result ∷ b.body-7.result ∷ []) (few _ _ (laid (goal.at.bodies_answer-requires k).Else-number-ne0) k.count_at-count.ensures) in
-    let same : take k.count_at-count.result codes.codes_of-codes.result ≡ codes_of (split k.args.s.now) = rw k.count_at-count.ensures codes.codes_of-codes.ensures.1 in
-    (read _ _ _ (laid (goal.at.bodies_answer-requires codes).Else-number-ne0) codes.count_at-count.ensures codes.codes_of-codes.ensures.0 ∙ sym bodies, omega (arith, bodies, k.count_at-count.ensures, l.whole.some), ap codes_right same ∙ l.codes)
+    let l = laid (goal.at.bodies_answer-requires c).Else-number-ne0 in
+    let bodies = length-take-le c.count_at-count.result (c.body.result ∷ c.body-2.result ∷ c.body-3.result ∷ c.body-4.result ∷ c.body-5.result ∷ c.body-6.result ∷ c.body-7.result ∷ []) (few _ _ (laid (goal.at.bodies_answer-requires c).Else-number-ne0) c.count_at-count.ensures) in
+    let same : take c.count_at-count.result c.codes_of-codes.result ≡ codes_of (split c.args.s.now) = rw c.count_at-count.ensures c.codes_of-codes.ensures.1 in
+    (read _ _ _ (laid (goal.at.bodies_answer-requires c).Else-number-ne0) c.count_at-count.ensures c.codes_of-codes.ensures.0 ∙ sym bodies, omega (arith, bodies, c.count_at-count.ensures, l.whole.some), ap codes_right same ∙ l.codes)
 
 pub returns : goal.returns
 returns c =
-    let b = c in
-    let codes = b in
-    let k = codes in
-    let s = k.args.s.now in
-    let l = laid (goal.at.returns k).Else-number-ne0 in
+    let s = c.args.s.now in
+    let l = laid (goal.at.returns c).Else-number-ne0 in
     c.bodies_answer.ensures
-    ∙ ap (λ (parts : List Part). answer (body_questions parts)) (parts_read (λ x. x.now) s l k.count_at-count.result codes.codes_of-codes.result _ k.count_at-count.ensures codes.codes_of-codes.ensures.1 (lent (goal.at.returns b).After-body-7))
+    ∙ ap (λ (parts : List Part). answer (body_questions parts)) (parts_read (λ x. x.now) s l c.count_at-count.result c.codes_of-codes.result _ c.count_at-count.ensures c.codes_of-codes.ensures.1 (lent (goal.at.returns c).After-body-7))
     ∙ sym (check_laid s l)

@@ -10,14 +10,11 @@ returns-then-number-ne0 c = indexed_refused _ c.opened-found.ensures c.if-number
 
 pub returns-then-is_there : goal.returns-then-is_there
 returns-then-is_there c =
-    let o = c in
-    indexed_there _ o.opened-found.ensures c.if-number-ne0.false
+    indexed_there _ c.opened-found.ensures c.if-number-ne0.false
     (sym (ap₂ ◌&&◌ c.is_there.ensures c.is_there-2.ensures) ∙ c.if-is_there.true)
 
 pub returns : goal.returns
 returns c =
-    let d = c in
-    let o = d in
     rw c.no_parts-none.ensures
-    (indexed_missing _ o.opened-found.ensures d.if-number-ne0.false
-    (sym (ap₂ ◌&&◌ d.is_there.ensures d.is_there-2.ensures) ∙ d.if-is_there.false))
+    (indexed_missing _ c.opened-found.ensures c.if-number-ne0.false
+    (sym (ap₂ ◌&&◌ c.is_there.ensures c.is_there-2.ensures) ∙ c.if-is_there.false))

@@ -1,4 +1,4 @@
--- `steps::has_room_lem`: the two bounds in their order. Assumes nothing.
+-- `steps::has_room`: the two bounds in their order. Assumes nothing.
 use Prim.Native.Nat.{◌+◌, ◌*◌}
 use borrow.Author.Rules.{rules}
 use borrow.Author.Tests.{le-leb, lt-leb}

@@ -7,7 +7,6 @@ use native.Mathlib.Omega.{arith}
 use borrow.Author.Rules.{rules}
 use lib.Dec.{leb}
 use lib.ListN.{length}
-use Rattle.lists.specs.TestLaws.{said_no, said_yes}
 use Rattle.contents.specs.Contents.{Part, has}
 use Rattle.jobs.specs.declared.Answer.{Answer}
 use Rattle.jobs.specs.Jobs.{scheduled_size, has_room}
@@ -52,28 +51,31 @@ room_is b work out s-is e = rw (size_is b, ← s-is) e
 
 pub returns-then-not-has_room : goal.returns-then-not-has_room
 returns-then-not-has_room c =
-    let b = c in
-    let h = c in (
-      no_room _ b.args.n b.requires.good.few b.requires.long _ _ (uncounted (goal.at.returns-then-not-has_room b).Start) _ _ (said_no (room_is (goal.at.returns-then-not-has_room b).Start _ _ h.scheduled_size-size.ensures h.has_room.ensures) c.if-not-has_room.true) c.refused.ensures,
-      record { long = refl; refused = λ h. refl },
-    )
+    let b = (goal.at.returns-then-not-has_room c).Start in
+    record {
+      gives =
+          no_room _ c.args.n c.requires.good.few c.requires.long _ _ (uncounted b) _ _ (sym (room_is b _ _ c.scheduled_size-size.ensures c.has_room.ensures) ∙ c.if-not-has_room.true)
+          c.refused.ensures;
+      lent = record { long = refl; refused = λ h. refl };
+    }
 
 pub put_sheet-requires : goal.put_sheet-requires
 put_sheet-requires c =
-    let b = c in
-    let h = c in
-    let room = room_there b.args.n (kept (goal.at.put_sheet-requires b).Start) b.args.counted _ _ (said_yes (room_is (goal.at.put_sheet-requires b).Start _ _ h.scheduled_size-size.ensures h.has_room.ensures) c.if-not-has_room.false) in
-    (b.requires, room)
+    let b = (goal.at.put_sheet-requires c).Start in
+    let room =
+    room_there c.args.n (kept b) c.args.counted _ _ (sym (room_is b _ _ c.scheduled_size-size.ensures c.has_room.ensures) ∙ c.if-not-has_room.false) in
+    record { parts_lent = c.requires; n_in_bounds = room }
 
 pub overflow_cast-result : goal.overflow_cast-result
-overflow_cast-result c = let b = c in omega (arith, c.scheduled_size-size.ensures, most (goal.at.overflow_cast-result b).Start, b.requires.good.few)
+overflow_cast-result c = omega (arith, c.scheduled_size-size.ensures, most (goal.at.overflow_cast-result c).Start, c.requires.good.few)
 
 pub returns : goal.returns
 returns c =
-    let b = c in
-    let h = c in
-    let size = h.scheduled_size-size.ensures in (
-      sheet_written _ b.args.n b.requires.good.few b.requires.long _ _ (uncounted (goal.at.returns b).Start) _ _ (said_yes (room_is (goal.at.returns b).Start _ _ size (goal.at.returns h).Start.has_room.ensures) c.if-not-has_room.false)
-          (ap {B = Answer} (λ (v : ℕ). record { number = 0; value = v }) (size ∙ sym (size_is (goal.at.returns b).Start))) c.put_sheet.ensures,
-      record { long = search rules; refused = λ z. absurd (omega (arith, z)) },
-    )
+    let b = (goal.at.returns c).Start in
+    let size = c.scheduled_size-size.ensures in
+    record {
+      gives =
+          sheet_written _ c.args.n c.requires.good.few c.requires.long _ _ (uncounted b) _ _ (sym (room_is b _ _ size c.has_room.ensures) ∙ c.if-not-has_room.false)
+          (ap {B = Answer} (λ (v : ℕ). record { number = 0; value = v }) (size ∙ sym (size_is b))) c.put_sheet.ensures;
+      lent = record { long = search rules; refused = λ z. absurd (omega (arith, z)) };
+    }

@@ -23,26 +23,22 @@ returns-then-v-lt10 t c =
 
 pub put_decimal-last-requires : goal.put_decimal-last-requires
 put_decimal-last-requires t c =
-    let a = c in
-    let d = decimal_longer a.args.v a.ranges.v.fits c.if-v-lt10.false in
-    (omega (arith, c.if-v-lt10.false), omega (arith, d, a.requires))
+    let d = decimal_longer c.args.v c.ranges.v.fits c.if-v-lt10.false in
+    (omega (arith, c.if-v-lt10.false), omega (arith, d, c.requires))
 
 pub bounds-out-last : goal.bounds-out-last
 bounds-out-last t c =
-    let a = c in
-    let d = decimal_longer a.args.v a.ranges.v.fits c.if-v-lt10.false in
+    let d = decimal_longer c.args.v c.ranges.v.fits c.if-v-lt10.false in
     let w = c.put_decimal-last.ensures in
-    omega (arith, d, a.requires, w.ends, wrote_length w)
+    omega (arith, d, c.requires, w.ends, wrote_length w)
 
 pub overflow_add-result-2 : goal.overflow_add-result-2
 overflow_add-result-2 t c =
-    let a = c in
-    let d = decimal_longer a.args.v a.ranges.v.fits c.if-v-lt10.false in
+    let d = decimal_longer c.args.v c.ranges.v.fits c.if-v-lt10.false in
     let w = c.put_decimal-last.ensures in
-    omega (arith, d, a.requires, w.ends, wrote_length w, a.well_formed)
+    omega (arith, d, c.requires, w.ends, wrote_length w, c.well_formed)
 
 pub returns : goal.returns
 returns t c =
-    let a = c in
-    let m = decimal_more a.args.v a.ranges.v.fits c.if-v-lt10.false in
+    let m = decimal_more c.args.v c.ranges.v.fits c.if-v-lt10.false in
     rw (m, c.digit-2.ensures) (wrote_then c.put_decimal-last.ensures (wrote_byte _ _ _))

@@ -21,9 +21,7 @@ row_by_column-requires-2 c =
 pub returns : goal.returns
 unfolding applied
 returns c =
-    let k = c in
-    let s = k in
-    let p = s.requires.1 in
-    let g = s.args.grid in
-    ap₂ placed (row_told (get_or g 0 []) p.x_within p.y_within k.row_by_column.type_inv k.row_by_column.ensures)
+    let p = c.requires.1 in
+    let g = c.args.grid in
+    ap₂ placed (row_told (get_or g 0 []) p.x_within p.y_within c.row_by_column.type_inv c.row_by_column.ensures)
     (row_told (get_or g 1 []) p.x_within p.y_within c.row_by_column-2.type_inv c.row_by_column-2.ensures)

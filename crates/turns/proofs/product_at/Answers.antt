@@ -8,14 +8,12 @@ use Rattle.turns.proofs.product_at.Goals as goal
 
 pub row_by_column-requires : goal.row_by_column-requires
 row_by_column-requires c =
-    let s = c in
-    let b = s.requires.1.rows in
-    (s.requires.0.rows s.args.i, back_small (as_place ((b 0).each s.args.j)), back_small (as_place ((b 1).each s.args.j)))
+    let b = c.requires.1.rows in
+    (c.requires.0.rows c.args.i, back_small (as_place ((b 0).each c.args.j)), back_small (as_place ((b 1).each c.args.j)))
 
 pub returns : goal.returns
 unfolding product_at
 returns c =
-    let s = c in
-    let b = s.requires.1.rows in
-    row_told (get_or s.args.a s.args.i []) (as_place ((b 0).each s.args.j)) (as_place ((b 1).each s.args.j))
+    let b = c.requires.1.rows in
+    row_told (get_or c.args.a c.args.i []) (as_place ((b 0).each c.args.j)) (as_place ((b 1).each c.args.j))
     c.row_by_column.type_inv c.row_by_column.ensures

@@ -20,13 +20,13 @@ pub moved-requires : goal.moved-requires
 moved-requires c = (c.requires.0.x0_most, omega (arith, most (goal.at.moved-requires c).Start))
 
 pub moved-requires-2 : goal.moved-requires-2
-moved-requires-2 c = let a = c in (a.requires.0.x1_most, omega (arith, most (goal.at.moved-requires-2 a).Start))
+moved-requires-2 c = (c.requires.0.x1_most, omega (arith, most (goal.at.moved-requires-2 c).Start))
 
 pub moved-requires-3 : goal.moved-requires-3
-moved-requires-3 c = let a = c in (a.requires.0.y0_most, omega (arith, most (goal.at.moved-requires-3 a).Start))
+moved-requires-3 c = (c.requires.0.y0_most, omega (arith, most (goal.at.moved-requires-3 c).Start))
 
 pub moved-requires-4 : goal.moved-requires-4
-moved-requires-4 c = let a = c in (a.requires.0.y1_most, omega (arith, most (goal.at.moved-requires-4 a).Start))
+moved-requires-4 c = (c.requires.0.y1_most, omega (arith, most (goal.at.moved-requires-4 c).Start))
 
 pub returns : goal.returns
 unfolding bounds_of

@@ -11,8 +11,7 @@ returns-then-other-eq0 c = rw (eq-eqb _ _ c.if-other-eq0.true)
 
 pub coordinate-coordinate-requires : goal.coordinate-coordinate-requires
 coordinate-coordinate-requires c =
-    let a = c in
-    omega (arith, c.entry.ensures.0, a.requires.0 a.args.head (omega arith))
+    omega (arith, c.entry.ensures.0, c.requires.0 c.args.head (omega arith))
 
 pub returns-then-is_beyond : goal.returns-then-is_beyond
 unfolding size_to_search

@@ -8,8 +8,7 @@ use Rattle.view.proofs.visit.Goals as goal
 
 pub returns-then-is_visible : goal.returns-then-is_visible
 returns-then-is_visible c =
-    let a = c in
-    set_one _ _ (sym a.is_visible.ensures ∙ a.if-is_visible.true) c.set_bit.ensures
+    set_one _ _ (sym c.is_visible.ensures ∙ c.if-is_visible.true) c.set_bit.ensures
 
 pub returns-else-is_visible : goal.returns-else-is_visible
 returns-else-is_visible c = set_none _ _ (omega (arith, bit_false (sym c.is_visible.ensures ∙ c.if-is_visible.false))) (set_nothing _ _)

@@ -11,13 +11,11 @@ returns-then-radius-widest c = rw (le-leb _ _ (rw c.radius_at-radius.ensures at 
 pub returns-then-lives : goal.returns-then-lives
 unfolding wider
 returns-then-lives c =
-    let v = c in
-    let r = v.radius_at-radius.ensures in
-    rw (lt-leb _ _ (rw r at v.if-radius-widest.false), ← v.value_at.ensures, ← c.lives.ensures, c.if-lives.true) r
+    let r = c.radius_at-radius.ensures in
+    rw (lt-leb _ _ (rw r at c.if-radius-widest.false), ← c.value_at.ensures, ← c.lives.ensures, c.if-lives.true) r
 
 pub returns-else-lives : goal.returns-else-lives
 unfolding wider
 returns-else-lives c =
-    let v = c in
-    let r = v.radius_at-radius.ensures in
-    rw (lt-leb _ _ (rw r at v.if-radius-widest.false), ← v.value_at.ensures, ← c.lives.ensures, c.if-lives.false)
+    let r = c.radius_at-radius.ensures in
+    rw (lt-leb _ _ (rw r at c.if-radius-widest.false), ← c.value_at.ensures, ← c.lives.ensures, c.if-lives.false)

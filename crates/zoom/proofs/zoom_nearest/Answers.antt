@@ -12,8 +12,7 @@ overflow_mul-h c = let h = root_narrow _ c.root_of-h.ensures in omega (arith, mu
 
 pub overflow_mul-h-then-h-eq1 : goal.overflow_mul-h-then-h-eq1
 overflow_mul-h-then-h-eq1 c =
-    let k = c in
-    omega (arith, root_fits k.args.f k.requires.1 (omega (arith, k.requires.0.num_small)) c.root_of-h.ensures, k.requires.0.num_small)
+    omega (arith, root_fits c.args.f c.requires.1 (omega (arith, c.requires.0.num_small)) c.root_of-h.ensures, c.requires.0.num_small)
 
 pub returns-then-h-den : goal.returns-then-h-den
 unfolding nearest

@@ -26,7 +26,7 @@ use rollmap::{
     MARK_BYTES, NO_POPUP, POPUP_BYTES, SHAPE_BYTES,
 };
 
-/// The program, as `rt check schedule` builds it.
+/// The program, as `./build` builds it.
 pub const PROGRAM: &str = concat!(env!("CARGO_MANIFEST_DIR"), "/../../target/bin/schedule");
 
 /// The number of an answer: 0, or the refusal's.
