@@ -1,6 +1,5 @@
 -- `assembly::are_counted`: the two tests in their order. Assumes nothing.
 use mathlib.Core.Path.{sym, ◌∙◌}
-use borrow.Author.Rules.{rules}
 use Rattle.assembly.proofs.are_counted.Goals as goal
 
 pub returns-then-is_count : goal.returns-then-is_count

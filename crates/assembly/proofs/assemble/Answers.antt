@@ -5,20 +5,15 @@ use Rattle.std.specs.Borrow.{Bor}
 use mathlib.Core.Path.{◌≡◌, sym, ap, ◌∙◌}
 use mathlib.Core.Bool.{true}
 use mathlib.Core.List.{List, map}
-use lib.Dec.{leb}
 use lib.ListN.{length, take, length-map}
 use lib.Seq.{length-take-le}
-use borrow.Author.Rules.{rules}
 use borrow.Author.Tests.{leb-true}
 use Rattle.lists.specs.TestLaws.{both_iff}
 use Rattle.contents.specs.Contents.{together}
-use Rattle.contents.specs.Questions.{is_count, codes_right}
-use Rattle.sheet.specs.Assembled.{number_of, length_of, Assembling}
-use Rattle.sheet.specs.declared.Assembled.{Assembled}
-use Rattle.jobs.specs.declared.Answer.{Answer}
+use Rattle.contents.specs.Questions.{is_count}
+use Rattle.sheet.specs.Assembled.{number_of, length_of}
 use Rattle.jobs.specs.Jobs.{are_counted, assemble_job}
 use Rattle.jobs.specs.Answers.{Gives}
-use Rattle.jobs.specs.Parts.{Joins}
 use Rattle.jobs.specs.Theorems.{assemble_joins}
 use Rattle.jobs.specs.Laws.Given.{together_take, map_take}
 use Rattle.jobs.specs.Laws.Outcomes.{assemble_gives, assemble_uncounted, assemble_uncoded}

@@ -5,29 +5,29 @@ use mathlib.Core.Bool.{true, cond}
 use mathlib.Core.List.{List, [], ◌++◌}
 use native.Mathlib.Omega.{arith}
 use lib.ListN.{length}
-use borrow.Author.Rules.{rules}
 use mir.Facts.{to_z-of_z}
-use Rattle.lists.specs.TestLaws.{said_no, said_yes}
+use mir.Syntax.{w16}
+use mir.Val.{to_z, of_z}
 use Rattle.numbers.specs.Little.{le_bytes, Bytes}
 use Rattle.marks.specs.declared.Mark.{Mark}
 use Rattle.marks.specs.Marks.{mark_bytes}
 use Rattle.marks.specs.Fields.{FieldsFit}
 use Rattle.changing.specs.Changing.{added, added_popup}
-use Rattle.contents.specs.Contents.{has, split, marks_part, edition_part, popups_part, shape_part}
+use Rattle.contents.specs.Contents.{has, find, split, marks_part, edition_part, popups_part, shape_part}
 use Rattle.contents.specs.Asking.{answer}
+use Rattle.contents.specs.Places.{cut_of, place_of, is_there}
+use Rattle.sheet.specs.declared.Opening.{Opening}
+use Rattle.sheet.specs.Opened.{indexed}
 use Rattle.sheet.specs.Questions.{sheet_count, check, indexed_questions}
 use Rattle.sheet.specs.Laws.{indexed_iff, indexed_number, indexed_layout, layout_part, layout_there}
-use Rattle.jobs.specs.Jobs.{is_new_popup, add_checks}
+use Rattle.jobs.specs.Jobs.{carried, is_new_popup, add_checks}
 use Rattle.jobs.specs.Answers.{fields}
 use Rattle.jobs.specs.Coming.{add_numbered, add_lent, add_popups_lent, add_whole}
 use Rattle.jobs.specs.Laws.Kept.{carried_lent, edition_short, shape_short}
 use Rattle.jobs.specs.Laws.Scheduling.{stopped, once_passed}
 use Rattle.jobs.specs.Laws.Changing.{add_refused, add_full, add_fields, add_popup, popup_no, popup_yes}
 use Rattle.changes.proofs.add.Goals as goal
-use Rattle.changes.proofs.add.Goals.{After-is_new_popup, After-is_there, After-is_there-there, After-mark_bytes-last, After-part-edition, After-part-marks, After-part-popups, After-part-shape, After-row_if, Else-n-ge-MOST_MARKS, Else-not-is_new_popup, Else-number-ne0, Start}
-
-abbrev given : Start → List ℕ
-given b = b.args.sheet.now
+use Rattle.changes.proofs.add.Goals.{After-is_there, Start}
 
 abbrev mark : Start → Mark
 mark b = fields b.args.x b.args.y b.args.radius b.args.priority b.args.kind b.args.tag
@@ -44,125 +44,159 @@ fit b =
     }
 
 -- 1 to 10 were answered with yes
-indexed : (c : Else-number-ne0) → answer (indexed_questions (given c)) ≡ 0
-indexed c = sym (indexed_number _ c.indexed-found.ensures) ∙ c.if-number-ne0.false
+passed : (s : List ℕ) {found : Opening} → found ≡ indexed s → found.number ≡ 0 → answer (indexed_questions s) ≡ 0
+passed s is none = sym (indexed_number s is) ∙ none
 
-accepted : (c : Else-number-ne0) → check (given c) ≡ 0
-accepted c = ((indexed_iff _).0 (indexed c)).0
+accepted : (s : List ℕ) {found : Opening} → found ≡ indexed s → found.number ≡ 0 → check s ≡ 0
+accepted s is none = ((indexed_iff s).0 (passed s is none)).0
 
 -- and the parts are these
-part1 : (c : After-part-marks) → c.part-marks.result.now ≡ marks_part (split (given c))
-part1 c = let e = c in c.part-marks.ensures ∙ layout_part _ (accepted e) (indexed_layout _ e.indexed-found.ensures (indexed e)) 1
+part : (s : List ℕ) {found : Opening} → found ≡ indexed s → found.number ≡ 0 → (code : ℕ) → cut_of s (place_of found.layout code) ≡ find (split s) code
+part s is none = layout_part s (accepted s is none) (indexed_layout s is (passed s is none))
 
-count : (c : After-part-marks) → length c.part-marks.result.now / 11 ≡ sheet_count (given c)
-count c = ap (λ (l : List ℕ). length l / 11) (part1 c)
+there : (s : List ℕ) {found : Opening} → found ≡ indexed s → found.number ≡ 0 → (code : ℕ) → is_there found.layout code ≡ has (split s) code
+there s is none = layout_there s (accepted s is none) (indexed_layout s is (passed s is none))
 
-there5 : (c : After-is_there-there) → c.is_there-there.result ≡ has (split (given c)) 5
-there5 c = let e = c in c.is_there-there.ensures ∙ layout_there _ (accepted e) (indexed_layout _ e.indexed-found.ensures (indexed e)) 5
+count : (s : List ℕ) {marks : List ℕ} → marks ≡ marks_part (split s) → length marks / 11 ≡ sheet_count s
+count s e = ap (λ (l : List ℕ). length l / 11) e
 
-part4 : (c : After-part-edition) → c.part-edition.result.now ≡ edition_part (split (given c))
-part4 c = let e = c in c.part-edition.ensures ∙ layout_part _ (accepted e) (indexed_layout _ e.indexed-found.ensures (indexed e)) 4
+part1 : (c : After-is_there) → c.part-marks.result.now ≡ marks_part (split c.args.sheet.now)
+part1 c = c.part-marks.ensures ∙ part _ c.indexed-found.ensures c.if-number-ne0.false 1
 
-part5 : (c : After-part-popups) → c.part-popups.result.now ≡ popups_part (split (given c))
-part5 c = let e = c in c.part-popups.ensures ∙ layout_part _ (accepted e) (indexed_layout _ e.indexed-found.ensures (indexed e)) 5
+part4 : (c : After-is_there) → c.part-edition.result.now ≡ edition_part (split c.args.sheet.now)
+part4 c = c.part-edition.ensures ∙ part _ c.indexed-found.ensures c.if-number-ne0.false 4
 
-part7 : (c : After-part-shape) → c.part-shape.result.now ≡ shape_part (split (given c))
-part7 c = let e = c in c.part-shape.ensures ∙ layout_part _ (accepted e) (indexed_layout _ e.indexed-found.ensures (indexed e)) 7
+there5 : (c : After-is_there) → c.is_there-there.result ≡ has (split c.args.sheet.now) 5
+there5 c = c.is_there-there.ensures ∙ there _ c.indexed-found.ensures c.if-number-ne0.false 5
 
-there6 : (c : After-is_there) → c.is_there.result ≡ has (split (given c)) 6
-there6 c = let e = c in c.is_there.ensures ∙ layout_there _ (accepted e) (indexed_layout _ e.indexed-found.ensures (indexed e)) 6
+part5 : (c : After-is_there) → c.part-popups.result.now ≡ popups_part (split c.args.sheet.now)
+part5 c = c.part-popups.ensures ∙ part _ c.indexed-found.ensures c.if-number-ne0.false 5
 
--- the bytes of the new mark, as they were told
-last_is : (c : After-mark_bytes-last) → c.mark_bytes-last.result ≡ mark_bytes (mark c)
-last_is c =
-    let b = c in
-    c.mark_bytes-last.ensures
-    ∙ ap₂ (λ u v. mark_bytes (fields u v b.args.radius b.args.priority b.args.kind b.args.tag)) (to_z-of_z b.ranges.x) (to_z-of_z b.ranges.y)
+part7 : (c : After-is_there) → c.part-shape.result.now ≡ shape_part (split c.args.sheet.now)
+part7 c = c.part-shape.ensures ∙ part _ c.indexed-found.ensures c.if-number-ne0.false 7
+
+there6 : (c : After-is_there) → c.is_there.result ≡ has (split c.args.sheet.now) 6
+there6 c = c.is_there.ensures ∙ there _ c.indexed-found.ensures c.if-number-ne0.false 6
 
 -- 18, and then 5 and 6 of the new mark, were answered with yes
-few : (c : Else-n-ge-MOST_MARKS) → sheet_count (given c) < 4096
-few c = omega (arith, count c, c.if-n-ge-MOST_MARKS.false)
+few : (s : List ℕ) {n : ℕ} → n ≡ sheet_count s → n < 4096 → sheet_count s < 4096
+few s is low = omega arith
 
 -- and 21
-popup_asked : (c : After-is_new_popup) → c.is_new_popup.result ≡ is_new_popup (has (split (given c)) 5) c.args.popup
-popup_asked c = rw (there5 c) at c.is_new_popup.ensures
-
-all : (c : Else-not-is_new_popup) → answer (add_checks (given c) (mark c) c.args.popup) ≡ 0
+all : (c : After-is_there)
+    → answer (add_checks c.args.sheet.now (fields c.args.x c.args.y c.args.radius c.args.priority c.args.kind c.args.tag) c.args.popup) ≡ 0
 all c =
-    let b = c in
-    sym (add_popup (given b) (mark b) b.args.popup (indexed c) (few c) (sym c.fields_answer-wrong.ensures ∙ c.if-wrong-ne0.false)
-    (popup_yes (given b) b.args.popup (said_yes (popup_asked c) c.if-not-is_new_popup.false)))
+    let s = c.args.sheet.now in
+    let asked : c.is_new_popup.result ≡ is_new_popup (has (split s) 5) c.args.popup = rw (there5 c) at c.is_new_popup.ensures in
+    sym (add_popup s (fields c.args.x c.args.y c.args.radius c.args.priority c.args.kind c.args.tag) c.args.popup (passed s c.indexed-found.ensures c.if-number-ne0.false)
+    (few s (count s (part1 c)) (omega (arith, c.if-n-ge-MOST_MARKS.false))) (sym c.fields_answer-wrong.ensures ∙ c.if-wrong-ne0.false)
+    (popup_yes s c.args.popup (sym asked ∙ c.if-not-is_new_popup.false)))
+
+-- the bytes of the new mark, as they were told
+last_is : (b : Start) {bytes : List ℕ}
+    → bytes ≡ mark_bytes (fields (to_z w16 (of_z w16 b.args.x)) (to_z w16 (of_z w16 b.args.y)) b.args.radius b.args.priority b.args.kind b.args.tag)
+    → bytes ≡ mark_bytes (mark b)
+last_is b e =
+    e
+    ∙ ap₂ (λ u v. mark_bytes (fields u v b.args.radius b.args.priority b.args.kind b.args.tag)) (to_z-of_z {w = w16} b.ranges.x) (to_z-of_z {w = w16} b.ranges.y)
 
 -- the marks and the popups with the new ones
-row_is : (c : After-row_if) → c.row_if.result.now ≡ cond (has (split (given c)) 5) (le_bytes 4 c.args.popup) []
+row_is : (c : After-is_there) → c.row_if.result.now ≡ cond (has (split c.args.sheet.now) 5) (le_bytes 4 c.args.popup) []
 row_is c = c.row_if.ensures ∙ ap₂ (λ t (l : List ℕ). cond t l []) (there5 c) c.popup_bytes-row.ensures
 
-popups_are : (c : After-row_if)
-    → c.part-popups.result.now ++ c.row_if.result.now ≡ popups_part (split (given c)) ++ cond (has (split (given c)) 5) (le_bytes 4 c.args.popup) []
+popups_are : (c : After-is_there)
+    → c.part-popups.result.now ++ c.row_if.result.now ≡ popups_part (split c.args.sheet.now) ++ cond (has (split c.args.sheet.now) 5) (le_bytes 4 c.args.popup) []
 popups_are c = ap₂ ◌++◌ (part5 c) (row_is c)
 
-more : (c : After-row_if) → c.is_there-there.result ≡ true
-    → c.part-popups.result.now ++ c.row_if.result.now ≡ added_popup (popups_part (split (given c))) c.args.popup
+more : (c : After-is_there) → c.is_there-there.result ≡ true
+    → c.part-popups.result.now ++ c.row_if.result.now ≡ added_popup (popups_part (split c.args.sheet.now)) c.args.popup
 unfolding added_popup
 more c t = rw (sym (there5 c) ∙ t) at (popups_are c)
 
 pub returns-then-number-ne0 : goal.returns-then-number-ne0
 returns-then-number-ne0 c =
-    let b = c in
-    add_whole (given (goal.at.returns-then-number-ne0 b).Start) (mark (goal.at.returns-then-number-ne0 b).Start) b.args.popup (λ i. (c.shared_slice_known-1.given i).fits) (fit (goal.at.returns-then-number-ne0 b).Start) _ _
-    (stopped (add_checks (given (goal.at.returns-then-number-ne0 b).Start) (mark (goal.at.returns-then-number-ne0 b).Start) b.args.popup) (add_numbered (given (goal.at.returns-then-number-ne0 b).Start) (mark (goal.at.returns-then-number-ne0 b).Start) b.args.popup) _ _ _ _ _
-    (add_refused (given (goal.at.returns-then-number-ne0 b).Start) (mark (goal.at.returns-then-number-ne0 b).Start) b.args.popup (indexed_number _ c.indexed-found.ensures) (omega (arith, c.if-number-ne0.true))) (omega (arith, c.if-number-ne0.true)) c.refused.ensures)
-    (record { long = refl; refused = λ h. refl })
+    let b = (goal.at.returns-then-number-ne0 c).Start in
+    let s = c.args.sheet.now in
+    let k = c.args.popup in
+    let w =
+    add_whole s (mark b) k (λ i. (c.type_inv.sheet i).fits) (fit b) (length c.args.work.now) c.args.out.now
+    (stopped (add_checks s (mark b) k) (add_numbered s (mark b) k) (added (marks_part (split s)) (mark b)) (carried (split s) (λ q. added_popup q k)) (has (split s) 6) (length c.args.work.now) c.args.out.now
+    (add_refused s (mark b) k (indexed_number s c.indexed-found.ensures) (omega (arith, c.if-number-ne0.true))) (omega (arith, c.if-number-ne0.true)) c.refused.ensures)
+    {w = c.args.work.now} (record { long = refl; refused = λ h. refl }) in
+    record { gives = w.0; lent = w.1.0; meets_adding = w.1.1 }
 
 pub returns-then-n-ge-MOST_MARKS : goal.returns-then-n-ge-MOST_MARKS
 returns-then-n-ge-MOST_MARKS c =
-    let b = c in
-    let full : 4096 ≤ sheet_count (given (goal.at.returns-then-n-ge-MOST_MARKS b).Start) = omega (arith, count (goal.at.returns-then-n-ge-MOST_MARKS c).After-part-marks, c.if-n-ge-MOST_MARKS.true) in
-    add_whole (given (goal.at.returns-then-n-ge-MOST_MARKS b).Start) (mark (goal.at.returns-then-n-ge-MOST_MARKS b).Start) b.args.popup (λ i. (c.shared_slice_known-1.given i).fits) (fit (goal.at.returns-then-n-ge-MOST_MARKS b).Start) _ _
-    (stopped (add_checks (given (goal.at.returns-then-n-ge-MOST_MARKS b).Start) (mark (goal.at.returns-then-n-ge-MOST_MARKS b).Start) b.args.popup) (add_numbered (given (goal.at.returns-then-n-ge-MOST_MARKS b).Start) (mark (goal.at.returns-then-n-ge-MOST_MARKS b).Start) b.args.popup) _ _ _ _ _
-    (add_full (given (goal.at.returns-then-n-ge-MOST_MARKS b).Start) (mark (goal.at.returns-then-n-ge-MOST_MARKS b).Start) b.args.popup (indexed (goal.at.returns-then-n-ge-MOST_MARKS c).Else-number-ne0) full) (omega arith) c.refused-then-n-ge-MOST_MARKS.ensures)
-    (record { long = refl; refused = λ h. refl })
+    let b = (goal.at.returns-then-n-ge-MOST_MARKS c).Start in
+    let s = c.args.sheet.now in
+    let k = c.args.popup in
+    let marks = c.part-marks.ensures ∙ part s c.indexed-found.ensures c.if-number-ne0.false 1 in
+    let full : 4096 ≤ sheet_count s = omega (arith, count s marks, c.if-n-ge-MOST_MARKS.true) in
+    let w =
+    add_whole s (mark b) k (λ i. (c.type_inv.sheet i).fits) (fit b) (length c.args.work.now) c.args.out.now
+    (stopped (add_checks s (mark b) k) (add_numbered s (mark b) k) (added (marks_part (split s)) (mark b)) (carried (split s) (λ q. added_popup q k)) (has (split s) 6) (length c.args.work.now) c.args.out.now
+    (add_full s (mark b) k (passed s c.indexed-found.ensures c.if-number-ne0.false) full) (omega arith) c.refused-then-n-ge-MOST_MARKS.ensures)
+    {w = c.args.work.now} (record { long = refl; refused = λ h. refl }) in
+    record { gives = w.0; lent = w.1.0; meets_adding = w.1.1 }
 
 pub returns-then-wrong-ne0 : goal.returns-then-wrong-ne0
 returns-then-wrong-ne0 c =
-    let b = c in
-    add_whole (given (goal.at.returns-then-wrong-ne0 b).Start) (mark (goal.at.returns-then-wrong-ne0 b).Start) b.args.popup (λ i. (c.shared_slice_known-1.given i).fits) (fit (goal.at.returns-then-wrong-ne0 b).Start) _ _
-    (stopped (add_checks (given (goal.at.returns-then-wrong-ne0 b).Start) (mark (goal.at.returns-then-wrong-ne0 b).Start) b.args.popup) (add_numbered (given (goal.at.returns-then-wrong-ne0 b).Start) (mark (goal.at.returns-then-wrong-ne0 b).Start) b.args.popup) _ _ _ _ _
-    (add_fields (given (goal.at.returns-then-wrong-ne0 b).Start) (mark (goal.at.returns-then-wrong-ne0 b).Start) b.args.popup (indexed (goal.at.returns-then-wrong-ne0 c).Else-number-ne0) (few (goal.at.returns-then-wrong-ne0 c).Else-n-ge-MOST_MARKS) c.fields_answer-wrong.ensures (omega (arith, c.if-wrong-ne0.true)))
-    (omega (arith, c.if-wrong-ne0.true)) c.refused-then-wrong-ne0.ensures)
-    (record { long = refl; refused = λ h. refl })
+    let b = (goal.at.returns-then-wrong-ne0 c).Start in
+    let s = c.args.sheet.now in
+    let k = c.args.popup in
+    let marks = c.part-marks.ensures ∙ part s c.indexed-found.ensures c.if-number-ne0.false 1 in
+    let low = few s (count s marks) (omega (arith, c.if-n-ge-MOST_MARKS.false)) in
+    let w =
+    add_whole s (mark b) k (λ i. (c.type_inv.sheet i).fits) (fit b) (length c.args.work.now) c.args.out.now
+    (stopped (add_checks s (mark b) k) (add_numbered s (mark b) k) (added (marks_part (split s)) (mark b)) (carried (split s) (λ q. added_popup q k)) (has (split s) 6) (length c.args.work.now) c.args.out.now
+    (add_fields s (mark b) k (passed s c.indexed-found.ensures c.if-number-ne0.false) low c.fields_answer-wrong.ensures (omega (arith, c.if-wrong-ne0.true))) (omega (arith, c.if-wrong-ne0.true)) c.refused-then-wrong-ne0.ensures)
+    {w = c.args.work.now} (record { long = refl; refused = λ h. refl }) in
+    record { gives = w.0; lent = w.1.0; meets_adding = w.1.1 }
 
 pub returns-then-not-is_new_popup : goal.returns-then-not-is_new_popup
 returns-then-not-is_new_popup c =
-    let b = c in
-    add_whole (given (goal.at.returns-then-not-is_new_popup b).Start) (mark (goal.at.returns-then-not-is_new_popup b).Start) b.args.popup (λ i. (c.shared_slice_known-1.given i).fits) (fit (goal.at.returns-then-not-is_new_popup b).Start) _ _
-    (stopped (add_checks (given (goal.at.returns-then-not-is_new_popup b).Start) (mark (goal.at.returns-then-not-is_new_popup b).Start) b.args.popup) (add_numbered (given (goal.at.returns-then-not-is_new_popup b).Start) (mark (goal.at.returns-then-not-is_new_popup b).Start) b.args.popup) _ _ _ _ _
-    (add_popup (given (goal.at.returns-then-not-is_new_popup b).Start) (mark (goal.at.returns-then-not-is_new_popup b).Start) b.args.popup (indexed (goal.at.returns-then-not-is_new_popup c).Else-number-ne0) (few (goal.at.returns-then-not-is_new_popup c).Else-n-ge-MOST_MARKS) (sym c.fields_answer-wrong.ensures ∙ c.if-wrong-ne0.false)
-    (popup_no (given (goal.at.returns-then-not-is_new_popup b).Start) b.args.popup (said_no (popup_asked (goal.at.returns-then-not-is_new_popup c).After-is_new_popup) c.if-not-is_new_popup.true))) (omega arith) c.refused-then-not-is_new_popup.ensures)
-    (record { long = refl; refused = λ h. refl })
+    let b = (goal.at.returns-then-not-is_new_popup c).Start in
+    let s = c.args.sheet.now in
+    let k = c.args.popup in
+    let marks = c.part-marks.ensures ∙ part s c.indexed-found.ensures c.if-number-ne0.false 1 in
+    let low = few s (count s marks) (omega (arith, c.if-n-ge-MOST_MARKS.false)) in
+    let asked : c.is_new_popup.result ≡ is_new_popup (has (split s) 5) k =
+    rw (c.is_there-there.ensures ∙ there s c.indexed-found.ensures c.if-number-ne0.false 5) at c.is_new_popup.ensures in
+    let w =
+    add_whole s (mark b) k (λ i. (c.type_inv.sheet i).fits) (fit b) (length c.args.work.now) c.args.out.now
+    (stopped (add_checks s (mark b) k) (add_numbered s (mark b) k) (added (marks_part (split s)) (mark b)) (carried (split s) (λ q. added_popup q k)) (has (split s) 6) (length c.args.work.now) c.args.out.now
+    (add_popup s (mark b) k (passed s c.indexed-found.ensures c.if-number-ne0.false) low (sym c.fields_answer-wrong.ensures ∙ c.if-wrong-ne0.false)
+    (popup_no s k (sym asked ∙ c.if-not-is_new_popup.true))) (omega arith) c.refused-then-not-is_new_popup.ensures)
+    {w = c.args.work.now} (record { long = refl; refused = λ h. refl }) in
+    record { gives = w.0; lent = w.1.0; meets_adding = w.1.1 }
 
 pub schedule_marks-requires : goal.schedule_marks-requires
 schedule_marks-requires c =
-    let b = c in
-    let ok = all (goal.at.schedule_marks-requires c).Else-not-is_new_popup in
-    let bytes : Bytes (given (goal.at.schedule_marks-requires b).Start) = λ i. (c.shared_slice_known-1.given i).fits in
-    let lent = add_lent (given (goal.at.schedule_marks-requires b).Start) (mark (goal.at.schedule_marks-requires b).Start) b.args.popup bytes (fit (goal.at.schedule_marks-requires b).Start) ok (part1 (goal.at.schedule_marks-requires c).After-part-marks) (last_is (goal.at.schedule_marks-requires c).After-mark_bytes-last) in
+    let b = (goal.at.schedule_marks-requires c).Start in
+    let p = (goal.at.schedule_marks-requires c).After-is_there in
+    let s = c.args.sheet.now in
+    let k = c.args.popup in
+    let ok = all p in
+    let bytes : Bytes s = λ i. (c.type_inv.sheet i).fits in
+    let lent = add_lent s (mark b) k bytes (fit b) ok (part1 p) (last_is b c.mark_bytes-last.ensures) in
     record {
       good = lent.0;
       long = lent.1;
-      edition_short = rw (part4 (goal.at.schedule_marks-requires c).After-part-edition) (edition_short _ (accepted (goal.at.schedule_marks-requires c).Else-number-ne0));
-      shape_short = rw (part7 (goal.at.schedule_marks-requires c).After-part-shape) (shape_short _ (accepted (goal.at.schedule_marks-requires c).Else-number-ne0));
-      popups_lent = rw (there5 (goal.at.schedule_marks-requires c).After-is_there-there, popups_are (goal.at.schedule_marks-requires c).After-row_if, count (goal.at.schedule_marks-requires c).After-part-marks) (add_popups_lent (given (goal.at.schedule_marks-requires b).Start) (mark (goal.at.schedule_marks-requires b).Start) b.args.popup bytes (fit (goal.at.schedule_marks-requires b).Start) ok);
+      edition_short = rw (part4 p) (edition_short _ (accepted s c.indexed-found.ensures c.if-number-ne0.false));
+      shape_short = rw (part7 p) (shape_short _ (accepted s c.indexed-found.ensures c.if-number-ne0.false));
+      popups_lent = rw (there5 p, popups_are p, count s (part1 p)) (add_popups_lent s (mark b) k bytes (fit b) ok);
     }
 
 pub returns : goal.returns
 unfolding added
 returns c =
-    let p = c in
-    let b = c in
-    let k = b.args.popup in
-    add_whole (given (goal.at.returns b).Start) (mark (goal.at.returns b).Start) k (λ i. (c.shared_slice_known-1.given i).fits) (fit (goal.at.returns b).Start) _ _
-    (once_passed (add_checks (given (goal.at.returns b).Start) (mark (goal.at.returns b).Start) k) (add_numbered (given (goal.at.returns b).Start) (mark (goal.at.returns b).Start) k) (all (goal.at.returns c).Else-not-is_new_popup) _
-    (ap₂ ◌++◌ (part1 (goal.at.returns c).After-part-marks) (last_is (goal.at.returns c).After-mark_bytes-last))
-    (carried_lent _ (accepted (goal.at.returns c).Else-number-ne0) (λ q. added_popup q k) (part4 (goal.at.returns c).After-part-edition) (there5 (goal.at.returns c).After-is_there-there) (more (goal.at.returns p).After-row_if) (part7 (goal.at.returns c).After-part-shape)) (there6 (goal.at.returns c).After-is_there) c.schedule_marks.ensures.gives)
-    c.schedule_marks.ensures.lent
+    let b = (goal.at.returns c).Start in
+    let p = (goal.at.returns c).After-is_there in
+    let s = c.args.sheet.now in
+    let k = c.args.popup in
+    let w =
+    add_whole s (mark b) k (λ i. (c.type_inv.sheet i).fits) (fit b) (length c.args.work.now) c.args.out.now
+    (once_passed (add_checks s (mark b) k) (add_numbered s (mark b) k) (all p) _ (ap₂ ◌++◌ (part1 p) (last_is b c.mark_bytes-last.ensures))
+    (carried_lent _ (accepted s c.indexed-found.ensures c.if-number-ne0.false) (λ q. added_popup q k) (part4 p) (there5 p) (more p) (part7 p)) (there6 p) c.schedule_marks.ensures.gives)
+    c.schedule_marks.ensures.lent in
+    record { gives = w.0; lent = w.1.0; meets_adding = w.1.1 }

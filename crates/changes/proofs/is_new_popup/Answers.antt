@@ -1,6 +1,5 @@
 -- `changes::is_new_popup` meets its contract. Assumes nothing.
 use mathlib.Core.Path.{sym, ◌∙◌}
-use borrow.Author.Rules.{rules}
 use Rattle.changes.proofs.is_new_popup.Goals as goal
 
 pub returns-then-there : goal.returns-then-there

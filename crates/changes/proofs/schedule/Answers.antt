@@ -1,19 +1,13 @@
 -- `changes::schedule`: a sheet that is refused, or else what scheduling its marks gives. Assumes nothing.
-use Prim.Native.Nat.{ℕ}
 use mathlib.Core.Path.{◌≡◌, refl, sym, ◌∙◌}
-use mathlib.Core.List.{List, append-nil}
+use mathlib.Core.List.{append-nil}
 use native.Mathlib.Omega.{arith}
 use lib.ListN.{length}
-use borrow.Author.Rules.{rules}
-use Rattle.numbers.specs.Little.{Bytes}
 use Rattle.contents.specs.Contents.{has, split, marks_part, edition_part, popups_part, shape_part}
 use Rattle.contents.specs.Laws.{find_none}
 use Rattle.sheet.specs.Questions.{check_questions, check}
 use Rattle.sheet.specs.Laws.{check_numbered, accepted_iff, found_number, found_layout, found_part, layout_there}
-use Rattle.jobs.specs.declared.Answer.{Answer}
-use Rattle.jobs.specs.Jobs.{kept_parts, schedule_job}
-use Rattle.jobs.specs.Answers.{Gives, Lent}
-use Rattle.jobs.specs.Demand3.{Meets}
+use Rattle.jobs.specs.Jobs.{kept_parts}
 use Rattle.jobs.specs.Theorems.{schedule_meets}
 use Rattle.jobs.specs.Laws.Kept.{carried_lent, edition_short, shape_short, popups_lent}
 use Rattle.jobs.specs.Laws.Scheduling.{stopped, once_passed}

@@ -1,22 +1,19 @@
 -- `changes::take_out`: each way out by the question that ended it, or else what scheduling the marks that are left gives. Assumes nothing.
-use Prim.Native.Nat.{ℕ, ◌+◌, ◌-◌, ◌/◌, ◌<◌, ◌≤◌}
+use Prim.Native.Nat.{ℕ, ◌/◌, ◌<◌, ◌≤◌}
 use mathlib.Core.Path.{◌≡◌, refl, sym, ap, ◌∙◌}
 use mathlib.Core.List.{List, ◌++◌}
 use native.Mathlib.Omega.{arith}
 use lib.ListN.{length}
-use borrow.Author.Rules.{rules}
 use Rattle.numbers.specs.Little.{Bytes}
 use Rattle.changing.specs.Changing.{taken_out, taken_out_popup}
 use Rattle.contents.specs.Contents.{has, find, split, marks_part, edition_part, popups_part, shape_part}
 use Rattle.contents.specs.Asking.{answer}
 use Rattle.contents.specs.Places.{cut_of, place_of, is_there}
 use Rattle.sheet.specs.declared.Opening.{Opening}
+use Rattle.sheet.specs.Opened.{indexed}
 use Rattle.sheet.specs.Questions.{sheet_count, check, indexed_questions}
 use Rattle.sheet.specs.Laws.{indexed_iff, indexed_number, indexed_layout, layout_part, layout_there}
-use Rattle.jobs.specs.declared.Answer.{Answer}
-use Rattle.jobs.specs.Jobs.{carried, take_out_checks, take_out_job}
-use Rattle.jobs.specs.Answers.{Gives, Lent}
-use Rattle.jobs.specs.Demand3.{Meets}
+use Rattle.jobs.specs.Jobs.{carried, take_out_checks}
 use Rattle.jobs.specs.Coming.{take_out_numbered, take_out_iff, take_out_lent, take_out_popups_lent, take_out_meets}
 use Rattle.jobs.specs.Laws.Kept.{carried_lent, edition_short, shape_short}
 use Rattle.jobs.specs.Laws.Scheduling.{stopped, once_passed}
@@ -66,13 +63,13 @@ all c =
     (take_out_iff _ _).1 ((indexed_iff _).0 (passed _ c.indexed-found.ensures c.if-number-ne0.false), low)
 
 -- the marks and the popups that are left
-left : (c : After-is_there) → c.before.result.now ++ c.behind.result.now ≡ taken_out (marks_part (split c.args.sheet.now)) c.args.m
+left : (c : After-is_there) → c.before-2.result.now ++ c.behind.result.now ≡ taken_out (marks_part (split c.args.sheet.now)) c.args.m
 unfolding taken_out
-left c = lent_pieces 11 c.args.m c.before.ensures c.behind.ensures (part1 c)
+left c = lent_pieces 11 c.args.m c.before-2.ensures c.behind.ensures (part1 c)
 
-left_popups : (c : After-is_there) → c.before-2.result.now ++ c.behind-2.result.now ≡ taken_out_popup (popups_part (split c.args.sheet.now)) c.args.m
+left_popups : (c : After-is_there) → c.before-3.result.now ++ c.behind-2.result.now ≡ taken_out_popup (popups_part (split c.args.sheet.now)) c.args.m
 unfolding taken_out_popup
-left_popups c = lent_pieces 4 c.args.m c.before-2.ensures c.behind-2.ensures (part5 c)
+left_popups c = lent_pieces 4 c.args.m c.before-3.ensures c.behind-2.ensures (part5 c)
 
 pub returns-then-number-ne0 : goal.returns-then-number-ne0
 returns-then-number-ne0 c =

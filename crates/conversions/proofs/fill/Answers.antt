@@ -2,7 +2,6 @@
 use Prim.Native.Nat.{◌*◌}
 use mathlib.Core.Path.{◌≡◌, refl, sym, ◌∙◌}
 use native.Mathlib.Omega.{arith}
-use borrow.Author.Rules.{rules}
 use Rattle.contents.specs.Asking.{answer}
 use Rattle.parts.specs.Questions.{mark_count, part1_questions}
 use Rattle.parts.specs.Laws.{part1_numbered, part1_iff}
@@ -22,15 +21,19 @@ pub returns-then-number-ne0 : goal.returns-then-number-ne0
 unfolding fill_job fill_questions
 returns-then-number-ne0 c =
     let s = c.args.marks.now in
-    fill_whole (stopped (part1_questions s) (part1_numbered s) (11 * mark_count s) (filled s) _ c.part1_answer-number.ensures
-    (omega (arith, c.if-number-ne0.true)) c.refused.ensures)
+    let w =
+    fill_whole {s = s} {before = c.args.out.now} (stopped (part1_questions s) (part1_numbered s) (11 * mark_count s) (filled s) _ c.part1_answer-number.ensures
+    (omega (arith, c.if-number-ne0.true)) c.refused.ensures) in
+    record { gives = w.0; meets_filling = w.1 }
 
 pub returns-then-out-size : goal.returns-then-out-size
 unfolding fill_job fill_questions
 returns-then-out-size c =
     let s = c.args.marks.now in
-    fill_whole (no_room (part1_questions s) (part1_numbered s) (11 * mark_count s) (filled s) _ (accepted (goal.at.returns-then-out-size c).Else-number-ne0) c.if-out-size.true
-    c.refused-then-out-size.ensures)
+    let w =
+    fill_whole {s = s} {before = c.args.out.now} (no_room (part1_questions s) (part1_numbered s) (11 * mark_count s) (filled s) _ (accepted (goal.at.returns-then-out-size c).Else-number-ne0) c.if-out-size.true
+    c.refused-then-out-size.ensures) in
+    record { gives = w.0; meets_filling = w.1 }
 
 pub overflow_cast-result : goal.overflow_cast-result
 overflow_cast-result c = omega (arith, ((part1_iff _).0 (accepted (goal.at.overflow_cast-result c).Else-number-ne0)).0.few)
@@ -38,9 +41,9 @@ overflow_cast-result c = omega (arith, ((part1_iff _).0 (accepted (goal.at.overf
 pub returns : goal.returns
 unfolding fill_job fill_questions filled
 returns c =
-    let at_fill_lem = c in
-    let at-if2 = at_fill_lem in
-    let s = at-if2.args.marks.now in
-    let ok = accepted (goal.at.returns at-if2).Else-number-ne0 in
-    fill_whole (wrote (part1_questions s) (part1_numbered s) (11 * mark_count s) (filled s) _ ok at-if2.if-out-size.false (sym (filled_length s ok)) refl
-    at_fill_lem.fill.ensures)
+    let s = c.args.marks.now in
+    let ok = accepted (goal.at.returns c).Else-number-ne0 in
+    let w =
+    fill_whole {s = s} {before = c.args.out.now} (wrote (part1_questions s) (part1_numbered s) (11 * mark_count s) (filled s) _ ok c.if-out-size.false (sym (filled_length s ok)) refl
+    c.fill.ensures) in
+    record { gives = w.0; meets_filling = w.1 }

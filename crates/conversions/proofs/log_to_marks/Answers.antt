@@ -2,7 +2,6 @@
 use Prim.Native.Nat.{◌*◌}
 use mathlib.Core.Path.{◌≡◌, refl, sym, ◌∙◌}
 use native.Mathlib.Omega.{arith}
-use borrow.Author.Rules.{rules}
 use Rattle.contents.specs.Asking.{answer}
 use Rattle.logs.specs.Log.{record_count, marks_of_log}
 use Rattle.logs.specs.Questions.{log_checks, log_questions}
@@ -21,15 +20,19 @@ pub returns-then-number-ne0 : goal.returns-then-number-ne0
 unfolding log_to_marks_job log_questions
 returns-then-number-ne0 c =
     let s = c.args.log.now in
-    log_whole (stopped (log_checks s) (log_numbered s) (11 * record_count s) (marks_of_log s) _ c.log_answer-number.ensures
-    (omega (arith, c.if-number-ne0.true)) c.refused.ensures)
+    let w =
+    log_whole {s = s} {before = c.args.out.now} (stopped (log_checks s) (log_numbered s) (11 * record_count s) (marks_of_log s) _ c.log_answer-number.ensures
+    (omega (arith, c.if-number-ne0.true)) c.refused.ensures) in
+    record { gives = w.0; meets_log = w.1 }
 
 pub returns-then-out-marks_size : goal.returns-then-out-marks_size
 unfolding log_to_marks_job log_questions
 returns-then-out-marks_size c =
     let s = c.args.log.now in
-    log_whole (no_room (log_checks s) (log_numbered s) (11 * record_count s) (marks_of_log s) _ (accepted (goal.at.returns-then-out-marks_size c).Else-number-ne0) c.if-out-marks_size.true
-    c.refused-then-out-marks_size.ensures)
+    let w =
+    log_whole {s = s} {before = c.args.out.now} (no_room (log_checks s) (log_numbered s) (11 * record_count s) (marks_of_log s) _ (accepted (goal.at.returns-then-out-marks_size c).Else-number-ne0) c.if-out-marks_size.true
+    c.refused-then-out-marks_size.ensures) in
+    record { gives = w.0; meets_log = w.1 }
 
 pub put_marks-requires : goal.put_marks-requires
 put_marks-requires c = (log_right _ (accepted (goal.at.put_marks-requires c).Else-number-ne0), c.if-out-marks_size.false)
@@ -40,9 +43,9 @@ overflow_cast-result c = omega (arith, (log_right _ (accepted (goal.at.overflow_
 pub returns : goal.returns
 unfolding log_to_marks_job log_questions marks_of_log
 returns c =
-    let at-put = c in
-    let at-if2 = at-put in
-    let s = at-if2.args.log.now in
-    let ok = accepted (goal.at.returns at-if2).Else-number-ne0 in
-    log_whole (wrote (log_checks s) (log_numbered s) (11 * record_count s) (marks_of_log s) _ ok at-if2.if-out-marks_size.false (sym (marks_length s ok)) refl
-    at-put.put_marks.ensures)
+    let s = c.args.log.now in
+    let ok = accepted (goal.at.returns c).Else-number-ne0 in
+    let w =
+    log_whole {s = s} {before = c.args.out.now} (wrote (log_checks s) (log_numbered s) (11 * record_count s) (marks_of_log s) _ ok c.if-out-marks_size.false (sym (marks_length s ok)) refl
+    c.put_marks.ensures) in
+    record { gives = w.0; meets_log = w.1 }

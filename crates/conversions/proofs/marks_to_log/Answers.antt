@@ -2,7 +2,6 @@
 use Prim.Native.Nat.{◌*◌}
 use mathlib.Core.Path.{◌≡◌, refl, sym, ◌∙◌}
 use native.Mathlib.Omega.{arith}
-use borrow.Author.Rules.{rules}
 use Rattle.contents.specs.Asking.{answer}
 use Rattle.parts.specs.Questions.{mark_count, part1_questions}
 use Rattle.parts.specs.Laws.{part1_numbered, part1_iff}
@@ -23,17 +22,21 @@ pub returns-then-number-ne0 : goal.returns-then-number-ne0
 unfolding marks_to_log_job marks_questions
 returns-then-number-ne0 c =
     let s = c.args.marks.now in
-    marks_whole (λ i. (c.shared_slice_known-1.given i).fits)
+    let w =
+    marks_whole {s = s} {before = c.args.out.now} (λ i. (c.type_inv.marks i).fits)
     (stopped (part1_questions s) (part1_numbered s) (13 * mark_count s) (log_of_marks s) _ c.part1_answer-number.ensures
-    (omega (arith, c.if-number-ne0.true)) c.refused.ensures)
+    (omega (arith, c.if-number-ne0.true)) c.refused.ensures) in
+    record { gives = w.0; meets_marks = w.1 }
 
 pub returns-then-out-log_size : goal.returns-then-out-log_size
 unfolding marks_to_log_job marks_questions
 returns-then-out-log_size c =
     let s = c.args.marks.now in
-    marks_whole (λ i. (c.shared_slice_known-1.given i).fits)
+    let w =
+    marks_whole {s = s} {before = c.args.out.now} (λ i. (c.type_inv.marks i).fits)
     (no_room (part1_questions s) (part1_numbered s) (13 * mark_count s) (log_of_marks s) _ (accepted (goal.at.returns-then-out-log_size c).Else-number-ne0) c.if-out-log_size.true
-    c.refused-then-out-log_size.ensures)
+    c.refused-then-out-log_size.ensures) in
+    record { gives = w.0; meets_marks = w.1 }
 
 pub overflow_cast-result : goal.overflow_cast-result
 overflow_cast-result c = omega (arith, ((part1_iff _).0 (accepted (goal.at.overflow_cast-result c).Else-number-ne0)).0.few)
@@ -41,10 +44,10 @@ overflow_cast-result c = omega (arith, ((part1_iff _).0 (accepted (goal.at.overf
 pub returns : goal.returns
 unfolding marks_to_log_job marks_questions log_of_marks
 returns c =
-    let at-put = c in
-    let at-if2 = at-put in
-    let s = at-if2.args.marks.now in
-    let ok = accepted (goal.at.returns at-if2).Else-number-ne0 in
-    marks_whole (λ i. (at-if2.shared_slice_known-1.given i).fits)
-    (wrote (part1_questions s) (part1_numbered s) (13 * mark_count s) (log_of_marks s) _ ok at-if2.if-out-log_size.false (sym (log_length s ok)) refl
-    at-put.put_records.ensures)
+    let s = c.args.marks.now in
+    let ok = accepted (goal.at.returns c).Else-number-ne0 in
+    let w =
+    marks_whole {s = s} {before = c.args.out.now} (λ i. (c.type_inv.marks i).fits)
+    (wrote (part1_questions s) (part1_numbered s) (13 * mark_count s) (log_of_marks s) _ ok c.if-out-log_size.false (sym (log_length s ok)) refl
+    c.put_records.ensures) in
+    record { gives = w.0; meets_marks = w.1 }

@@ -2,7 +2,6 @@
 use mathlib.Core.Path.{refl}
 use mathlib.Core.List.{[]}
 use lib.ListN.{length}
-use borrow.Author.Rules.{rules}
 use Rattle.contents.specs.Laws.{none_asked}
 use Rattle.jobs.specs.Laws.Rooms.{no_room, wrote}
 use Rattle.counts.proofs.copied.Goals as goal

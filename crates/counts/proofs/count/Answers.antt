@@ -1,10 +1,8 @@
 -- `counts::count`: each way out by the question that ended it; a sheet with part 6 as it is, and any other with its counts. Assumes nothing.
 use mathlib.Core.Path.{◌≡◌, refl, sym, ◌∙◌}
 use mathlib.Core.Bool.{true}
-use mathlib.Core.List.{List}
 use Prim.Native.Nat.{ℕ}
 use native.Mathlib.Omega.{arith}
-use borrow.Author.Rules.{rules}
 use Rattle.contents.specs.Contents.{has, split}
 use Rattle.contents.specs.Places.{is_there}
 use Rattle.sheet.specs.Questions.{check}

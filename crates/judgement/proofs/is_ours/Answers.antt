@@ -2,7 +2,6 @@
 use Prim.Native.Nat.{ℕ}
 use mathlib.Core.Path.{◌≡◌, ap, ◌∙◌}
 use mathlib.Core.List.{List}
-use borrow.Author.Rules.{rules}
 use Rattle.contents.specs.Contents.{find, split}
 use Rattle.contents.specs.declared.Layout.{Layout}
 use Rattle.contents.specs.Asking.{answer}
@@ -26,41 +25,25 @@ named s pre code e f = f ∙ ap choice_in (cut s pre code e)
 
 pub judge-requires : goal.judge-requires
 judge-requires c =
-    let d7 = c in
-    let d5 = d7 in
-    let e = d5 in
-    let d4 = e in
-    let d3 = d4 in
-    let d2 = d3 in
-    let d1 = d2 in
-    let a = d1 in
-    let s = a.args.sheet.now in
+    let s = c.args.sheet.now in
     rw (
-      cut s a.requires 1 d1.part-marks.ensures,
-      cut s a.requires 2 d2.part-schedule.ensures,
-      cut s a.requires 3 d3.part-index.ensures,
-      named s a.requires 4 d4.part.ensures e.choice_of-edition.ensures,
-      cut s a.requires 5 d5.part-popups.ensures,
-      named s a.requires 7 d7.part-2.ensures c.choice_of-shape.ensures,
+      cut s c.requires 1 c.part-marks.ensures,
+      cut s c.requires 2 c.part-schedule.ensures,
+      cut s c.requires 3 c.part-index.ensures,
+      named s c.requires 4 c.part.ensures c.choice_of-edition.ensures,
+      cut s c.requires 5 c.part-popups.ensures,
+      named s c.requires 7 c.part-2.ensures c.choice_of-shape.ensures,
     )
-    (judgeable s a.requires.0)
+    (judgeable s c.requires.0)
 
 pub returns : goal.returns
 unfolding question22
 returns c =
-    let f = c in
-    let d7 = f in
-    let d5 = d7 in
-    let e = d5 in
-    let d4 = e in
-    let d2 = d4 in
-    let d1 = d2 in
-    let a = d1 in
-    let s = a.args.sheet.now in
+    let s = c.args.sheet.now in
     rw (
-      cut s a.requires 1 d1.part-marks.ensures,
-      cut s a.requires 2 d2.part-schedule.ensures,
-      named s a.requires 4 d4.part.ensures e.choice_of-edition.ensures,
-      cut s a.requires 5 d5.part-popups.ensures,
-      named s a.requires 7 d7.part-2.ensures f.choice_of-shape.ensures,
+      cut s c.requires 1 c.part-marks.ensures,
+      cut s c.requires 2 c.part-schedule.ensures,
+      named s c.requires 4 c.part.ensures c.choice_of-edition.ensures,
+      cut s c.requires 5 c.part-popups.ensures,
+      named s c.requires 7 c.part-2.ensures c.choice_of-shape.ensures,
     ) at c.judge.ensures

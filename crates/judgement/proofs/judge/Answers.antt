@@ -3,7 +3,6 @@ use Prim.Native.Nat.{ℕ}
 use mathlib.Core.Path.{◌≡◌, refl, sym, ◌∙◌}
 use mathlib.Core.List.{List}
 use native.Mathlib.Omega.{arith}
-use borrow.Author.Rules.{rules}
 use Rattle.numbers.specs.Little.{Bytes}
 use Rattle.contents.specs.Asking.{answer}
 use Rattle.sheet.specs.Questions.{indexed_questions}
@@ -14,13 +13,10 @@ use Rattle.jobs.specs.Jobs.{judge_job}
 use Rattle.jobs.specs.Judged.{MeetsJudging, judge_meets}
 use Rattle.jobs.specs.Laws.Judging.{judge_refused, judge_no, judge_yes}
 use Rattle.judgement.proofs.judge.Goals as goal
-use Rattle.judgement.proofs.judge.Goals.{Else-number-ne0, Start}
-
-abbrev given : Start → List ℕ
-given b = b.args.sheet.now
+use Rattle.judgement.proofs.judge.Goals.{Else-number-ne0}
 
 -- 1 to 10 were answered with yes
-indexed : (c : Else-number-ne0) → answer (indexed_questions (given c)) ≡ 0
+indexed : (c : Else-number-ne0) → answer (indexed_questions c.args.sheet.now) ≡ 0
 indexed c = sym (indexed_number _ c.indexed-found.ensures) ∙ c.if-number-ne0.false
 
 -- what a way out answers, with what is claimed of it
@@ -29,7 +25,7 @@ whole s bytes e = (e, judge_meets s bytes e)
 
 pub returns-then-number-ne0 : goal.returns-then-number-ne0
 returns-then-number-ne0 c =
-    whole (given (goal.at.returns-then-number-ne0 c).Start) (λ i. (c.shared_slice_known-1.given i).fits)
+    whole c.args.sheet.now (λ i. (c.type_inv.sheet i).fits)
     (judge_refused _ (indexed_number _ c.indexed-found.ensures) (omega (arith, c.if-number-ne0.true)) c.refused.ensures)
 
 pub is_ours-requires : goal.is_ours-requires
@@ -37,10 +33,10 @@ is_ours-requires c = (indexed (goal.at.is_ours-requires c).Else-number-ne0, inde
 
 pub returns-then-is_ours : goal.returns-then-is_ours
 returns-then-is_ours c =
-    whole (given (goal.at.returns-then-is_ours c).Start) (λ i. (c.shared_slice_known-1.given i).fits)
+    whole c.args.sheet.now (λ i. (c.type_inv.sheet i).fits)
     (judge_yes _ (indexed (goal.at.returns-then-is_ours c).Else-number-ne0) (sym c.is_ours.ensures ∙ c.if-is_ours.true) refl)
 
 pub returns : goal.returns
 returns c =
-    whole (given (goal.at.returns c).Start) (λ i. (c.shared_slice_known-1.given i).fits)
+    whole c.args.sheet.now (λ i. (c.type_inv.sheet i).fits)
     (judge_no _ (indexed (goal.at.returns c).Else-number-ne0) (sym c.is_ours.ensures ∙ c.if-is_ours.false) c.refused-2.ensures)

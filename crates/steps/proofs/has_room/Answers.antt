@@ -1,6 +1,5 @@
 -- `steps::has_room`: the two bounds in their order. Assumes nothing.
 use Prim.Native.Nat.{◌+◌, ◌*◌}
-use borrow.Author.Rules.{rules}
 use borrow.Author.Tests.{le-leb, lt-leb}
 use Rattle.steps.proofs.has_room.Goals as goal
 

@@ -1,5 +1,4 @@
 -- `viewing::is_map`: the two bounds in their order. Assumes nothing.
-use borrow.Author.Rules.{rules}
 use borrow.Author.Tests.{le-leb, lt-leb}
 use Rattle.reaching.specs.Questions.{is_map}
 use Rattle.viewing.proofs.is_map.Goals as goal

@@ -1,21 +1,20 @@
 -- `viewing::walk`: question 13, and else what the walk over the map gives. Assumes nothing.
+use mathlib.Core.Path.{sym, ◌∙◌}
 use native.Mathlib.Omega.{arith}
-use borrow.Author.Rules.{rules}
-use Rattle.lists.specs.TestLaws.{said_no, said_yes}
 use Rattle.jobs.specs.Laws.Walking.{map_iff, walk_refused, walk_goes, walk_small}
 use Rattle.viewing.proofs.walk.Goals as goal
 
 pub returns-then-not-is_map : goal.returns-then-not-is_map
-returns-then-not-is_map c = walk_refused _ _ _ (said_no c.is_map.ensures c.if-not-is_map.true)
+returns-then-not-is_map c = walk_refused _ _ _ (sym c.is_map.ensures ∙ c.if-not-is_map.true)
 
 pub walk-requires : goal.walk-requires
-walk-requires c = (map_iff _ _).0 (said_yes c.is_map.ensures c.if-not-is_map.false)
+walk-requires c = (map_iff _ _).0 (sym c.is_map.ensures ∙ c.if-not-is_map.false)
 
 pub overflow_cast-result : goal.overflow_cast-result
 overflow_cast-result c =
     let a = c.args in
-    let few = ((map_iff _ _).0 (said_yes c.is_map.ensures c.if-not-is_map.false)).0 in
+    let few = ((map_iff _ _).0 (sym c.is_map.ensures ∙ c.if-not-is_map.false)).0 in
     omega (arith, c.walk.ensures, walk_small a.map.now a.n a.start few)
 
 pub returns : goal.returns
-returns c = rw c.walk.ensures (walk_goes _ _ _ (said_yes c.is_map.ensures c.if-not-is_map.false))
+returns c = rw c.walk.ensures (walk_goes _ _ _ (sym c.is_map.ensures ∙ c.if-not-is_map.false))

@@ -2,7 +2,6 @@
 use mathlib.Core.Path.{sym, ◌∙◌}
 use lib.ListN.{length-append}
 use native.Mathlib.Omega.{arith}
-use borrow.Author.Rules.{rules}
 use Rattle.lists.specs.StoreLaws.{sets_append}
 use Rattle.writing.proofs.put_pieces.Goals as goal
 
@@ -13,7 +12,7 @@ put-middle-requires c =
 pub put-requires : goal.put-requires
 put-requires c =
     let b = c in
-    omega (arith, length-append b.args.first.now b.args.second.now, b.requires, c.put-middle.ensures.0, c.out-1.given)
+    omega (arith, length-append b.args.first.now b.args.second.now, b.requires, c.put-middle.ensures.0)
 
 pub returns : goal.returns
 returns c =

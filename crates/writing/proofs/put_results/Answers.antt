@@ -1,7 +1,6 @@
 -- `writing::put_results`: the schedule behind the marks, and the index behind both. Assumes nothing.
 use Prim.Native.Nat.{◌*◌}
 use native.Mathlib.Omega.{arith}
-use borrow.Author.Rules.{rules}
 use lib.ListN.{drop}
 use lib.Seq.{length-take-le}
 use Rattle.scheduling.specs.Behind.{reel_in}

@@ -1,14 +1,13 @@
 -- `writing::put_scheduled`: the contents, the marks and parts 4 and 5 are written, and parts 2 and 3 between them. Assumes nothing.
-use Prim.Native.Nat.{ℕ, ◌+◌, ◌-◌, ◌*◌, ◌≤◌}
-use mathlib.Core.Path.{◌≡◌, ◌∙◌}
-use mathlib.Core.Bool.{true, cond}
-use mathlib.Core.List.{List, ◌++◌}
+use Prim.Native.Nat.{◌+◌, ◌-◌, ◌*◌, ◌≤◌}
+use mathlib.Core.Path.{◌≡◌}
+use mathlib.Core.Bool.{true}
+use mathlib.Core.List.{◌++◌}
 use native.Mathlib.Omega.{arith}
 use lib.Dec.{ltb}
 use lib.ListN.{length}
 use Rattle.contents.specs.Contents.{contents_size}
-use Rattle.jobs.specs.Jobs.{scheduled_size}
-use Rattle.jobs.specs.Steps.{kept_from, codes_from}
+use Rattle.jobs.specs.Steps.{codes_from}
 use Rattle.jobs.specs.Laws.Scheduling.{lent_good, lent_size, Standing, standing}
 use Rattle.writing.proofs.put_scheduled.Goals as goal
 use Rattle.writing.proofs.put_scheduled.Goals.{After-put_pieces-end}
