@@ -1,3 +1,5 @@
 mod Machine
 mod Words
 mod Turns
+pub mod Laws
+pub mod Lemmas

@@ -13,7 +13,7 @@ use lib.Pow.{pow_pos, pow-lt, pow_mono, shr_lt}
 use lib.Seq.{get_or-set_same, get_or-set_other}
 use Rattle.bitmap.specs.Map.{bit_at}
 use Rattle.bitmap.specs.Facts.{bit_of, count_bits, BitSet, NextBit}
-use Rattle.bitmap.specs.Lemmas.Bits.{bit_shift, bit_half, bit_low, bit_past, no_bit, half_small}
+use Rattle.bitmap.proofs.Lemmas.Bits.{bit_shift, bit_half, bit_low, bit_past, no_bit, half_small}
 
 -- ---- `set_bit`: the bits of an or, and of a power of two
 

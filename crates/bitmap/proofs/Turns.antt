@@ -10,8 +10,8 @@ use lib.Seq.{get_or-set_same, get_or-set_other}
 use Rattle.numbers.specs.Little.{le_at, Bytes}
 use Rattle.bitmap.specs.Map.{map_size, bit_at, walk}
 use Rattle.bitmap.specs.Facts.{bit_of, count_bits, MapCleared, NextBit}
-use Rattle.bitmap.specs.Laws.{walked_is}
-use Rattle.bitmap.specs.Lemmas.Counts.{count_bits_same, count_bits_add, count_bits_past, count_bits_le}
+use Rattle.bitmap.proofs.Laws.{walked_is}
+use Rattle.bitmap.proofs.Lemmas.Counts.{count_bits_same, count_bits_add, count_bits_past, count_bits_le}
 use Rattle.bitmap.proofs.Words.{bit_inside, bit_outside, word_bit}
 
 -- ---- `clear`: the first i bytes are cleared

@@ -9,10 +9,10 @@ use native.Mathlib.Omega.{arith}
 use lib.ListN.{length, get_or, take, length-take, get_or-eq_default}
 use lib.Seq.{get_or-take}
 use Rattle.numbers.specs.Little.{le_at, Bytes}
-use Rattle.numbers.specs.Laws.{le_take}
+use Rattle.numbers.proofs.Laws.{le_take}
 use Rattle.bitmap.specs.Map.{bit_at}
 use Rattle.bitmap.specs.Facts.{bit_of}
-use Rattle.bitmap.specs.Lemmas.Bits.{no_bit, bit_low, bit_high}
+use Rattle.bitmap.proofs.Lemmas.Bits.{no_bit, bit_low, bit_high}
 
 -- the bits of a number of w bytes are those of the bytes
 number_bit : (w : ℕ) (s : List ℕ) (q i : ℕ) → Bytes s → i < 8 * w → bit_of (le_at w s q) i ≡ bit_at s (8 * q + i)

@@ -1,5 +1,3 @@
 -- To be believed: Map. Facts is what the contracts and the laws say; Laws is what the other crates cite.
 pub mod Map
 pub mod Facts
-pub mod Laws
-pub mod Lemmas

@@ -1,5 +1,3 @@
 -- The questions of the bodies; then what follows from them.
 pub mod Questions
 pub mod Fitting
-pub mod Laws
-pub mod Lemmas

@@ -1,5 +1,3 @@
 -- To be believed: Changing, marks that come and go, and Turned, marks that are turned. Laws and TurnedLaws are proved of them.
 pub mod Changing
 pub mod Turned
-pub mod Laws
-pub mod TurnedLaws

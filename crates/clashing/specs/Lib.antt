@@ -2,4 +2,3 @@
 -- exactly where the judge accepts is proved in judging.
 pub mod Clash
 pub mod Cuts
-pub mod Laws

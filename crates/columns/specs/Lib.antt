@@ -1,5 +1,3 @@
 -- Columns is the request, and Theorems that both ways undo each other. Steps is what the code's own steps keep.
 pub mod Columns
-pub mod Theorems
 pub mod Steps
-pub mod Lemmas

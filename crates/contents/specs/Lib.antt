@@ -4,5 +4,3 @@ pub mod Asking
 pub mod Questions
 pub mod Laid
 pub mod Places
-pub mod Laws
-pub mod Lemmas

@@ -2,5 +2,3 @@
 pub mod Lives
 pub mod Counts
 pub mod Steps
-pub mod Lemmas
-pub mod Laws

@@ -5,7 +5,7 @@ use mathlib.Core.List.{List}
 use native.Mathlib.Omega.{arith}
 use lib.Seq.{sets}
 use Rattle.numbers.specs.Little.{le_bytes}
-use Rattle.numbers.specs.Laws.{write_joined}
+use Rattle.numbers.proofs.Laws.{write_joined}
 use Rattle.elimination.specs.declared.Record.{Record}
 use Rattle.elimination.specs.Records.{num_offset, den_offset, record_bytes}
 

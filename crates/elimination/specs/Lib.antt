@@ -7,12 +7,3 @@ pub mod Records
 pub mod Reel
 pub mod Alike
 pub mod Important
-pub mod Settled
-pub mod RankOrder
-pub mod Theorems
-pub mod Cases
-pub mod Sheet
-pub mod Schedule
-pub mod Unmoved
-pub mod Laws
-pub mod Lemmas

@@ -1,4 +1,2 @@
 -- Read Filling first: it says what filling asks and writes. Theorems has what follows.
 pub mod Filling
-pub mod Theorems
-pub mod Lemmas

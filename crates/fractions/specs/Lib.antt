@@ -1,4 +1,3 @@
 -- Read Order first: it is what the other crates say. Laws proves what follows from it, and Wide is about products of up to 96 bits.
 pub mod Order
-pub mod Laws
 pub mod Wide

@@ -7,10 +7,10 @@ use native.Mathlib.Omega.{arith}
 use lib.ListN.{length, length-append}
 use lib.Seq.{sets}
 use Rattle.lists.specs.Stores.{Kept}
-use Rattle.lists.specs.StoreLaws.{sets_append, kept_sets}
+use Rattle.lists.proofs.StoreLaws.{sets_append, kept_sets}
 use Rattle.numbers.specs.Little.{le_at, le_bytes}
-use Rattle.numbers.specs.Laws.{le_length, write_joined}
-use Rattle.numbers.specs.Runs.{Stage, stage_start, stage_next, stage_read, stage_last}
+use Rattle.numbers.proofs.Laws.{le_length, write_joined}
+use Rattle.numbers.proofs.Runs.{Stage, stage_start, stage_next, stage_read, stage_last}
 use Rattle.grid.specs.declared.Region.{Region}
 use Rattle.grid.specs.Table.{region_size, region_at, side_bytes, region_bytes}
 use Rattle.grid.specs.Steps.{RegionPut}

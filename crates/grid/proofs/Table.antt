@@ -9,9 +9,9 @@ use borrow.Author.Count.{below_more}
 use lib.ListN.{length}
 use lib.Seq.{sets}
 use Rattle.lists.specs.Stores.{Clear}
-use Rattle.lists.specs.StoreLaws.{kept_none, kept_wide, kept_then}
+use Rattle.lists.proofs.StoreLaws.{kept_none, kept_wide, kept_then}
 use Rattle.numbers.specs.Little.{le_bytes}
-use Rattle.numbers.specs.Laws.{read_back_sets, kept_write, number_kept}
+use Rattle.numbers.proofs.Laws.{read_back_sets, kept_write, number_kept}
 use Rattle.fractions.specs.declared.Fraction.{Fraction}
 use Rattle.marks.specs.declared.Label.{Label}
 use Rattle.grid.specs.declared.Region.{Region}

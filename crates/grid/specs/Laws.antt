@@ -5,13 +5,13 @@ use Rattle.std.proofs.Common.{sym, ap, subst, ◌∙◌, inl, inr, arith, mul-le
 use Rattle.std.proofs.Math.Decide.{ℕ_discrete}
 use Rattle.std.proofs.Math.IntN.{sub_ℕ}
 use Rattle.lists.specs.Stores.{Clear, Kept}
-use Rattle.numbers.specs.Laws.{number_kept}
+use Rattle.numbers.proofs.Laws.{number_kept}
 use Rattle.fractions.specs.declared.Fraction.{Fraction}
 use Rattle.fractions.specs.Order.{less, Less, AtMost, Small}
-use Rattle.fractions.specs.Laws.{less_iff, order, at_most_trans, less_positive}
+use Rattle.fractions.proofs.Laws.{less_iff, order, at_most_trans, less_positive}
 use Rattle.marks.specs.declared.Label.{Label}
 use Rattle.marks.specs.Marks.{shifted, apart, distance, touching_of}
-use Rattle.marks.specs.Laws.{distance_grows}
+use Rattle.marks.proofs.Laws.{distance_grows}
 use Rattle.grid.specs.declared.Region.{Region}
 use Rattle.grid.specs.Table.{cell_count, region_count, region_size, table_size, group_region, region_at, empty_region, link_from, link_at, last_at, EntriesLow, Chained, assign}
 use Rattle.grid.specs.Boxes.{Inside, Holds, later_of, widened, outside, bound_of}

@@ -6,5 +6,3 @@ pub mod Index
 pub mod Valid
 pub mod Blocks
 pub mod Check
-pub mod Laws
-pub mod Lemmas

@@ -13,12 +13,7 @@ pub mod Filled
 pub mod Logs
 pub mod Archived
 pub mod Counted
-pub mod Theorems
-pub mod Coming
 pub mod Stops
-pub mod Choices
 pub mod Turns
 pub mod Judged
 pub mod Steps
-pub mod Laws
-pub mod Lemmas

@@ -9,10 +9,10 @@ use Rattle.std.proofs.lemmas.List.Edits.{sets}
 use Rattle.std.proofs.Math.Seq.{drop-cons}
 use Rattle.std.proofs.lemmas.Bool.{lt-leb}
 use Rattle.numbers.specs.Little.{le_bytes}
-use Rattle.numbers.specs.Laws.{le_length}
+use Rattle.numbers.proofs.Laws.{le_length}
 use Rattle.contents.specs.Contents.{sizes_of, contents_size, entry, entries, contents_of, chain, join, together}
-use Rattle.lists.specs.StoreLaws.{sets_append}
-use Rattle.contents.specs.Laws.{together_codes, together_bodies, contents_length}
+use Rattle.lists.proofs.StoreLaws.{sets_append}
+use Rattle.contents.proofs.Laws.{together_codes, together_bodies, contents_length}
 
 pub size_at : (bodies : List (List ℕ)) (i : ℕ) → length (get_or bodies i []) ≡ get_or (sizes_of bodies) i 0
 size_at [] i = refl

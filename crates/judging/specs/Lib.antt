@@ -2,5 +2,3 @@
 -- the judge Judgeable, in Search; the rest of Search says what the steps of the code find, over what clashing says of one mark.
 pub mod Judge
 pub mod Search
-pub mod Theorems
-pub mod Lemmas

@@ -1,4 +1,3 @@
 -- Lines is what is printed of each mark. Listed is what the code says of its buffers; Laws has what follows.
 pub mod Lines
 pub mod Listed
-pub mod Laws

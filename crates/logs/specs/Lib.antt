@@ -2,5 +2,3 @@
 pub mod Log
 pub mod Questions
 pub mod Right
-pub mod Theorems
-pub mod Lemmas

@@ -1,1 +1,5 @@
 pub mod Signed
+pub mod Fields
+pub mod Laws
+pub mod FieldLaws
+pub mod PairLaws

@@ -9,7 +9,7 @@ use lib.Signed.{mag}
 use mir.Syntax.{Width, w16, w32, w64}
 use mir.Val.{hbits, SFits, to_z, of_z}
 use mir.Facts.{sfits_widen, to_z-of_z}
-use Rattle.marks.specs.Laws.{difference_bound}
+use Rattle.marks.proofs.Laws.{difference_bound}
 
 -- ---- a cast to a wider type keeps the number
 

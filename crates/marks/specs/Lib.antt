@@ -3,7 +3,3 @@
 pub mod Marks
 pub mod Pairs
 pub mod Good
-pub mod Fields
-pub mod Laws
-pub mod FieldLaws
-pub mod PairLaws

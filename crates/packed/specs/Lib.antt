@@ -1,3 +1,2 @@
 -- Packed says what packed decimal is. Laws has what follows: each number from -99,999 to 99,999 has one form.
 pub mod Packed
-pub mod Laws

@@ -2,5 +2,3 @@
 pub mod Shown
 pub mod Questions
 pub mod Turning
-pub mod Lemmas
-pub mod Laws

@@ -1,6 +1,4 @@
 -- Text is what the program prints. Examples shows P1 to P12 of 01. Printing is what the code says of its buffers, by Text; Lemmas
 -- serves its proofs.
 pub mod Text
-pub mod Examples
 pub mod Printing
-pub mod Lemmas

@@ -1,3 +1,2 @@
 -- Read Rows first. Laws proves what follows from it.
 pub mod Rows
-pub mod Laws

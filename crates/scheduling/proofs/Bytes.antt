@@ -7,14 +7,14 @@ use native.Mathlib.Decide.{dec_lt}
 use lib.ListN.{length, take, drop, length-append, length-take, length-drop}
 use lib.Seq.{sets, sets-eq, length-sets, length-take-le, take_at, drop_at, ext_get_or, get_or-take, get_or-drop}
 use Rattle.lists.specs.Stores.{Clear, Kept}
-use Rattle.lists.specs.StoreLaws.{kept_sets}
+use Rattle.lists.proofs.StoreLaws.{kept_sets}
 use Rattle.numbers.specs.Little.{le_at, le_bytes, Bytes}
-use Rattle.numbers.specs.Laws.{le_length, le_bound, read_back_sets, number_kept, write_then, write_joined}
+use Rattle.numbers.proofs.Laws.{le_length, le_bound, read_back_sets, number_kept, write_then, write_joined}
 use Rattle.marks.specs.Marks.{mark_size, y_offset, used_at}
 use Rattle.marks.specs.Pairs.{popup_at}
 use Rattle.elimination.specs.declared.Record.{Record}
 use Rattle.elimination.specs.Records.{record_size, num_offset, den_offset, record_at, record_bytes}
-use Rattle.elimination.specs.Schedule.{record_length}
+use Rattle.elimination.proofs.Schedule.{record_length}
 use Rattle.searching.specs.Rows.{row_size, row_x_offset, row_y_offset, row_radius_offset, row_popup_offset, row_record_offset}
 use Rattle.scheduling.specs.Filling.{row_bytes, RowAt}
 

@@ -12,8 +12,8 @@ use lib.IntN.{pos, negsuc}
 use lib.ListN.{length}
 use Rattle.lists.specs.Stores.{Kept}
 use Rattle.numbers.specs.Little.{le_at, signed}
-use Rattle.numbers.specs.Laws.{number_kept}
-use Rattle.lists.specs.StoreLaws.{kept_wide}
+use Rattle.numbers.proofs.Laws.{number_kept}
+use Rattle.lists.proofs.StoreLaws.{kept_wide}
 use Rattle.fractions.specs.declared.Fraction.{Fraction}
 use Rattle.fractions.specs.Order.{Small}
 use Rattle.marks.specs.declared.Label.{Label}

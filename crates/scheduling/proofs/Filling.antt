@@ -8,19 +8,19 @@ use borrow.Author.Count.{below_more}
 use lib.ListN.{length}
 use lib.Seq.{sets}
 use Rattle.lists.specs.Stores.{Kept}
-use Rattle.lists.specs.StoreLaws.{kept_sets}
+use Rattle.lists.proofs.StoreLaws.{kept_sets}
 use Rattle.lists.specs.Sorting.{Ranks}
 use Rattle.numbers.specs.Little.{Bytes}
-use Rattle.numbers.specs.Laws.{number_kept}
+use Rattle.numbers.proofs.Laws.{number_kept}
 use Rattle.sorting.specs.Laws.{sorted_ranks}
 use Rattle.marks.specs.Marks.{radius_at, kind_at, used_at, larger, touching, rank_key, touching_of}
-use Rattle.marks.specs.Laws.{used_positive}
+use Rattle.marks.proofs.Laws.{used_positive}
 use Rattle.marks.specs.Pairs.{popup_at, pair_of, pair_value, GoodPopups}
-use Rattle.marks.specs.PairLaws.{popup_none}
+use Rattle.marks.proofs.PairLaws.{popup_none}
 use Rattle.marks.specs.declared.Label.{Label}
 use Rattle.sorting.specs.Keys.{key_at, KeyPut, KeysSorted}
 use Rattle.elimination.specs.Reel.{marks_of}
-use Rattle.elimination.specs.Sheet.{sheet_proper}
+use Rattle.elimination.proofs.Sheet.{sheet_proper}
 use Rattle.searching.specs.Rows.{row_size, row_x_offset, row_y_offset, row_radius_offset, row_popup_offset, row_record_offset, row_number}
 use Rattle.scheduling.specs.Settling.{RowsSmall, Ordered}
 use Rattle.scheduling.specs.Sending.{RowsNumbered}

@@ -12,22 +12,22 @@ use borrow.Author.Tests.{eq-eqb, ne_eqb}
 use lib.ListN.{length}
 use lib.Seq.{sets}
 use Rattle.lists.specs.Stores.{Kept}
-use Rattle.lists.specs.StoreLaws.{kept_none}
+use Rattle.lists.proofs.StoreLaws.{kept_none}
 use Rattle.numbers.specs.Little.{le_at}
-use Rattle.numbers.specs.Laws.{number_kept}
+use Rattle.numbers.proofs.Laws.{number_kept}
 use Rattle.fractions.specs.declared.Fraction.{Fraction}
 use Rattle.fractions.specs.Order.{Small}
 use Rattle.marks.specs.declared.Label.{Label}
 use Rattle.marks.specs.Marks.{larger, touching_of}
 use Rattle.marks.specs.Pairs.{pair_of}
-use Rattle.marks.specs.PairLaws.{pair_positive}
+use Rattle.marks.proofs.PairLaws.{pair_positive}
 use Rattle.elimination.specs.declared.Record.{Record}
 use Rattle.elimination.specs.Marks.{Marks}
 use Rattle.elimination.specs.Process.{Removal, stays, put}
 use Rattle.elimination.specs.Records.{record_size, num_offset, den_offset, record_bytes, fraction_of}
-use Rattle.elimination.specs.Settled.{SettledAt}
-use Rattle.elimination.specs.Laws.{visited, all_settled}
-use Rattle.elimination.specs.Theorems.{settled_process}
+use Rattle.elimination.proofs.Settled.{SettledAt}
+use Rattle.elimination.proofs.Laws.{visited, all_settled}
+use Rattle.elimination.proofs.Theorems.{settled_process}
 use Rattle.searching.specs.Rows.{row_size, row_x_offset, row_y_offset, row_radius_offset, row_popup_offset, row_record_offset, row_number, row_label, row_popup, row_value, rows_touch, rows_pair, row_record, Stored, StoredAt}
 use Rattle.searching.specs.Scan.{Above, Scanned}
 use Rattle.searching.specs.Search.{SearchFor, Zeroed}

@@ -10,10 +10,10 @@ use borrow.Author.Tests.{eq-eqb, ne_eqb}
 use lib.ListN.{length, take, take-append-drop}
 use lib.Seq.{sets, take-add}
 use Rattle.lists.specs.Stores.{Clear, Kept}
-use Rattle.lists.specs.StoreLaws.{kept_none, kept_wide, kept_then, kept_sets}
+use Rattle.lists.proofs.StoreLaws.{kept_none, kept_wide, kept_then, kept_sets}
 use Rattle.elimination.specs.declared.Record.{Record}
 use Rattle.elimination.specs.Process.{Removal, stays, gone, process}
-use Rattle.elimination.specs.Schedule.{record_length}
+use Rattle.elimination.proofs.Schedule.{record_length}
 use Rattle.elimination.specs.Records.{record_size, record_bytes, removal_record, records}
 use Rattle.searching.specs.Rows.{row_number, row_record, StoredAt}
 use Rattle.scheduling.specs.Settling.{SameFields, Processed}

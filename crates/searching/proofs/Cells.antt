@@ -9,10 +9,10 @@ use native.Mathlib.Nat.{mul-le-mul}
 use native.Mathlib.Decide.{dec_lt, dec_le, ℕ_discrete}
 use borrow.Author.Tests.{lt-ltb, le-ltb, le-leb, lt-leb, ne_eqb}
 use Rattle.fractions.specs.Order.{less, Less, AtMost}
-use Rattle.fractions.specs.Laws.{less_iff, at_most_trans, less_at_most, at_most_less}
+use Rattle.fractions.proofs.Laws.{less_iff, at_most_trans, less_at_most, at_most_less}
 use Rattle.marks.specs.declared.Label.{Label}
 use Rattle.marks.specs.Marks.{larger, touching_of}
-use Rattle.marks.specs.PairLaws.{positive_pair, pair_least}
+use Rattle.marks.proofs.PairLaws.{positive_pair, pair_least}
 use Rattle.grid.specs.declared.Region.{Region}
 use Rattle.grid.specs.Table.{cell_count, region_at, last_at, link_at, EntriesLow}
 use Rattle.grid.specs.Boxes.{bound_of}

@@ -11,15 +11,15 @@ use borrow.Author.Tests.{ltb-true, ltb-false}
 use lib.Dec.{ltb}
 use Rattle.fractions.specs.declared.Fraction.{Fraction}
 use Rattle.fractions.specs.Order.{less, Less, AtMost, Later}
-use Rattle.fractions.specs.Laws.{less_iff, order, at_most_trans, less_at_most, at_most_less}
+use Rattle.fractions.proofs.Laws.{less_iff, order, at_most_trans, less_at_most, at_most_less}
 use Rattle.marks.specs.Marks.{larger}
-use Rattle.marks.specs.Laws.{larger_least}
+use Rattle.marks.proofs.Laws.{larger_least}
 use Rattle.marks.specs.Pairs.{popup_value}
-use Rattle.marks.specs.PairLaws.{popup_grows, pair_popup}
+use Rattle.marks.proofs.PairLaws.{popup_grows, pair_popup}
 use Rattle.elimination.specs.declared.Record.{Record}
 use Rattle.elimination.specs.Marks.{Marks, Proper}
 use Rattle.elimination.specs.Process.{Removal, stays, gone, when}
-use Rattle.elimination.specs.RankOrder.{Stands, Found}
+use Rattle.elimination.proofs.RankOrder.{Stands, Found}
 use Rattle.elimination.specs.Records.{fraction_of}
 use Rattle.searching.specs.declared.Leader.{Leader}
 use Rattle.searching.specs.Rows.{row_number, row_popup, row_record, row_value, rows_touch, rows_pair, never, row_never, Stored}

@@ -10,9 +10,9 @@ use Rattle.fractions.specs.declared.Fraction.{Fraction}
 use Rattle.fractions.specs.Order.{Less, AtMost}
 use Rattle.marks.specs.declared.Label.{Label}
 use Rattle.marks.specs.Marks.{larger, apart, distance, touching_of}
-use Rattle.marks.specs.Laws.{distance_x, distance_y, distance_most, larger_least, larger_most}
+use Rattle.marks.proofs.Laws.{distance_x, distance_y, distance_most, larger_least, larger_most}
 use Rattle.marks.specs.Pairs.{popup_value, pair_of}
-use Rattle.marks.specs.PairLaws.{pair_positive, positive_pair, pair_least, pair_popup, pair_none}
+use Rattle.marks.proofs.PairLaws.{pair_positive, positive_pair, pair_least, pair_popup, pair_none}
 use Rattle.grid.specs.Laws.{same_place, apart_self}
 use Rattle.searching.specs.declared.Leader.{Leader}
 use Rattle.searching.specs.Rows.{row_label, row_popup, row_value, rows_touch, rows_pair}

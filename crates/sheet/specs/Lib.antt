@@ -1,7 +1,4 @@
 -- The questions of a whole sheet, what is known of an accepted one, and what the jobs give; then what follows from them.
 pub mod Questions
-pub mod Accepted
 pub mod Opened
 pub mod Assembled
-pub mod Laws
-pub mod Lemmas

@@ -1,3 +1,2 @@
 -- Read Text first: it is what the other crates say. Laws proves what follows from it.
 pub mod Text
-pub mod Laws

@@ -12,8 +12,8 @@ use mir.Val.{SFits, to_z, of_z}
 use mir.Facts.{to_z-of_z}
 use Rattle.turns.specs.Turns.{row_by_column}
 use Rattle.turns.specs.Small.{UpTo}
-use Rattle.turns.specs.Lemmas.Whole.{abs_times, abs_sum, mag_abs}
-use Rattle.turns.specs.Lemmas.Quarters.{up_to_grows}
+use Rattle.turns.proofs.Lemmas.Whole.{abs_times, abs_sum, mag_abs}
+use Rattle.turns.proofs.Lemmas.Quarters.{up_to_grows}
 
 fits_of : (z : ℤ) → nat_abs z ≤ 2147483647 → SFits w32 z
 fits_of z h = record { sfits = omega (arith, mag_abs z) }

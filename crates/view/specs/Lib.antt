@@ -1,4 +1,3 @@
 -- To be believed: View. Search says what the search down the index does; Lemmas are proofs.
 pub mod View
 pub mod Search
-pub mod Lemmas

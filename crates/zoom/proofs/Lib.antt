@@ -1,1 +1,3 @@
 pub mod Wheel
+pub mod Lemmas
+pub mod Laws

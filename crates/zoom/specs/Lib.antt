@@ -2,5 +2,3 @@
 pub mod Zoom
 pub mod Living
 pub mod Printed
-pub mod Lemmas
-pub mod Laws

@@ -8,15 +8,15 @@ use mathlib.Core.List.{List, map}
 use lib.ListN.{length, take, length-map}
 use lib.Seq.{length-take-le}
 use borrow.Author.Tests.{leb-true}
-use Rattle.lists.specs.TestLaws.{both_iff}
+use Rattle.lists.proofs.TestLaws.{both_iff}
 use Rattle.contents.specs.Contents.{together}
 use Rattle.contents.specs.Questions.{is_count}
 use Rattle.sheet.specs.Assembled.{number_of, length_of}
 use Rattle.jobs.specs.Jobs.{are_counted, assemble_job}
 use Rattle.jobs.specs.Answers.{Gives}
-use Rattle.jobs.specs.Theorems.{assemble_joins}
-use Rattle.jobs.specs.Laws.Given.{together_take, map_take}
-use Rattle.jobs.specs.Laws.Outcomes.{assemble_gives, assemble_uncounted, assemble_uncoded}
+use Rattle.jobs.proofs.Theorems.{assemble_joins}
+use Rattle.jobs.proofs.Laws.Given.{together_take, map_take}
+use Rattle.jobs.proofs.Laws.Outcomes.{assemble_gives, assemble_uncounted, assemble_uncoded}
 use Rattle.assembly.proofs.assemble.Goals as goal
 use Rattle.assembly.proofs.assemble.Goals.{Else-not-are_counted}
 

@@ -3,11 +3,11 @@ use mathlib.Core.Path.{◌≡◌, refl, sym, ◌∙◌}
 use mathlib.Core.List.{map}
 use Rattle.contents.specs.Contents.{together, marks_part}
 use Rattle.contents.specs.Asking.{answer}
-use Rattle.contents.specs.Laws.{append_yes, append_no}
+use Rattle.contents.proofs.Laws.{append_yes, append_no}
 use Rattle.parts.specs.Questions.{part1_questions}
 use Rattle.bodies.specs.Questions.{body_questions}
-use Rattle.parts.specs.Laws.{part1_numbered}
-use Rattle.parts.specs.Laws.{part1_iff}
+use Rattle.parts.proofs.Laws.{part1_numbered}
+use Rattle.parts.proofs.Laws.{part1_iff}
 use native.Mathlib.Omega.{arith}
 use borrow.Author.Rules.{rules}
 use Rattle.bodies.proofs.bodies_answer.Goals as goal

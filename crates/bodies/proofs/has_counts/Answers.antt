@@ -5,11 +5,11 @@ use mathlib.Core.Path.{◌≡◌, ap, ◌∙◌}
 use mathlib.Core.List.{map}
 use lib.ListN.{length, length-map}
 use Rattle.contents.specs.Contents.{together}
-use Rattle.contents.specs.Laws.{together_codes, six_with_two}
+use Rattle.contents.proofs.Laws.{together_codes, six_with_two}
 use Rattle.contents.specs.Contents.{names, has}
 use Rattle.bodies.specs.Questions.{count_of, question23}
-use Rattle.parts.specs.Laws.{popups_enough}
-use Rattle.bodies.specs.Lemmas.Fitting.{sizes_iff, popups_asked, popups_good}
+use Rattle.parts.proofs.Laws.{popups_enough}
+use Rattle.bodies.proofs.Lemmas.Fitting.{sizes_iff, popups_asked, popups_good}
 use native.Mathlib.Omega.{arith}
 use borrow.Author.Rules.{rules}
 use Rattle.bodies.proofs.has_counts.Goals as goal

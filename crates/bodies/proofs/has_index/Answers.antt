@@ -5,11 +5,11 @@ use mathlib.Core.Path.{◌≡◌, ap, ◌∙◌}
 use mathlib.Core.List.{map}
 use lib.ListN.{length, length-map}
 use Rattle.contents.specs.Contents.{together}
-use Rattle.contents.specs.Laws.{together_codes}
+use Rattle.contents.proofs.Laws.{together_codes}
 use Rattle.contents.specs.Contents.{names, has}
-use Rattle.contents.specs.Laws.{two_there}
+use Rattle.contents.proofs.Laws.{two_there}
 use Rattle.bodies.specs.Questions.{question9}
-use Rattle.bodies.specs.Lemmas.Fitting.{sizes_iff}
+use Rattle.bodies.proofs.Lemmas.Fitting.{sizes_iff}
 use native.Mathlib.Omega.{arith}
 use borrow.Author.Rules.{rules}
 use Rattle.bodies.proofs.has_index.Goals as goal

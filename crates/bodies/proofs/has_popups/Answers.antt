@@ -6,7 +6,7 @@ use mathlib.Core.List.{map}
 use borrow.Author.Rules.{rules}
 use lib.ListN.{length, length-map}
 use Rattle.contents.specs.Contents.{names}
-use Rattle.contents.specs.Laws.{together_codes}
+use Rattle.contents.proofs.Laws.{together_codes}
 use Rattle.bodies.specs.Questions.{question21}
 use Rattle.bodies.proofs.has_popups.Goals as goal
 

@@ -5,11 +5,11 @@ use mathlib.Core.Path.{◌≡◌, ap, ◌∙◌}
 use mathlib.Core.List.{map}
 use lib.ListN.{length, length-map}
 use Rattle.contents.specs.Contents.{together}
-use Rattle.contents.specs.Laws.{together_codes}
+use Rattle.contents.proofs.Laws.{together_codes}
 use Rattle.contents.specs.Contents.{names, has}
 use Rattle.parts.specs.Questions.{choice_in}
 use Rattle.bodies.specs.Questions.{count_of, edition_of, shape_of, question8}
-use Rattle.bodies.specs.Lemmas.Fitting.{sizes_iff, popups_asked, popups_good}
+use Rattle.bodies.proofs.Lemmas.Fitting.{sizes_iff, popups_asked, popups_good}
 use native.Mathlib.Omega.{arith}
 use borrow.Author.Rules.{rules}
 use Rattle.bodies.proofs.has_schedule.Goals as goal

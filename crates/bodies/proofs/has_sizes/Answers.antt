@@ -2,7 +2,7 @@
 use mathlib.Core.Path.{◌≡◌}
 use mathlib.Core.List.{map}
 use lib.ListN.{length, length-map}
-use Rattle.contents.specs.Laws.{together_codes}
+use Rattle.contents.proofs.Laws.{together_codes}
 use Rattle.bodies.specs.Questions.{question7}
 use native.Mathlib.Omega.{arith}
 use borrow.Author.Rules.{rules}

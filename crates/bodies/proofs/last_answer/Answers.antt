@@ -1,6 +1,6 @@
 -- `bodies::last_answer` meets its contract: the first of seven tests that fails gives the number. Assumes nothing.
 use mathlib.Core.Path.{sym, ◌∙◌}
-use Rattle.contents.specs.Laws.{none_asked, asked_yes, asked_no}
+use Rattle.contents.proofs.Laws.{none_asked, asked_yes, asked_no}
 use Rattle.bodies.specs.Questions.{last_questions, question19, question24}
 use borrow.Author.Rules.{rules}
 use Rattle.bodies.proofs.last_answer.Goals as goal

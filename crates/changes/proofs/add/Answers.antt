@@ -11,7 +11,7 @@ use mir.Val.{to_z, of_z}
 use Rattle.numbers.specs.Little.{le_bytes, Bytes}
 use Rattle.marks.specs.declared.Mark.{Mark}
 use Rattle.marks.specs.Marks.{mark_bytes}
-use Rattle.marks.specs.Fields.{FieldsFit}
+use Rattle.marks.proofs.Fields.{FieldsFit}
 use Rattle.changing.specs.Changing.{added, added_popup}
 use Rattle.contents.specs.Contents.{has, find, split, marks_part, edition_part, popups_part, shape_part}
 use Rattle.contents.specs.Asking.{answer}
@@ -19,13 +19,13 @@ use Rattle.contents.specs.Places.{cut_of, place_of, is_there}
 use Rattle.sheet.specs.declared.Opening.{Opening}
 use Rattle.sheet.specs.Opened.{indexed}
 use Rattle.sheet.specs.Questions.{sheet_count, check, indexed_questions}
-use Rattle.sheet.specs.Laws.{indexed_iff, indexed_number, indexed_layout, layout_part, layout_there}
+use Rattle.sheet.proofs.Laws.{indexed_iff, indexed_number, indexed_layout, layout_part, layout_there}
 use Rattle.jobs.specs.Jobs.{carried, is_new_popup, add_checks}
 use Rattle.jobs.specs.Answers.{fields}
-use Rattle.jobs.specs.Coming.{add_numbered, add_lent, add_popups_lent, add_whole}
-use Rattle.jobs.specs.Laws.Kept.{carried_lent, edition_short, shape_short}
-use Rattle.jobs.specs.Laws.Scheduling.{stopped, once_passed}
-use Rattle.jobs.specs.Laws.Changing.{add_refused, add_full, add_fields, add_popup, popup_no, popup_yes}
+use Rattle.jobs.proofs.Coming.{add_numbered, add_lent, add_popups_lent, add_whole}
+use Rattle.jobs.proofs.Laws.Kept.{carried_lent, edition_short, shape_short}
+use Rattle.jobs.proofs.Laws.Scheduling.{stopped, once_passed}
+use Rattle.jobs.proofs.Laws.Changing.{add_refused, add_full, add_fields, add_popup, popup_no, popup_yes}
 use Rattle.changes.proofs.add.Goals as goal
 use Rattle.changes.proofs.add.Goals.{After-is_there, Start}
 

@@ -4,13 +4,13 @@ use mathlib.Core.List.{append-nil}
 use native.Mathlib.Omega.{arith}
 use lib.ListN.{length}
 use Rattle.contents.specs.Contents.{has, split, marks_part, edition_part, popups_part, shape_part}
-use Rattle.contents.specs.Laws.{find_none}
+use Rattle.contents.proofs.Laws.{find_none}
 use Rattle.sheet.specs.Questions.{check_questions, check}
-use Rattle.sheet.specs.Laws.{check_numbered, accepted_iff, found_number, found_layout, found_part, layout_there}
+use Rattle.sheet.proofs.Laws.{check_numbered, accepted_iff, found_number, found_layout, found_part, layout_there}
 use Rattle.jobs.specs.Jobs.{kept_parts}
-use Rattle.jobs.specs.Theorems.{schedule_meets}
-use Rattle.jobs.specs.Laws.Kept.{carried_lent, edition_short, shape_short, popups_lent}
-use Rattle.jobs.specs.Laws.Scheduling.{stopped, once_passed}
+use Rattle.jobs.proofs.Theorems.{schedule_meets}
+use Rattle.jobs.proofs.Laws.Kept.{carried_lent, edition_short, shape_short, popups_lent}
+use Rattle.jobs.proofs.Laws.Scheduling.{stopped, once_passed}
 use Rattle.changes.proofs.schedule.Goals as goal
 use Rattle.changes.proofs.schedule.Goals.{After-is_there}
 

@@ -12,12 +12,12 @@ use Rattle.contents.specs.Places.{cut_of, place_of, is_there}
 use Rattle.sheet.specs.declared.Opening.{Opening}
 use Rattle.sheet.specs.Opened.{indexed}
 use Rattle.sheet.specs.Questions.{sheet_count, check, indexed_questions}
-use Rattle.sheet.specs.Laws.{indexed_iff, indexed_number, indexed_layout, layout_part, layout_there}
+use Rattle.sheet.proofs.Laws.{indexed_iff, indexed_number, indexed_layout, layout_part, layout_there}
 use Rattle.jobs.specs.Jobs.{carried, take_out_checks}
-use Rattle.jobs.specs.Coming.{take_out_numbered, take_out_iff, take_out_lent, take_out_popups_lent, take_out_meets}
-use Rattle.jobs.specs.Laws.Kept.{carried_lent, edition_short, shape_short}
-use Rattle.jobs.specs.Laws.Scheduling.{stopped, once_passed}
-use Rattle.jobs.specs.Laws.Changing.{take_out_refused, take_out_none, lent_pieces}
+use Rattle.jobs.proofs.Coming.{take_out_numbered, take_out_iff, take_out_lent, take_out_popups_lent, take_out_meets}
+use Rattle.jobs.proofs.Laws.Kept.{carried_lent, edition_short, shape_short}
+use Rattle.jobs.proofs.Laws.Scheduling.{stopped, once_passed}
+use Rattle.jobs.proofs.Laws.Changing.{take_out_refused, take_out_none, lent_pieces}
 use Rattle.changes.proofs.take_out.Goals as goal
 use Rattle.changes.proofs.take_out.Goals.{After-is_there}
 

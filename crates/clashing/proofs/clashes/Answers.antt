@@ -4,7 +4,7 @@ use mathlib.Core.Bool.{Bool, true, false, not, ◌&&◌}
 use native.Mathlib.Omega.{arith}
 use lib.Dec.{eqb}
 use Rattle.clashing.specs.Clash.{clash}
-use Rattle.clashing.specs.Laws.Clash.{limit_small}
+use Rattle.clashing.proofs.Laws.Clash.{limit_small}
 use Rattle.clashing.proofs.clashes.Goals as goal
 
 and_false : (b : Bool) → false ≡ b && false

@@ -5,9 +5,9 @@ use mathlib.Core.Bool.{false}
 use borrow.Author.Tests.{eq-eqb, ne_eqb, not-true, not-false}
 use Rattle.fractions.specs.Order.{less, Small}
 use Rattle.marks.specs.Pairs.{pair_value}
-use Rattle.marks.specs.PairLaws.{pairs_positive, good_popup}
+use Rattle.marks.proofs.PairLaws.{pairs_positive, good_popup}
 use Rattle.clashing.specs.Clash.{limit_at, clash}
-use Rattle.clashing.specs.Laws.Clash.{limit_small, tie_named}
+use Rattle.clashing.proofs.Laws.Clash.{limit_small, tie_named}
 use Rattle.clashing.proofs.clashes_standing.Goals as goal
 use Rattle.clashing.proofs.clashes_standing.Goals.{After-pair_with-f}
 

@@ -3,8 +3,8 @@ use mathlib.Core.Path.{◌≡◌, ap₂, ◌∙◌}
 use borrow.Author.Rules.{rules}
 use Rattle.marks.specs.Marks.{larger, touching_of, touching}
 use Rattle.marks.specs.Pairs.{pair_of, pair_value}
-use Rattle.marks.specs.Laws.{larger_most}
-use Rattle.marks.specs.PairLaws.{unpopped}
+use Rattle.marks.proofs.Laws.{larger_most}
+use Rattle.marks.proofs.PairLaws.{unpopped}
 use Rattle.clashing.proofs.pair_with.Goals as goal
 use Rattle.clashing.proofs.pair_with.Goals.{After-touching_of-touch}
 

@@ -4,7 +4,7 @@ use native.Mathlib.Nat.{mul-le-mul}
 use native.Mathlib.Omega.{arith}
 use borrow.Author.Rules.{rules}
 use Rattle.clashing.specs.Cuts.{size_to_search}
-use Rattle.clashing.specs.Laws.Cuts.{gap_small, place_small}
+use Rattle.clashing.proofs.Laws.Cuts.{gap_small, place_small}
 use Rattle.clashing.proofs.size_to_search.Goals as goal
 
 pub overflow_mul-edge : goal.overflow_mul-edge

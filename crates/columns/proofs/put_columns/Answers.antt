@@ -8,8 +8,8 @@ use lib.ListN.{length}
 use Rattle.numbers.specs.Little.{le_at}
 use Rattle.columns.specs.Columns.{in_marks, places_by, differences, field, to_columns}
 use Rattle.columns.specs.Steps.{columns_of, filled_to, Kept}
-use Rattle.columns.specs.Lemmas.Writing.{kept_none, kept_more, difference}
-use Rattle.columns.specs.Lemmas.Beside.{filled_none, filled_all, entered_more, filled_length}
+use Rattle.columns.proofs.Lemmas.Writing.{kept_none, kept_more, difference}
+use Rattle.columns.proofs.Lemmas.Beside.{filled_none, filled_all, entered_more, filled_length}
 use Rattle.columns.proofs.put_columns.Goals as goal
 
 pub loop-m-init : goal.loop-m-init

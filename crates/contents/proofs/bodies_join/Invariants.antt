@@ -8,7 +8,7 @@ use native.Mathlib.Numerals.{add-one}
 use lib.Dec.{eqb}
 use borrow.Author.Tests.{eq-eqb, ne_eqb}
 use Rattle.lists.specs.Tests.{every}
-use Rattle.lists.specs.TestLaws.{every_more, every_not}
+use Rattle.lists.proofs.TestLaws.{every_more, every_not}
 use Rattle.contents.specs.Contents.{count_at, offset_at, start_at}
 use Rattle.contents.specs.Questions.{question3}
 use Rattle.contents.proofs.bodies_join.Given as goal

@@ -2,7 +2,7 @@
 use mathlib.Core.Path.{ap, ◌∙◌}
 use borrow.Author.Rules.{rules}
 use Rattle.contents.specs.Places.{cut_of}
-use Rattle.contents.specs.Lemmas.Places.{cut_body}
+use Rattle.contents.proofs.Lemmas.Places.{cut_body}
 use Rattle.contents.proofs.body.Goals as goal
 
 pub returns : goal.returns

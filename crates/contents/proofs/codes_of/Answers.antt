@@ -6,8 +6,8 @@ use lib.ListN.{length-map}
 use lib.Seq.{take-length}
 use Rattle.contents.specs.Contents.{codes_of, count_at, split}
 use Rattle.contents.specs.Questions.{top_code}
-use Rattle.contents.specs.Lemmas.Parts.{split_length, split_code}
-use Rattle.contents.specs.Lemmas.Filled.{fill_turn}
+use Rattle.contents.proofs.Lemmas.Parts.{split_length, split_code}
+use Rattle.contents.proofs.Lemmas.Filled.{fill_turn}
 use native.Mathlib.Omega.{arith}
 use borrow.Author.Rules.{rules}
 use Rattle.contents.proofs.codes_of.Goals as goal

@@ -2,8 +2,8 @@
 use borrow.Author.Rules.{rules}
 use mathlib.Core.Path.{sym, ◌∙◌}
 use Rattle.contents.specs.Questions.{contents_questions}
-use Rattle.contents.specs.Lemmas.Asked.{none_asked, asked_yes, asked_no}
-use Rattle.contents.specs.Lemmas.Laid.{whole_iff}
+use Rattle.contents.proofs.Lemmas.Asked.{none_asked, asked_yes, asked_no}
+use Rattle.contents.proofs.Lemmas.Laid.{whole_iff}
 use Rattle.contents.proofs.contents_answer.Goals as goal
 
 pub returns-then-not-has_contents : goal.returns-then-not-has_contents

@@ -6,7 +6,7 @@ use native.Mathlib.Omega.{arith}
 use lib.ListN.{length, drop, length-map}
 use borrow.Author.Rules.{rules}
 use Rattle.contents.specs.Contents.{find, together}
-use Rattle.contents.specs.Lemmas.Parts.{find_found, find_passed, find_past}
+use Rattle.contents.proofs.Lemmas.Parts.{find_found, find_passed, find_past}
 use Rattle.contents.proofs.find.Given as goal
 
 abbrev pub invariant-loop-i : goal.invariant-loop-i

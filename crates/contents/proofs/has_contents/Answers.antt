@@ -8,7 +8,7 @@ use borrow.Author.Rules.{rules}
 use borrow.Author.Tests.{le-leb, lt-leb}
 use Rattle.contents.specs.Contents.{count_at}
 use Rattle.contents.specs.Questions.{top_code, is_count, question1}
-use Rattle.contents.specs.Lemmas.Laid.{count_iff}
+use Rattle.contents.proofs.Lemmas.Laid.{count_iff}
 use Rattle.contents.proofs.has_contents.Goals as goal
 use Rattle.contents.proofs.has_contents.Goals.{Then-is_count}
 

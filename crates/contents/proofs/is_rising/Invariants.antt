@@ -3,7 +3,7 @@ use Prim.Native.Nat.{◌-◌, ◌≤◌}
 use mathlib.Core.Path.{◌≡◌, refl, sym, ◌∙◌}
 use lib.ListN.{length, drop}
 use Rattle.contents.specs.Questions.{rising}
-use Rattle.contents.specs.Lemmas.Codes.{rising_on, rising_stops, rising_past}
+use Rattle.contents.proofs.Lemmas.Codes.{rising_on, rising_stops, rising_past}
 use native.Mathlib.Omega.{arith}
 use borrow.Author.Rules.{rules}
 use Rattle.contents.proofs.is_rising.Given as goal

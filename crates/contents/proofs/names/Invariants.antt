@@ -3,7 +3,7 @@ use Prim.Native.Nat.{◌-◌, ◌≤◌}
 use mathlib.Core.Path.{◌≡◌, refl, sym, ◌∙◌}
 use lib.ListN.{length, drop}
 use Rattle.contents.specs.Contents.{names}
-use Rattle.contents.specs.Lemmas.Parts.{names_found, names_passed, names_past}
+use Rattle.contents.proofs.Lemmas.Parts.{names_found, names_passed, names_past}
 use native.Mathlib.Omega.{arith}
 use borrow.Author.Rules.{rules}
 use Rattle.contents.proofs.names.Given as goal

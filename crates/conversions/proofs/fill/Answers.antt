@@ -4,12 +4,12 @@ use mathlib.Core.Path.{◌≡◌, refl, sym, ◌∙◌}
 use native.Mathlib.Omega.{arith}
 use Rattle.contents.specs.Asking.{answer}
 use Rattle.parts.specs.Questions.{mark_count, part1_questions}
-use Rattle.parts.specs.Laws.{part1_numbered, part1_iff}
+use Rattle.parts.proofs.Laws.{part1_numbered, part1_iff}
 use Rattle.filling.specs.Filling.{filled, fill_questions}
-use Rattle.filling.specs.Theorems.{filled_length}
+use Rattle.filling.proofs.Theorems.{filled_length}
 use Rattle.jobs.specs.Jobs.{fill_job}
-use Rattle.jobs.specs.Laws.Rooms.{stopped, no_room, wrote}
-use Rattle.jobs.specs.Laws.Filling.{fill_whole}
+use Rattle.jobs.proofs.Laws.Rooms.{stopped, no_room, wrote}
+use Rattle.jobs.proofs.Laws.Filling.{fill_whole}
 use Rattle.conversions.proofs.fill.Goals as goal
 use Rattle.conversions.proofs.fill.Goals.{Else-number-ne0}
 

@@ -5,10 +5,10 @@ use native.Mathlib.Omega.{arith}
 use Rattle.contents.specs.Asking.{answer}
 use Rattle.logs.specs.Log.{record_count, marks_of_log}
 use Rattle.logs.specs.Questions.{log_checks, log_questions}
-use Rattle.logs.specs.Theorems.{log_numbered, log_right, marks_length}
+use Rattle.logs.proofs.Theorems.{log_numbered, log_right, marks_length}
 use Rattle.jobs.specs.Jobs.{log_to_marks_job}
-use Rattle.jobs.specs.Laws.Rooms.{stopped, no_room, wrote}
-use Rattle.jobs.specs.Laws.Logs.{log_whole}
+use Rattle.jobs.proofs.Laws.Rooms.{stopped, no_room, wrote}
+use Rattle.jobs.proofs.Laws.Logs.{log_whole}
 use Rattle.conversions.proofs.log_to_marks.Goals as goal
 use Rattle.conversions.proofs.log_to_marks.Goals.{Else-number-ne0}
 

@@ -4,13 +4,13 @@ use mathlib.Core.Path.{◌≡◌, refl, sym, ◌∙◌}
 use native.Mathlib.Omega.{arith}
 use Rattle.contents.specs.Asking.{answer}
 use Rattle.parts.specs.Questions.{mark_count, part1_questions}
-use Rattle.parts.specs.Laws.{part1_numbered, part1_iff}
+use Rattle.parts.proofs.Laws.{part1_numbered, part1_iff}
 use Rattle.logs.specs.Log.{log_of_marks}
 use Rattle.logs.specs.Questions.{marks_questions}
-use Rattle.logs.specs.Theorems.{log_length}
+use Rattle.logs.proofs.Theorems.{log_length}
 use Rattle.jobs.specs.Jobs.{marks_to_log_job}
-use Rattle.jobs.specs.Laws.Rooms.{stopped, no_room, wrote}
-use Rattle.jobs.specs.Laws.Logs.{marks_whole}
+use Rattle.jobs.proofs.Laws.Rooms.{stopped, no_room, wrote}
+use Rattle.jobs.proofs.Laws.Logs.{marks_whole}
 use Rattle.conversions.proofs.marks_to_log.Goals as goal
 use Rattle.conversions.proofs.marks_to_log.Goals.{Else-number-ne0}
 

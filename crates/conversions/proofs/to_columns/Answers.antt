@@ -3,12 +3,12 @@ use Prim.Native.Nat.{◌*◌}
 use mathlib.Core.Path.{◌≡◌, refl, sym, ◌∙◌}
 use native.Mathlib.Omega.{arith}
 use Rattle.columns.specs.Columns.{to_columns}
-use Rattle.columns.specs.Theorems.{to_length}
+use Rattle.columns.proofs.Theorems.{to_length}
 use Rattle.contents.specs.Asking.{answer}
 use Rattle.parts.specs.Questions.{mark_count}
 use Rattle.jobs.specs.Jobs.{column_checks, column_questions, to_columns_job}
-use Rattle.jobs.specs.Laws.Rooms.{stopped, no_room, wrote}
-use Rattle.jobs.specs.Laws.Archiving.{column_numbered, taken_asked, refused_asked, few_marks, columns_whole}
+use Rattle.jobs.proofs.Laws.Rooms.{stopped, no_room, wrote}
+use Rattle.jobs.proofs.Laws.Archiving.{column_numbered, taken_asked, refused_asked, few_marks, columns_whole}
 use Rattle.conversions.proofs.to_columns.Goals as goal
 use Rattle.conversions.proofs.to_columns.Goals.{Else-not-is_marks}
 

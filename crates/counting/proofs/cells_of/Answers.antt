@@ -2,9 +2,9 @@
 use Prim.Native.Nat.{ℕ, min}
 use mathlib.Core.Path.{ap, ap₂, ◌∙◌}
 use native.Mathlib.Omega.{arith}
-use Rattle.marks.specs.Laws.{kind_group_few}
+use Rattle.marks.proofs.Laws.{kind_group_few}
 use Rattle.marks.specs.Marks.{kind_group, group_number}
-use Rattle.counting.specs.Lemmas.Stops.{stops_most}
+use Rattle.counting.proofs.Lemmas.Stops.{stops_most}
 use Rattle.counting.specs.Steps.{stops_lived, begin_cell, end_cell}
 use borrow.Author.Rules.{rules}
 use Rattle.counting.proofs.cells_of.Goals as goal

@@ -7,9 +7,9 @@ use borrow.Author.Tests.{eq-eqb, ne_eqb}
 use lib.Dec.{eqb}
 use lib.ListN.{length}
 use Rattle.lists.specs.Tests.{every}
-use Rattle.lists.specs.TestLaws.{and_both, and_no, every_more, every_not}
+use Rattle.lists.proofs.TestLaws.{and_both, and_no, every_more, every_not}
 use Rattle.counting.specs.Counts.{counts_of, is_counts}
-use Rattle.counting.specs.Lemmas.Bytes.{same_at}
+use Rattle.counting.proofs.Lemmas.Bytes.{same_at}
 use Rattle.counting.proofs.is_counts.Given as goal
 
 abbrev pub invariant-loop-i : goal.invariant-loop-i

@@ -7,7 +7,7 @@ use borrow.Author.Rules.{rules}
 use Rattle.fractions.specs.declared.Value.TheVariants.{At}
 use Rattle.marks.specs.Pairs.{popup_value}
 use Rattle.counting.specs.Steps.{stops_lived}
-use Rattle.counting.specs.Lemmas.Stops.{popup_none_stop}
+use Rattle.counting.proofs.Lemmas.Stops.{popup_none_stop}
 use Rattle.counting.proofs.popup_stop.Goals as goal
 
 pub returns-then-popups-eq0 : goal.returns-then-popups-eq0

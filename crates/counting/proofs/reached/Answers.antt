@@ -5,7 +5,7 @@ use native.Mathlib.Omega.{arith}
 use borrow.Author.Rules.{rules}
 use borrow.Author.Tests.{ltb-true, ltb-false}
 use Rattle.counting.specs.Steps.{stops_lived}
-use Rattle.counting.specs.Lemmas.Stops.{stops_most, shifted_lives}
+use Rattle.counting.proofs.Lemmas.Stops.{stops_most, shifted_lives}
 use Rattle.counting.proofs.reached.Goals as goal
 
 pub overflow_add-next : goal.overflow_add-next

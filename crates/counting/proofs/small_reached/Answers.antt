@@ -6,7 +6,7 @@ use borrow.Author.Rules.{rules}
 use borrow.Author.Tests.{lt-ltb, le-ltb, ltb-true, ltb-false, le-leb, lt-leb}
 use Rattle.fractions.specs.declared.Value.TheVariants.{At}
 use Rattle.counting.specs.Steps.{stops_lived}
-use Rattle.counting.specs.Lemmas.Stops.{small_lives}
+use Rattle.counting.proofs.Lemmas.Stops.{small_lives}
 use Rattle.counting.proofs.small_reached.Goals as goal
 
 pub returns-then-zoom-f : goal.returns-then-zoom-f

@@ -5,7 +5,7 @@ use native.Mathlib.Omega.{arith}
 use borrow.Author.Rules.{rules}
 use Rattle.fractions.specs.declared.Value.TheVariants.{At}
 use Rattle.counting.specs.Steps.{stops_lived, step_to}
-use Rattle.counting.specs.Lemmas.Stops.{stops_most, step_most, five_steps}
+use Rattle.counting.proofs.Lemmas.Stops.{stops_most, step_most, five_steps}
 use Rattle.counting.proofs.small_stops.Goals as goal
 use Rattle.counting.proofs.small_stops.Goals.{Start}
 

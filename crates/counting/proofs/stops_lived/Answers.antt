@@ -2,7 +2,7 @@
 use mathlib.Core.Path.{sym, ap, ◌∙◌}
 use borrow.Author.Rules.{rules}
 use Rattle.counting.specs.Steps.{stops_lived}
-use Rattle.counting.specs.Lemmas.Stops.{never_goes}
+use Rattle.counting.proofs.Lemmas.Stops.{never_goes}
 use Rattle.counting.proofs.stops_lived.Goals as goal
 
 pub returns-in-Never : goal.returns-in-Never

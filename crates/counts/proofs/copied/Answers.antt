@@ -2,8 +2,8 @@
 use mathlib.Core.Path.{refl}
 use mathlib.Core.List.{[]}
 use lib.ListN.{length}
-use Rattle.contents.specs.Laws.{none_asked}
-use Rattle.jobs.specs.Laws.Rooms.{no_room, wrote}
+use Rattle.contents.proofs.Laws.{none_asked}
+use Rattle.jobs.proofs.Laws.Rooms.{no_room, wrote}
 use Rattle.counts.proofs.copied.Goals as goal
 
 pub returns-then-out-length : goal.returns-then-out-length

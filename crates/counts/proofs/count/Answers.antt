@@ -6,10 +6,10 @@ use native.Mathlib.Omega.{arith}
 use Rattle.contents.specs.Contents.{has, split}
 use Rattle.contents.specs.Places.{is_there}
 use Rattle.sheet.specs.Questions.{check}
-use Rattle.sheet.specs.Laws.{found_number, found_layout, layout_there}
+use Rattle.sheet.proofs.Laws.{found_number, found_layout, layout_there}
 use Rattle.jobs.specs.Jobs.{with_own_counts}
-use Rattle.jobs.specs.Laws.Counting.{counted_same}
-use Rattle.jobs.specs.Laws.Counted.{count_whole, count_refused, count_unscheduled, count_roomed, sheet_small}
+use Rattle.jobs.proofs.Laws.Counting.{counted_same}
+use Rattle.jobs.proofs.Laws.Counted.{count_whole, count_refused, count_unscheduled, count_roomed, sheet_small}
 use Rattle.counts.proofs.count.Goals as goal
 use Rattle.counts.proofs.count.Goals.{Else-number-ne0}
 

@@ -8,15 +8,15 @@ use native.Mathlib.Omega.{arith}
 use lib.ListN.{length, take, drop, length-drop}
 use lib.Seq.{length-take-le}
 use Rattle.numbers.specs.Little.{Bytes}
-use Rattle.counting.specs.Laws.{counts_length}
+use Rattle.counting.proofs.Laws.{counts_length}
 use Rattle.contents.specs.Contents.{has, find, split, contents_size, shape_part}
 use Rattle.contents.specs.Places.{place_of, cut_of, is_there}
-use Rattle.contents.specs.Laws.{none_asked}
-use Rattle.sheet.specs.Laws.{layout_part, layout_there}
+use Rattle.contents.proofs.Laws.{none_asked}
+use Rattle.sheet.proofs.Laws.{layout_part, layout_there}
 use Rattle.jobs.specs.Jobs.{with_own_counts}
 use Rattle.jobs.specs.Steps.{codes_from}
-use Rattle.jobs.specs.Laws.Rooms.{no_room, wrote}
-use Rattle.jobs.specs.Laws.Counted.{counted_long, counted_small, count_ready, count_own, bodies_within, counted_written}
+use Rattle.jobs.proofs.Laws.Rooms.{no_room, wrote}
+use Rattle.jobs.proofs.Laws.Counted.{counted_long, counted_small, count_ready, count_own, bodies_within, counted_written}
 use Rattle.counts.proofs.put_counted.Goals as goal
 use Rattle.counts.proofs.put_counted.Goals.{After-is_there-has_shape, After-put_head-start, Start}
 

@@ -4,9 +4,9 @@ use mathlib.Core.Path.{◌≡◌, ap, ◌∙◌}
 use lib.ListN.{length}
 use lib.Seq.{sets, length-sets}
 use Rattle.rows.specs.Rows.{rows}
-use Rattle.rows.specs.Laws.{rows_none, rows_more}
+use Rattle.rows.proofs.Laws.{rows_none, rows_more}
 use Rattle.filling.specs.Filling.{filled_mark}
-use Rattle.filling.specs.Lemmas.Filled.{mark_length}
+use Rattle.filling.proofs.Lemmas.Filled.{mark_length}
 use native.Mathlib.Omega.{arith}
 use Rattle.filling.proofs.fill.Goals as goal
 

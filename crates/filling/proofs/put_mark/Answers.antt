@@ -1,7 +1,7 @@
 -- `filling::put_mark` meets its contract: three pieces of the mark, one behind the other. Assumes nothing.
 use mathlib.Core.Path.{ap₂, ◌∙◌}
 use Rattle.filling.specs.Filling.{filled_radius}
-use Rattle.filling.specs.Lemmas.Filled.{mark_put}
+use Rattle.filling.proofs.Lemmas.Filled.{mark_put}
 use borrow.Author.Rules.{rules}
 use Rattle.filling.proofs.put_mark.Goals as goal
 

@@ -3,7 +3,7 @@ use mathlib.Core.Path.{refl}
 use borrow.Author.Rules.{rules}
 use native.Mathlib.Omega.{arith}
 use Rattle.fractions.specs.Order.{less}
-use Rattle.fractions.specs.Laws.{small_cross}
+use Rattle.fractions.proofs.Laws.{small_cross}
 use Rattle.fractions.proofs.less_small.Goals as goal
 
 pub overflow_mul-result : goal.overflow_mul-result

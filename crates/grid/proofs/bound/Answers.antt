@@ -7,7 +7,7 @@ use mir.Facts.{to_z-of_z}
 use mir.Syntax.{w16, w32}
 use lib.IntN.{nat_abs}
 use Rattle.marks.specs.Marks.{distance}
-use Rattle.marks.specs.Laws.{distance_bound}
+use Rattle.marks.proofs.Laws.{distance_bound}
 use borrow.Author.Rules.{sfits_of}
 use borrow.Author.Rules.{rules}
 use Rattle.grid.proofs.bound.Goals as goal

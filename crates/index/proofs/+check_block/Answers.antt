@@ -4,7 +4,7 @@ use Prim.Native.Nat.{ℕ, ◌<◌}
 use native.Mathlib.Omega.{arith}
 use Rattle.index.specs.Valid.{valid, is_tree}
 use Rattle.index.specs.Check.{finding_of, span_of}
-use Rattle.index.specs.Lemmas.Findings.{finding_made, checkable_left, checkable_right, root_marked, root_scheduled}
+use Rattle.index.proofs.Lemmas.Findings.{finding_made, checkable_left, checkable_right, root_marked, root_scheduled}
 use Rattle.index.proofs.+check_block.Goals as goal
 
 pub returns-then-size-eq0 : goal.returns-then-size-eq0

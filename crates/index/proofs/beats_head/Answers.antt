@@ -3,7 +3,7 @@ use native.Mathlib.Omega.{arith}
 use borrow.Author.Rules.{rules}
 use Rattle.index.specs.Index.{beats}
 use Rattle.index.specs.Blocks.{entry_at}
-use Rattle.index.specs.Lemmas.Blocks.{heads_block}
+use Rattle.index.proofs.Lemmas.Blocks.{heads_block}
 use Rattle.index.proofs.beats_head.Goals as goal
 
 pub beats-requires : goal.beats-requires

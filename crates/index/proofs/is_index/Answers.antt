@@ -4,7 +4,7 @@ use mathlib.Core.Path.{sym, ◌∙◌}
 use native.Mathlib.Omega.{arith}
 use mathlib.Core.Bool.{false≢true}
 use borrow.Author.Rules.{rules}
-use Rattle.index.specs.Lemmas.Question9.{checkable_whole, whole_is, whole_not}
+use Rattle.index.proofs.Lemmas.Question9.{checkable_whole, whole_is, whole_not}
 use Rattle.index.proofs.is_index.Goals as goal
 
 pub check_block-found-requires : goal.check_block-found-requires

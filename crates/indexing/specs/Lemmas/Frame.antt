@@ -2,10 +2,10 @@
 use Rattle.std.specs.Prelude.{ℕ, ◌+◌, ◌*◌, ◌≤◌, ◌≡◌, List}
 use Rattle.std.proofs.Common.{arith}
 use Rattle.lists.specs.Stores.{Clear}
-use Rattle.lists.specs.StoreLaws.{kept_none, kept_wide, kept_then, kept_take, kept_cut}
+use Rattle.lists.proofs.StoreLaws.{kept_none, kept_wide, kept_then, kept_take, kept_cut}
 use Rattle.lists.specs.Blocks.{block}
-use Rattle.lists.specs.BlockLaws.{block_same}
-use Rattle.numbers.specs.Laws.{number_kept}
+use Rattle.lists.proofs.BlockLaws.{block_same}
+use Rattle.numbers.proofs.Laws.{number_kept}
 use Rattle.indexing.specs.Buffer.{marks_in, schedule_in, member_at}
 use Rattle.indexing.specs.Steps.{Elsewhere}
 

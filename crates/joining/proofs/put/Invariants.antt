@@ -6,7 +6,7 @@ use native.Mathlib.Nat.{add-zero}
 use native.Mathlib.Omega.{arith}
 use lib.ListN.{length, drop, length-set, drop_of_length-le}
 use lib.Seq.{sets}
-use Rattle.lists.specs.StoreLaws.{sets_turn}
+use Rattle.lists.proofs.StoreLaws.{sets_turn}
 use Rattle.joining.proofs.put.Given as goal
 
 abbrev pub invariant-loop-j : goal.invariant-loop-j

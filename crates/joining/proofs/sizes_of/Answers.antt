@@ -7,7 +7,7 @@ use lib.ListN.{length-map}
 use lib.Seq.{take-length}
 use Rattle.contents.specs.Contents.{sizes_of}
 use Rattle.contents.specs.Questions.{top_code}
-use Rattle.contents.specs.Laws.{fill_turn}
+use Rattle.contents.proofs.Laws.{fill_turn}
 use Rattle.joining.specs.Writing.{size_at}
 use native.Mathlib.Omega.{arith}
 use borrow.Author.Rules.{rules}

@@ -8,9 +8,9 @@ use Rattle.contents.specs.Asking.{answer}
 use Rattle.contents.specs.Places.{layout_of, place_of, cut_of}
 use Rattle.parts.specs.Questions.{choice_in}
 use Rattle.sheet.specs.Questions.{indexed_questions}
-use Rattle.sheet.specs.Laws.{indexed_iff, layout_part}
+use Rattle.sheet.proofs.Laws.{indexed_iff, layout_part}
 use Rattle.jobs.specs.Jobs.{question22}
-use Rattle.jobs.specs.Laws.Judging.{judgeable}
+use Rattle.jobs.proofs.Laws.Judging.{judgeable}
 use Rattle.judgement.proofs.is_ours.Goals as goal
 
 -- a part that was cut out is the sheet's

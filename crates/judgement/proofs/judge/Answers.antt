@@ -6,12 +6,13 @@ use native.Mathlib.Omega.{arith}
 use Rattle.numbers.specs.Little.{Bytes}
 use Rattle.contents.specs.Asking.{answer}
 use Rattle.sheet.specs.Questions.{indexed_questions}
-use Rattle.sheet.specs.Laws.{indexed_number, indexed_layout}
+use Rattle.sheet.proofs.Laws.{indexed_number, indexed_layout}
 use Rattle.jobs.specs.declared.Answer.{Answer}
 use Rattle.jobs.specs.Answers.{answer_of}
 use Rattle.jobs.specs.Jobs.{judge_job}
-use Rattle.jobs.specs.Judged.{MeetsJudging, judge_meets}
-use Rattle.jobs.specs.Laws.Judging.{judge_refused, judge_no, judge_yes}
+use Rattle.jobs.specs.Judged.{MeetsJudging}
+use Rattle.jobs.proofs.Judged.{judge_meets}
+use Rattle.jobs.proofs.Laws.Judging.{judge_refused, judge_no, judge_yes}
 use Rattle.judgement.proofs.judge.Goals as goal
 use Rattle.judgement.proofs.judge.Goals.{Else-number-ne0}
 

@@ -6,7 +6,7 @@ use mathlib.Core.Path.{refl, ap, ◌∙◌}
 use mathlib.Core.Bool.{true, false}
 use lib.ListN.{length-set}
 use Rattle.index.specs.Index.{coordinate}
-use Rattle.judging.specs.Lemmas.Filling.{filled_none, fill_left, fill_right, corner_small, filled_node}
+use Rattle.judging.proofs.Lemmas.Filling.{filled_none, fill_left, fill_right, corner_small, filled_node}
 use Rattle.judging.proofs.+fill.Goals as goal
 
 pub returns-then-size-eq0 : goal.returns-then-size-eq0

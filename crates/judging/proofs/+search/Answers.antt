@@ -6,9 +6,9 @@ use mathlib.Core.Path.{sym, ◌∙◌}
 use mathlib.Core.Bool.{Bool, true, false}
 use mathlib.Core.Logic.{◌≢◌}
 use borrow.Author.Tests.{not-true, not-false}
-use Rattle.clashing.specs.Laws.Clash.{limit_small}
+use Rattle.clashing.proofs.Laws.Clash.{limit_small}
 use Rattle.judging.specs.Search.{Searched}
-use Rattle.judging.specs.Lemmas.Search.{still_there, searched_none, root_below, searched_over, searched_root, half_call, searched_half, searched_both}
+use Rattle.judging.proofs.Lemmas.Search.{still_there, searched_none, root_below, searched_over, searched_root, half_call, searched_half, searched_both}
 use Rattle.judging.proofs.+search.Goals as goal
 use Rattle.judging.proofs.+search.Goals.{After-size_to_search-right}
 

@@ -5,7 +5,7 @@ use mathlib.Core.Path.{◌≡◌, refl, sym}
 use mathlib.Core.Bool.{true}
 use native.Mathlib.Omega.{arith}
 use Rattle.lists.specs.Tests.{every}
-use Rattle.lists.specs.TestLaws.{every_not, every_more}
+use Rattle.lists.proofs.TestLaws.{every_not, every_more}
 use Rattle.judging.specs.Search.{is_clear, all_clear}
 use Rattle.judging.proofs.all_clear.Goals as goal
 

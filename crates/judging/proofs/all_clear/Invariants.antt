@@ -4,7 +4,7 @@ use mathlib.Core.Path.{◌≡◌, refl, sym}
 use mathlib.Core.Bool.{true}
 use native.Mathlib.Omega.{arith}
 use Rattle.lists.specs.Tests.{every}
-use Rattle.lists.specs.TestLaws.{said_no, said_yes, every_not, every_more}
+use Rattle.lists.proofs.TestLaws.{said_no, said_yes, every_not, every_more}
 use Rattle.judging.specs.Search.{is_clear, all_clear}
 use Rattle.judging.proofs.all_clear.Given as goal
 

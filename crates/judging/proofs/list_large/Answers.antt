@@ -5,7 +5,7 @@ use native.Mathlib.Omega.{arith}
 use lib.Dec.{ltb}
 use lib.ListN.{length, length-set}
 use Rattle.judging.specs.Search.{most_large, Listed}
-use Rattle.judging.specs.Lemmas.Listing.{listed_none, listed_more, advanced_most}
+use Rattle.judging.proofs.Lemmas.Listing.{listed_none, listed_more, advanced_most}
 use Rattle.judging.proofs.list_large.Goals as goal
 
 pub loop-m-init : goal.loop-m-init

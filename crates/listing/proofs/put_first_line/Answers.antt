@@ -4,8 +4,8 @@ use native.Mathlib.Omega.{arith}
 use lib.ListN.{length-set}
 use borrow.Author.Rules.{rules}
 use Rattle.text.specs.Text.{Wrote}
-use Rattle.text.specs.Laws.{wrote_length}
-use Rattle.listing.specs.Laws.{first_line}
+use Rattle.text.proofs.Laws.{wrote_length}
+use Rattle.listing.proofs.Laws.{first_line}
 use Rattle.listing.proofs.put_first_line.Goals as goal
 use Rattle.listing.proofs.put_first_line.Goals.{After-put-next}
 

@@ -6,7 +6,7 @@ use native.Mathlib.Omega.{arith}
 use lib.ListN.{length}
 use borrow.Author.Rules.{rules}
 use Rattle.text.specs.Text.{number_room}
-use Rattle.listing.specs.Laws.{number_ends, gone_line}
+use Rattle.listing.proofs.Laws.{number_ends, gone_line}
 use Rattle.listing.proofs.put_gone.Goals as goal
 
 -- Each next number starts at most `number_room` bytes behind the last.

@@ -1,9 +1,9 @@
 -- `listing::put_listing` meets its contract: the first line, and the marks' lines behind it. Assumes nothing.
 use native.Mathlib.Omega.{arith}
 use borrow.Author.Rules.{rules}
-use Rattle.text.specs.Laws.{wrote_then, wrote_length}
+use Rattle.text.proofs.Laws.{wrote_then, wrote_length}
 use Rattle.listing.specs.Lines.{text, listing}
-use Rattle.listing.specs.Laws.{first_room_lem}
+use Rattle.listing.proofs.Laws.{first_room_lem}
 use Rattle.listing.proofs.put_listing.Goals as goal
 
 pub put_marks-requires : goal.put_marks-requires

@@ -3,10 +3,10 @@ use Prim.Native.Nat.{◌-◌, ◌≤◌}
 use mathlib.Core.Path.{◌≡◌}
 use native.Mathlib.Omega.{arith}
 use Rattle.text.specs.Text.{Wrote}
-use Rattle.text.specs.Laws.{wrote_length}
+use Rattle.text.proofs.Laws.{wrote_length}
 use Rattle.listing.specs.Lines.{mark_lines}
 use Rattle.listing.specs.Listed.{removal_at}
-use Rattle.listing.specs.Laws.{marks_room, lines_none, lines_more}
+use Rattle.listing.proofs.Laws.{marks_room, lines_none, lines_more}
 use Rattle.listing.proofs.put_marks.Goals as goal
 
 pub loop-m-init : goal.loop-m-init

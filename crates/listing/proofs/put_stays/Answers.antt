@@ -2,7 +2,7 @@
 use native.Mathlib.Omega.{arith}
 use lib.ListN.{length-set}
 use borrow.Author.Rules.{rules}
-use Rattle.listing.specs.Laws.{number_ends, stays_line}
+use Rattle.listing.proofs.Laws.{number_ends, stays_line}
 use Rattle.listing.proofs.put_stays.Goals as goal
 
 pub bounds-out-next : goal.bounds-out-next

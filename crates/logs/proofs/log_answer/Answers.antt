@@ -1,6 +1,6 @@
 -- `logs::log_answer`: 4, and then record by record. Assumes nothing.
 use mathlib.Core.Path.{sym, ◌∙◌}
-use Rattle.contents.specs.Laws.{asked_yes, asked_no}
+use Rattle.contents.proofs.Laws.{asked_yes, asked_no}
 use Rattle.logs.specs.Questions.{log_checks}
 use borrow.Author.Rules.{rules}
 use Rattle.logs.proofs.log_answer.Goals as goal

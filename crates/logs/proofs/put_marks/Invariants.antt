@@ -4,9 +4,9 @@ use mathlib.Core.Path.{◌≡◌, ap, ◌∙◌}
 use lib.ListN.{length}
 use lib.Seq.{sets, length-sets}
 use Rattle.rows.specs.Rows.{rows}
-use Rattle.rows.specs.Laws.{rows_none, rows_more}
+use Rattle.rows.proofs.Laws.{rows_none, rows_more}
 use Rattle.logs.specs.Log.{mark_of_record}
-use Rattle.logs.specs.Lemmas.Writing.{mark_length}
+use Rattle.logs.proofs.Lemmas.Writing.{mark_length}
 use native.Mathlib.Omega.{arith}
 use Rattle.logs.proofs.put_marks.Given as goal
 

@@ -2,9 +2,9 @@
 use Prim.Native.Nat.{◌-◌, ◌≤◌}
 use mathlib.Core.Path.{◌≡◌, sym, ◌∙◌}
 use Rattle.contents.specs.Asking.{answer, in_turn}
-use Rattle.contents.specs.Laws.{turn_none, turn_more, turn_stop}
+use Rattle.contents.proofs.Laws.{turn_none, turn_more, turn_stop}
 use Rattle.logs.specs.Questions.{record_questions}
-use Rattle.logs.specs.Lemmas.Right.{record_numbered}
+use Rattle.logs.proofs.Lemmas.Right.{record_numbered}
 use native.Mathlib.Omega.{arith}
 use Rattle.logs.proofs.records_answer.Goals as goal
 

@@ -8,7 +8,7 @@ use borrow.Author.Tests.{eq-eqb, ne_eqb, le-leb, lt-leb}
 use lib.IntN.{nat_abs}
 use mir.Facts.{to_z-of_z}
 use Rattle.marks.specs.Marks.{distance}
-use Rattle.marks.specs.Laws.{larger_squared}
+use Rattle.marks.proofs.Laws.{larger_squared}
 use Rattle.marks.proofs.Signed.{square_most}
 use Rattle.marks.proofs.distance.Goals as goal
 use Rattle.marks.proofs.distance.Goals.{After-squared-y}

@@ -4,8 +4,8 @@ use mathlib.Core.Path.{ap₂, ◌∙◌}
 use borrow.Author.Rules.{rules}
 use Rattle.marks.specs.Marks.{larger}
 use Rattle.marks.specs.Pairs.{pair_of, pair_value}
-use Rattle.marks.specs.Laws.{larger_most}
-use Rattle.marks.specs.PairLaws.{unpopped}
+use Rattle.marks.proofs.Laws.{larger_most}
+use Rattle.marks.proofs.PairLaws.{unpopped}
 use Rattle.marks.proofs.pair.Goals as goal
 
 pub returns-then-popups-eq0 : goal.returns-then-popups-eq0

@@ -7,7 +7,7 @@ use native.Mathlib.Omega.{arith}
 use lib.ListN.{length}
 use borrow.Author.Rules.{rules}
 use Rattle.marks.specs.Pairs.{popup_at}
-use Rattle.marks.specs.PairLaws.{popup_none}
+use Rattle.marks.proofs.PairLaws.{popup_none}
 use Rattle.marks.proofs.popup_at.Goals as goal
 
 nothing : (q : List ℕ) (m : ℕ) → length q ≡ 0 → 0 ≡ popup_at q m

@@ -4,9 +4,9 @@ use mathlib.Core.List.{[], ◌∷◌, append-nil}
 use native.Mathlib.Omega.{arith}
 use borrow.Author.Rules.{rules}
 use Rattle.lists.specs.Stores.{over}
-use Rattle.lists.specs.StoreLaws.{over_sets}
+use Rattle.lists.proofs.StoreLaws.{over_sets}
 use Rattle.numbers.specs.Little.{le_bytes}
-use Rattle.numbers.specs.Laws.{le_length}
+use Rattle.numbers.proofs.Laws.{le_length}
 use Rattle.marks.proofs.popup_bytes.Goals as goal
 
 pub returns : goal.returns

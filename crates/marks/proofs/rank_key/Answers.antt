@@ -2,7 +2,7 @@
 use native.Mathlib.Omega.{arith}
 use borrow.Author.Rules.{rules}
 use Rattle.marks.specs.Marks.{rank_key}
-use Rattle.marks.specs.Laws.{rank_radius_bound}
+use Rattle.marks.proofs.Laws.{rank_radius_bound}
 use Rattle.marks.proofs.rank_key.Goals as goal
 
 pub overflow_sub-radius : goal.overflow_sub-radius

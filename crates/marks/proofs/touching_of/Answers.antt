@@ -4,7 +4,7 @@ use native.Mathlib.Omega.{arith}
 use borrow.Author.Rules.{rules}
 use lib.IntN.{nat_abs}
 use Rattle.marks.specs.Marks.{distance, touching_of}
-use Rattle.marks.specs.Laws.{Placed, touching_of_small}
+use Rattle.marks.proofs.Laws.{Placed, touching_of_small}
 use Rattle.marks.proofs.Signed.{told}
 use Rattle.marks.proofs.touching_of.Goals as goal
 use Rattle.marks.proofs.touching_of.Goals.{After-difference}

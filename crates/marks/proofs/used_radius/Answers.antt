@@ -9,7 +9,7 @@ use lib.Dec.{ltb}
 use borrow.Author.Tests.{le-ltb, eq-eqb, ne_eqb}
 use Rattle.marks.specs.declared.House.TheVariants.{Radius, Refused}
 use Rattle.marks.specs.Marks.{kind_group, house_radius, house_of, used_radius}
-use Rattle.marks.specs.Laws.{house_there}
+use Rattle.marks.proofs.Laws.{house_there}
 use Rattle.marks.proofs.used_radius.Goals as goal
 
 of_radius : (kind r : ℕ) → house_of kind ≡ Radius r → r ≡ house_radius kind

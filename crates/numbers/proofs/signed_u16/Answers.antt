@@ -10,7 +10,7 @@ use mir.Syntax.{w16}
 use mir.Val.{to_z}
 use mir.Facts.{to_z-of_z}
 use Rattle.numbers.specs.Little.{signed}
-use Rattle.numbers.specs.Laws.{signed_fits}
+use Rattle.numbers.proofs.Laws.{signed_fits}
 use Rattle.numbers.proofs.signed_u16.Goals as goal
 
 below_zero : (n : ℕ) → negsuc 0 -ℤ pos n ≡ negsuc n

@@ -1,5 +1,5 @@
 -- `packed::bits_of`: a number below zero counts down from 65,536. Assumes nothing.
-use Rattle.packed.specs.Laws.{minus_small, bits_taken, bits_left}
+use Rattle.packed.proofs.Laws.{minus_small, bits_taken, bits_left}
 use native.Mathlib.Omega.{arith}
 use Rattle.packed.proofs.bits_of.Goals as goal
 

@@ -1,6 +1,6 @@
 -- `packed::is_place`: the magnitude may be one more below zero. Assumes nothing.
 use mathlib.Core.Path.{sym}
-use Rattle.packed.specs.Laws.{place_minus, place_plus}
+use Rattle.packed.proofs.Laws.{place_minus, place_plus}
 use Rattle.packed.proofs.is_place.Goals as goal
 
 pub returns-then-minus : goal.returns-then-minus

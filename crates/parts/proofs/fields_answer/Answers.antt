@@ -6,7 +6,7 @@ use borrow.Author.Tests.{le-leb, lt-leb}
 use lib.Dec.{eqb}
 use Rattle.marks.specs.declared.House.{House}
 use Rattle.marks.specs.Marks.{is_kind, is_radius, house_of, house_number}
-use Rattle.contents.specs.Laws.{none_asked, asked_yes, asked_no}
+use Rattle.contents.proofs.Laws.{none_asked, asked_yes, asked_no}
 use Rattle.parts.proofs.fields_answer.Goals as goal
 
 -- what `house_radius` answered for the kind

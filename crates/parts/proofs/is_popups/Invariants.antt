@@ -6,7 +6,7 @@ use mathlib.Core.Logic.{inr}
 use native.Mathlib.Omega.{arith}
 use borrow.Author.Tests.{eq-eqb, ne_eqb}
 use Rattle.lists.specs.Tests.{every}
-use Rattle.lists.specs.TestLaws.{said_no, said_yes, every_more, every_not}
+use Rattle.lists.proofs.TestLaws.{said_no, said_yes, every_more, every_not}
 use Rattle.marks.specs.Pairs.{popup_at}
 use Rattle.parts.specs.Questions.{is_popup, is_popups}
 use borrow.Author.Rules.{rules}

@@ -5,7 +5,7 @@ use mathlib.Core.Path.{◌≡◌, refl, sym}
 use mathlib.Core.Bool.{true}
 use native.Mathlib.Omega.{arith}
 use Rattle.lists.specs.Tests.{every}
-use Rattle.lists.specs.TestLaws.{every_more, every_not}
+use Rattle.lists.proofs.TestLaws.{every_more, every_not}
 use Rattle.parts.specs.Questions.{record_right, is_schedule}
 use Rattle.parts.proofs.is_schedule.Goals as goal
 

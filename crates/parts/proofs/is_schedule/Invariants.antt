@@ -4,7 +4,7 @@ use mathlib.Core.Path.{◌≡◌, refl, sym}
 use mathlib.Core.Bool.{true}
 use native.Mathlib.Omega.{arith}
 use Rattle.lists.specs.Tests.{every}
-use Rattle.lists.specs.TestLaws.{said_no, said_yes, every_more, every_not}
+use Rattle.lists.proofs.TestLaws.{said_no, said_yes, every_more, every_not}
 use Rattle.parts.specs.Questions.{record_right, is_schedule}
 use Rattle.parts.proofs.is_schedule.Given as goal
 

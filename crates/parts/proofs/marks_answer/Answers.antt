@@ -3,9 +3,9 @@ use Prim.Native.Nat.{◌-◌, ◌≤◌}
 use mathlib.Core.Path.{◌≡◌, sym, ◌∙◌}
 use native.Mathlib.Omega.{arith}
 use Rattle.contents.specs.Asking.{answer}
-use Rattle.contents.specs.Laws.{turn_none, turn_more, turn_stop}
+use Rattle.contents.proofs.Laws.{turn_none, turn_more, turn_stop}
 use Rattle.parts.specs.Questions.{one_mark, mark_questions}
-use Rattle.parts.specs.Lemmas.Numbered.{one_numbered}
+use Rattle.parts.proofs.Lemmas.Numbered.{one_numbered}
 use Rattle.parts.proofs.marks_answer.Goals as goal
 
 pub loop-m-init : goal.loop-m-init

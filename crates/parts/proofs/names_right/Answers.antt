@@ -2,7 +2,7 @@
 use Rattle.std.proofs.Common.{sym, ◌∙◌}
 use native.Mathlib.Omega.{arith}
 use borrow.Author.Tests.{lt-ltb, le-ltb}
-use Rattle.marks.specs.PairLaws.{good_popup}
+use Rattle.marks.proofs.PairLaws.{good_popup}
 use Rattle.parts.specs.Questions.{names_right}
 use borrow.Author.Rules.{rules}
 use Rattle.parts.proofs.names_right.Goals as goal

@@ -1,7 +1,7 @@
 -- `parts::record_right` meets its contract: each test of the definition in its order; a mark that is named rightly is below n, so its record can be read. Assumes nothing.
 use mathlib.Core.Path.{sym, ◌∙◌}
 use native.Mathlib.Omega.{arith}
-use Rattle.parts.specs.Lemmas.Records.{named, right_of_lem}
+use Rattle.parts.proofs.Lemmas.Records.{named, right_of_lem}
 use borrow.Author.Rules.{rules}
 use Rattle.parts.proofs.record_right.Goals as goal
 

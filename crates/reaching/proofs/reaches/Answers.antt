@@ -11,11 +11,11 @@ use mir.Syntax.{w32}
 use mir.Val.{SFits, to_z, of_z}
 use lib.IntN.{ℤ, pos, nat_abs}
 use Rattle.marks.specs.Marks.{distance}
-use Rattle.marks.specs.Laws.{distance_most}
+use Rattle.marks.proofs.Laws.{distance_most}
 use Rattle.index.specs.Index.{coordinate}
 use Rattle.reaching.specs.declared.Bounds.{Bounds}
 use Rattle.reaching.specs.Turning.{gap_here, distance_here}
-use Rattle.reaching.specs.Lemmas.Reached.{reached, reached_inside}
+use Rattle.reaching.proofs.Lemmas.Reached.{reached, reached_inside}
 use Rattle.reaching.proofs.reaches.Goals as goal
 
 -- what `gap` said of a coordinate that is read

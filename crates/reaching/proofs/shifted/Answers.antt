@@ -9,7 +9,7 @@ use mir.Val.{SFits, to_z, of_z}
 use mir.Facts.{to_z-of_z}
 use Rattle.marks.specs.Marks.{shifted}
 use Rattle.reaching.specs.Questions.{IsEdge}
-use Rattle.reaching.specs.Lemmas.Edges.{edge_abs, edge_shifted}
+use Rattle.reaching.proofs.Lemmas.Edges.{edge_abs, edge_shifted}
 use Rattle.reaching.proofs.shifted.Goals as goal
 
 sum_is : (x : ℤ) → IsEdge x → x +ℤ pos 32768 ≡ pos (shifted x)

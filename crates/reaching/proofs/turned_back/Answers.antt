@@ -8,7 +8,7 @@ use mir.Facts.{to_z-of_z}
 use Rattle.reaching.specs.declared.Bounds.{Bounds}
 use Rattle.reaching.specs.declared.Corner.{Corner}
 use Rattle.reaching.specs.Turning.{corner_of, lower, higher, turned_back}
-use Rattle.reaching.specs.Lemmas.Turned.{turn_most, x0_edge, x1_edge, y0_edge, y1_edge}
+use Rattle.reaching.proofs.Lemmas.Turned.{turn_most, x0_edge, x1_edge, y0_edge, y1_edge}
 use Rattle.reaching.proofs.turned_back.Goals as goal
 
 -- the bounds between two corners

@@ -12,12 +12,12 @@ use Rattle.marks.specs.Marks.{shifted}
 use Rattle.turns.specs.declared.Place.{Place}
 use Rattle.turns.specs.Turns.{turn, applied, turned_place}
 use Rattle.turns.specs.Small.{Small, Within}
-use Rattle.turns.specs.Laws.{turn_small, within_grows}
+use Rattle.turns.proofs.Laws.{turn_small, within_grows}
 use Rattle.reaching.specs.declared.Corner.{Corner}
 use Rattle.reaching.specs.Questions.{IsEdge}
 use Rattle.reaching.specs.Turning.{corner_of}
-use Rattle.reaching.specs.Lemmas.Edges.{edge_abs, abs_edge}
-use Rattle.reaching.specs.Lemmas.Turned.{corner_within}
+use Rattle.reaching.proofs.Lemmas.Edges.{edge_abs, abs_edge}
+use Rattle.reaching.proofs.Lemmas.Turned.{corner_within}
 use Rattle.reaching.proofs.turned_corner.Goals as goal
 
 abbrev placed : ℤ → ℤ → Place

@@ -7,11 +7,11 @@ use borrow.Author.Rules.{rules}
 use Rattle.numbers.specs.Little.{Bytes}
 use Rattle.contents.specs.Contents.{split, marks_part, edition_part, popups_part, shape_part}
 use Rattle.contents.specs.Asking.{answer}
-use Rattle.contents.specs.Laws.{layout_part}
+use Rattle.contents.proofs.Laws.{layout_part}
 use Rattle.parts.specs.Questions.{mark_count, choice_in}
 use Rattle.bodies.specs.Questions.{edition_of, shape_of}
 use Rattle.report.specs.Text.{most_marks, print_questions}
-use Rattle.report.specs.Lemmas.Printed.{prints_refusal, taken_laid, part1_few, part1_good, popups_good, taken_printable, prints_listing}
+use Rattle.report.proofs.Lemmas.Printed.{prints_refusal, taken_laid, part1_few, part1_good, popups_good, taken_printable, prints_listing}
 use Rattle.report.proofs.print.Goals as goal
 use Rattle.report.proofs.print.Goals.{After-choice_of-edition, After-choice_of-shape, After-part-marks, After-part-popups, Else-number-ne0}
 

@@ -6,8 +6,8 @@ use native.Mathlib.Omega.{arith}
 use lib.ListN.{length}
 use borrow.Author.Rules.{rules}
 use Rattle.sheet.specs.Questions.{check, sheet_count}
-use Rattle.sheet.specs.Laws.{found_number, found_part}
-use Rattle.report.specs.Lemmas.Printed.{answer_long, answer_refused, answer_many, answer_taken}
+use Rattle.sheet.proofs.Laws.{found_number, found_part}
+use Rattle.report.proofs.Lemmas.Printed.{answer_long, answer_refused, answer_many, answer_taken}
 use Rattle.report.proofs.print_answer.Goals as goal
 use Rattle.report.proofs.print_answer.Goals.{After-part, Else-number-ne0}
 

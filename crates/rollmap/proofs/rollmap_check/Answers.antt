@@ -1,5 +1,5 @@
 -- `rollmap::rollmap_check`: the sheet's own answer. Assumes nothing.
-use Rattle.jobs.specs.Laws.Outcomes.{check_gives}
+use Rattle.jobs.proofs.Laws.Outcomes.{check_gives}
 use borrow.Author.Rules.{rules}
 use Rattle.rollmap.proofs.rollmap_check.Goals as goal
 

@@ -1,8 +1,8 @@
 -- `rollmap::rollmap_view_stop`: the view at a stop. Assumes nothing.
 use borrow.Author.Rules.{rules}
 use mir.Facts.{to_z-of_z}
-use Rattle.jobs.specs.Stops.{stop_whole}
-use Rattle.jobs.specs.Turns.{turn_meets}
+use Rattle.jobs.proofs.Stops.{stop_whole}
+use Rattle.jobs.proofs.Turns.{turn_meets}
 use Rattle.rollmap.proofs.rollmap_view_stop.Goals as goal
 
 pub returns : goal.returns

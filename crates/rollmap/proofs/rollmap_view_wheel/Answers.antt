@@ -1,8 +1,8 @@
 -- `rollmap::rollmap_view_wheel`: the view at a wheel value. Assumes nothing.
 use borrow.Author.Rules.{rules}
 use mir.Facts.{to_z-of_z}
-use Rattle.jobs.specs.Theorems.{view_whole}
-use Rattle.jobs.specs.Turns.{turn_meets}
+use Rattle.jobs.proofs.Theorems.{view_whole}
+use Rattle.jobs.proofs.Turns.{turn_meets}
 use Rattle.rollmap.proofs.rollmap_view_wheel.Goals as goal
 
 pub returns : goal.returns

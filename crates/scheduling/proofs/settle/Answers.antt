@@ -1,6 +1,6 @@
 -- `scheduling::settle` meets its contract: what was found is read back from the row. Assumes nothing.
 use native.Mathlib.Omega.{arith}
-use Rattle.lists.specs.StoreLaws.{kept_none}
+use Rattle.lists.proofs.StoreLaws.{kept_none}
 use Rattle.scheduling.proofs.Progress.{settles, search_for}
 use borrow.Author.Rules.{rules}
 use Rattle.scheduling.proofs.settle.Goals as goal

@@ -3,8 +3,8 @@ use native.Mathlib.Omega.{arith}
 use mathlib.Core.Path.{◌≡◌, refl, sym, ◌∙◌}
 use mathlib.Core.Bool.{Bool, true, false, ◌&&◌}
 use mathlib.Core.Logic.{◌⊎◌, inl, inr}
-use Rattle.lists.specs.TestLaws.{both_iff}
-use Rattle.fractions.specs.Laws.{less_iff}
+use Rattle.lists.proofs.TestLaws.{both_iff}
+use Rattle.fractions.proofs.Laws.{less_iff}
 use Rattle.searching.proofs.Steps.{not_less, keep_behind, keep_gone, take}
 use borrow.Author.Rules.{rules}
 use Rattle.searching.proofs.better_chosen.Goals as goal

@@ -2,7 +2,7 @@
 use native.Mathlib.Omega.{arith}
 use mathlib.Core.Path.{refl, sym, ◌∙◌}
 use mathlib.Core.Logic.{inl, inr}
-use Rattle.fractions.specs.Laws.{less_iff}
+use Rattle.fractions.proofs.Laws.{less_iff}
 use Rattle.searching.proofs.Steps.{not_less, keep_behind, keep_gone, take}
 use borrow.Author.Rules.{rules}
 use Rattle.searching.proofs.better_pair.Goals as goal

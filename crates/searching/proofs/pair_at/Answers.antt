@@ -6,8 +6,8 @@ use Rattle.fractions.specs.declared.Fraction.{Fraction}
 use Rattle.fractions.specs.Order.{Small}
 use Rattle.marks.specs.Marks.{larger, touching_of}
 use Rattle.marks.specs.Pairs.{pair_of}
-use Rattle.marks.specs.Laws.{larger_most}
-use Rattle.marks.specs.PairLaws.{pair_none}
+use Rattle.marks.proofs.Laws.{larger_most}
+use Rattle.marks.proofs.PairLaws.{pair_none}
 use Rattle.searching.specs.Rows.{row_label, row_popup, rows_touch}
 use Rattle.searching.specs.Search.{Comparable}
 use Rattle.searching.proofs.pair_at.Goals as goal

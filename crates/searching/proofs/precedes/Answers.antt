@@ -10,7 +10,7 @@ use lib.Dec.{ltb}
 use mir.Syntax.{w64}
 use mir.Val.{Fits, bool_byte}
 use Rattle.fractions.specs.Order.{less}
-use Rattle.fractions.specs.Laws.{small_cross}
+use Rattle.fractions.proofs.Laws.{small_cross}
 use Rattle.searching.specs.Search.{precedes}
 use Rattle.searching.proofs.precedes.Goals as goal
 

@@ -7,9 +7,9 @@ use lib.ListN.{length, length-map}
 use borrow.Author.Tests.{leb-true}
 use Rattle.contents.specs.Contents.{codes_of, together, join}
 use Rattle.contents.specs.Questions.{codes_right}
-use Rattle.contents.specs.Laws.{codes_some, codes_few, together_codes}
-use Rattle.bodies.specs.Laws.{fitting_iff, fitting_writable}
-use Rattle.sheet.specs.Lemmas.Assembling.{refused_bodies, no_room, written}
+use Rattle.contents.proofs.Laws.{codes_some, codes_few, together_codes}
+use Rattle.bodies.proofs.Laws.{fitting_iff, fitting_writable}
+use Rattle.sheet.proofs.Lemmas.Assembling.{refused_bodies, no_room, written}
 use native.Mathlib.Omega.{arith}
 use borrow.Author.Rules.{rules}
 use Rattle.sheet.proofs.assemble.Goals as goal

@@ -8,10 +8,10 @@ use Rattle.contents.specs.Contents.{Part, codes_of, bodies_of, count_at, split}
 use Rattle.contents.specs.Questions.{top_code, codes_right}
 use Rattle.contents.specs.Asking.{answer}
 use Rattle.contents.specs.Laid.{Laid}
-use Rattle.contents.specs.Laws.{laid_iff}
+use Rattle.contents.proofs.Laws.{laid_iff}
 use Rattle.bodies.specs.Questions.{body_questions}
-use Rattle.sheet.specs.Lemmas.Accepting.{check_refused, check_laid}
-use Rattle.sheet.specs.Lemmas.Whole.{first_of, parts_read}
+use Rattle.sheet.proofs.Lemmas.Accepting.{check_refused, check_laid}
+use Rattle.sheet.proofs.Lemmas.Whole.{first_of, parts_read}
 use native.Mathlib.Omega.{arith}
 use borrow.Author.Rules.{rules}
 use Rattle.sheet.proofs.check.Goals as goal

@@ -2,7 +2,7 @@
 use mathlib.Core.Path.{sym, ap₂, ◌∙◌}
 use mathlib.Core.Bool.{◌&&◌}
 use borrow.Author.Rules.{rules}
-use Rattle.sheet.specs.Lemmas.Opened.{indexed_refused, indexed_there, indexed_missing}
+use Rattle.sheet.proofs.Lemmas.Opened.{indexed_refused, indexed_there, indexed_missing}
 use Rattle.sheet.proofs.indexed.Goals as goal
 
 pub returns-then-number-ne0 : goal.returns-then-number-ne0

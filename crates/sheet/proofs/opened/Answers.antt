@@ -3,7 +3,7 @@ use mathlib.Core.Path.{sym, ◌∙◌}
 use borrow.Author.Tests.{eq-eqb, ne_eqb}
 use Rattle.sheet.specs.Questions.{check}
 use Rattle.sheet.specs.Opened.{opened}
-use Rattle.sheet.specs.Lemmas.Accepting.{accepted_iff}
+use Rattle.sheet.proofs.Lemmas.Accepting.{accepted_iff}
 use borrow.Author.Rules.{rules}
 use Rattle.sheet.proofs.opened.Goals as goal
 

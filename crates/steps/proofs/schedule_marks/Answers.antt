@@ -11,8 +11,8 @@ use Rattle.contents.specs.Contents.{Part, has}
 use Rattle.jobs.specs.declared.Answer.{Answer}
 use Rattle.jobs.specs.Jobs.{scheduled_size, has_room}
 use Rattle.jobs.specs.Steps.{kept_from}
-use Rattle.jobs.specs.Laws.Kept.{kept_uncounted, lent_kept_size}
-use Rattle.jobs.specs.Laws.Scheduling.{room_there, no_room, sheet_written}
+use Rattle.jobs.proofs.Laws.Kept.{kept_uncounted, lent_kept_size}
+use Rattle.jobs.proofs.Laws.Scheduling.{room_there, no_room, sheet_written}
 use Rattle.steps.proofs.schedule_marks.Goals as goal
 use Rattle.steps.proofs.schedule_marks.Goals.{Start}
 

@@ -4,7 +4,7 @@ use mathlib.Core.Path.{ap}
 use native.Mathlib.Omega.{arith}
 use lib.ListN.{length}
 use borrow.Author.Rules.{rules}
-use Rattle.text.specs.Laws.{decimal_one, decimal_more, decimal_longer, wrote_byte, wrote_then, wrote_length}
+use Rattle.text.proofs.Laws.{decimal_one, decimal_more, decimal_longer, wrote_byte, wrote_then, wrote_length}
 use Rattle.text.proofs.+put_decimal.Goals as goal
 
 pub digit-requires : goal.digit-requires

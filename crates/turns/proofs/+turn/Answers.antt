@@ -4,8 +4,8 @@ use mathlib.Core.Path.{◌≡◌, ap, ◌∙◌, subst⁻¹}
 use native.Mathlib.Omega.{arith}
 use Rattle.turns.specs.Turns.{unit, quarter, times, turn}
 use Rattle.turns.specs.Small.{Small}
-use Rattle.turns.specs.Laws.{turn_small}
-use Rattle.turns.specs.Lemmas.Quarters.{up_to, grid_small}
+use Rattle.turns.proofs.Laws.{turn_small}
+use Rattle.turns.proofs.Lemmas.Quarters.{up_to, grid_small}
 use Rattle.turns.proofs.+turn.Goals as goal
 
 pub returns-then-quarters-eq0 : goal.returns-then-quarters-eq0

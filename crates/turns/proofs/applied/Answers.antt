@@ -4,7 +4,7 @@ use mathlib.Core.List.{[]}
 use borrow.Author.Rules.{rules}
 use lib.ListN.{get_or}
 use Rattle.turns.specs.Turns.{applied}
-use Rattle.turns.specs.Lemmas.Quarters.{placed}
+use Rattle.turns.proofs.Lemmas.Quarters.{placed}
 use Rattle.turns.proofs.Signed.{back_small, row_told}
 use Rattle.turns.proofs.applied.Goals as goal
 

@@ -7,9 +7,9 @@ use mathlib.Core.Bool.{true, false}
 use mathlib.Core.Logic.{◌≢◌}
 use borrow.Author.Rules.{rules}
 use borrow.Author.Tests.{not-true, not-false}
-use Rattle.view.specs.Lemmas.Reaching.{living_shown}
-use Rattle.view.specs.Lemmas.Bits.{set_nothing, set_same}
-use Rattle.view.specs.Lemmas.Search.{root_fits, root_popup, all_marked, block_none, half_call, block_set}
+use Rattle.view.proofs.Lemmas.Reaching.{living_shown}
+use Rattle.view.proofs.Lemmas.Bits.{set_nothing, set_same}
+use Rattle.view.proofs.Lemmas.Search.{root_fits, root_popup, all_marked, block_none, half_call, block_set}
 use Rattle.view.proofs.+search.Goals as goal
 
 pub returns-then-size-eq0 : goal.returns-then-size-eq0

@@ -2,8 +2,8 @@
 use mathlib.Core.Path.{subst⁻¹}
 use borrow.Author.Rules.{rules}
 use Rattle.reaching.specs.Turning.{Edged, shown_here}
-use Rattle.reaching.specs.Laws.{back_edged}
-use Rattle.view.specs.Lemmas.Views.{whole_searchable, viewed, viewed_back, count_fits}
+use Rattle.reaching.proofs.Laws.{back_edged}
+use Rattle.view.proofs.Lemmas.Views.{whole_searchable, viewed, viewed_back, count_fits}
 use Rattle.view.proofs.show.Goals as goal
 use Rattle.view.proofs.show.Goals.{After-turned_back-edges}
 

@@ -2,8 +2,8 @@
 use mathlib.Core.Path.{sym, ◌∙◌}
 use native.Mathlib.Omega.{arith}
 use borrow.Author.Rules.{rules}
-use Rattle.lists.specs.TestLaws.{bit_false}
-use Rattle.view.specs.Lemmas.Bits.{set_nothing, set_none, set_one}
+use Rattle.lists.proofs.TestLaws.{bit_false}
+use Rattle.view.proofs.Lemmas.Bits.{set_nothing, set_none, set_one}
 use Rattle.view.proofs.visit.Goals as goal
 
 pub returns-then-is_visible : goal.returns-then-is_visible

@@ -1,7 +1,7 @@
 -- `viewing::is_shown`: question 13, and then the mark's bit, or 0 where there is no such mark. Assumes nothing.
 use mathlib.Core.Path.{sym, ◌∙◌}
 use native.Mathlib.Omega.{arith}
-use Rattle.jobs.specs.Laws.Walking.{map_iff, shown_refused, shown_outside, shown_inside}
+use Rattle.jobs.proofs.Laws.Walking.{map_iff, shown_refused, shown_outside, shown_inside}
 use Rattle.viewing.proofs.is_shown.Goals as goal
 
 pub returns-then-not-is_map : goal.returns-then-not-is_map

@@ -9,12 +9,12 @@ use Rattle.contents.specs.Places.{cut_of, place_of}
 use Rattle.sheet.specs.declared.Opening.{Opening}
 use Rattle.sheet.specs.Opened as Opened
 use Rattle.sheet.specs.Questions.{sheet_shape, indexed_questions}
-use Rattle.sheet.specs.Laws.{indexed_iff, indexed_number, indexed_layout, layout_part}
+use Rattle.sheet.proofs.Laws.{indexed_iff, indexed_number, indexed_layout, layout_part}
 use Rattle.parts.specs.Questions.{choice_in}
-use Rattle.zoom.specs.Laws.{scale_most}
+use Rattle.zoom.proofs.Laws.{scale_most}
 use Rattle.reaching.specs.Questions.{question20}
-use Rattle.reaching.specs.Laws.{taken_window}
-use Rattle.jobs.specs.Laws.Viewing.{view_refused, view_no_window, view_no_order, view_no_zoom, view_taken}
+use Rattle.reaching.proofs.Laws.{taken_window}
+use Rattle.jobs.proofs.Laws.Viewing.{view_refused, view_no_window, view_no_order, view_no_zoom, view_taken}
 use Rattle.viewing.proofs.view.Goals as goal
 use Rattle.viewing.proofs.view.Goals.{Else-not-is_ordered, Else-number-ne0}
 

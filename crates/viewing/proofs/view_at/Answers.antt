@@ -4,9 +4,9 @@ use mathlib.Core.Path.{◌≡◌, refl, ◌∙◌}
 use mathlib.Core.List.{List}
 use Rattle.contents.specs.Contents.{find, split}
 use Rattle.contents.specs.Places.{place_of, cut_of}
-use Rattle.contents.specs.Laws.{layout_part}
-use Rattle.sheet.specs.Laws.{accepted_iff}
-use Rattle.jobs.specs.Laws.Viewing.{view_no_room, view_written, viewable}
+use Rattle.contents.proofs.Laws.{layout_part}
+use Rattle.sheet.proofs.Laws.{accepted_iff}
+use Rattle.jobs.proofs.Laws.Viewing.{view_no_room, view_written, viewable}
 use Rattle.viewing.proofs.view_at.Goals as goal
 use Rattle.viewing.proofs.view_at.Goals.{Start}
 

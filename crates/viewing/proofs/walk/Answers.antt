@@ -1,7 +1,7 @@
 -- `viewing::walk`: question 13, and else what the walk over the map gives. Assumes nothing.
 use mathlib.Core.Path.{sym, ◌∙◌}
 use native.Mathlib.Omega.{arith}
-use Rattle.jobs.specs.Laws.Walking.{map_iff, walk_refused, walk_goes, walk_small}
+use Rattle.jobs.proofs.Laws.Walking.{map_iff, walk_refused, walk_goes, walk_small}
 use Rattle.viewing.proofs.walk.Goals as goal
 
 pub returns-then-not-is_map : goal.returns-then-not-is_map

@@ -6,8 +6,8 @@ use native.Mathlib.Omega.{arith}
 use borrow.Author.Rules.{rules}
 use lib.ListN.{length, take, drop, length-drop, take-append-drop}
 use lib.Seq.{sets, sets-eq, length-take-le}
-use Rattle.counting.specs.Laws.{counts_length}
-use Rattle.parts.specs.Laws.{popups_enough}
+use Rattle.counting.proofs.Laws.{counts_length}
+use Rattle.parts.proofs.Laws.{popups_enough}
 use Rattle.writing.proofs.put_counts.Goals as goal
 
 slice_long : (l : List ℕ) (a k : ℕ) → a + k ≤ length l → length (take (a + k - a) (drop a l)) ≡ k

@@ -2,7 +2,7 @@
 use mathlib.Core.Path.{sym, ◌∙◌}
 use lib.ListN.{length-append}
 use native.Mathlib.Omega.{arith}
-use Rattle.lists.specs.StoreLaws.{sets_append}
+use Rattle.lists.proofs.StoreLaws.{sets_append}
 use Rattle.writing.proofs.put_pieces.Goals as goal
 
 pub put-middle-requires : goal.put-middle-requires

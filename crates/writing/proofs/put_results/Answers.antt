@@ -4,7 +4,7 @@ use native.Mathlib.Omega.{arith}
 use lib.ListN.{drop}
 use lib.Seq.{length-take-le}
 use Rattle.scheduling.specs.Behind.{reel_in}
-use Rattle.jobs.specs.Laws.Scheduling.{results_are}
+use Rattle.jobs.proofs.Laws.Scheduling.{results_are}
 use Rattle.writing.proofs.put_results.Goals as goal
 
 pub returns : goal.returns

@@ -8,7 +8,7 @@ use lib.Dec.{ltb}
 use lib.ListN.{length}
 use Rattle.contents.specs.Contents.{contents_size}
 use Rattle.jobs.specs.Steps.{codes_from}
-use Rattle.jobs.specs.Laws.Scheduling.{lent_good, lent_size, Standing, standing}
+use Rattle.jobs.proofs.Laws.Scheduling.{lent_good, lent_size, Standing, standing}
 use Rattle.writing.proofs.put_scheduled.Goals as goal
 use Rattle.writing.proofs.put_scheduled.Goals.{After-put_pieces-end}
 

@@ -10,8 +10,8 @@ use Rattle.contents.specs.Contents.{Part, contents_size, popups_part}
 use Rattle.parts.specs.Questions.{mark_count}
 use Rattle.jobs.specs.Jobs.{new_schedule, new_counts}
 use Rattle.jobs.specs.Steps.{kept_from, codes_from}
-use Rattle.jobs.specs.Laws.Scheduling.{lent_good, lent_size, popups_read, counts_read, sheet_put}
-use Rattle.counting.specs.Laws.{counts_length}
+use Rattle.jobs.proofs.Laws.Scheduling.{lent_good, lent_size, popups_read, counts_read, sheet_put}
+use Rattle.counting.proofs.Laws.{counts_length}
 use Rattle.writing.proofs.put_sheet.Goals as goal
 use Rattle.writing.proofs.put_sheet.Goals.{After-put_scheduled-start}
 

@@ -1,8 +1,8 @@
 -- `zoom::scale_of`: by the zoom's two cases; a stop up to 16 shifts without loss. Assumes nothing.
 use Rattle.std.proofs.Common.{sym, ap, ◌∙◌, rules}
 use Rattle.zoom.specs.Zoom.{scale_of}
-use Rattle.zoom.specs.Laws.{stop_refused}
-use Rattle.zoom.specs.Lemmas.Wheels.{stop_shifted}
+use Rattle.zoom.proofs.Laws.{stop_refused}
+use Rattle.zoom.proofs.Lemmas.Wheels.{stop_shifted}
 use Rattle.zoom.proofs.scale_of.Goals as goal
 
 pub returns-then-s-le16 : goal.returns-then-s-le16

@@ -3,7 +3,7 @@ use Rattle.std.proofs.Common.{◌≡◌, Bool, false, T, sym, subst}
 use lib.Ieee.{of_bits}
 use denote.Floats as F
 use Rattle.zoom.proofs.Wheel.{asked, small, taken, passes}
-use Rattle.zoom.specs.Lemmas.Wheels.{wheel_is, wheel_none}
+use Rattle.zoom.proofs.Lemmas.Wheels.{wheel_is, wheel_none}
 use Rattle.zoom.proofs.wheel_scale.Goals as goal
 
 fails : (b : Bool) → b ≡ false → T b → ⊥

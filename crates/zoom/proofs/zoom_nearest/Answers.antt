@@ -3,8 +3,8 @@
 use Rattle.std.proofs.Common.{sym, inl, inr, mul-le-mul, arith, rules, eqb-true}
 use borrow.Author.Tests.{eqb-false}
 use Rattle.zoom.specs.Printed.{nearest, nearest_from}
-use Rattle.zoom.specs.Lemmas.Roots.{root_narrow}
-use Rattle.zoom.specs.Lemmas.Rounding.{from_half, from_up, root_fits}
+use Rattle.zoom.proofs.Lemmas.Roots.{root_narrow}
+use Rattle.zoom.proofs.Lemmas.Rounding.{from_half, from_up, root_fits}
 use Rattle.zoom.proofs.zoom_nearest.Goals as goal
 
 pub overflow_mul-h : goal.overflow_mul-h

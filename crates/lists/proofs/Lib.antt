@@ -1,0 +1,5 @@
+pub mod TestLaws
+pub mod StoreLaws
+pub mod CountLaws
+pub mod BlockLaws
+pub mod SortLaws
