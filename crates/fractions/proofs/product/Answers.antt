@@ -1,7 +1,7 @@
 -- The two digits of `num` are multiplied one after the other: the laws of Wide say that each part fits, and that together they are the product.
 use borrow.Author.Rules.{rules}
 use native.Mathlib.Omega.{arith}
-use Rattle.fractions.proofs.Wide.{product_digits, low_fits, high_fits}
+use Rattle.fractions.proofs.WideLaws.{product_digits, low_fits, high_fits}
 use Rattle.fractions.proofs.product.Goals as goal
 
 pub overflow_mul-low : goal.overflow_mul-low

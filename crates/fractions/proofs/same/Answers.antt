@@ -1,7 +1,7 @@
 -- Two products are equal where both their parts are, by the laws of Wide.
 use borrow.Author.Rules.{rules}
 use Rattle.fractions.specs.Order.{same}
-use Rattle.fractions.proofs.Wide.{low_same, high_same}
+use Rattle.fractions.proofs.WideLaws.{low_same, high_same}
 use Rattle.fractions.proofs.same.Goals as goal
 
 pub returns-then-a-b : goal.returns-then-a-b
