@@ -1,5 +1,6 @@
 // Sheets put together of parts: what the call that assembles one does.
 #![tactic(auto)]
+
 ghost use Rattle.std.specs.Prelude.{◌≡◌, ◌&&◌, map, leb, length};
 ghost use Rattle.contents.specs.Questions.{is_count};
 ghost use Rattle.jobs.specs.Jobs.{assemble_job};

@@ -1,5 +1,6 @@
 // The map of one bit a mark: mark m is bit m mod 8 of byte m / 8.
 #![tactic(auto)]
+
 ghost use Rattle.std.specs.Prelude.{◌≡◌, ◌*◌, ◌/◌, ◌<◌, ◌≤◌, length, take};
 ghost use Rattle.numbers.specs.Little.{le_at};
 ghost use Rattle.bitmap.specs.Map.{map_size, bit_at, walk};

@@ -1,5 +1,6 @@
 // The bodies of a sheet: questions 4 to 9, with 19, 21 and 24 after 7, and 23.
 #![tactic(auto)]
+
 ghost use Rattle.std.specs.Prelude.{◌≡◌, true, map, ◌<◌, length};
 ghost use Rattle.contents.specs.Contents.{together};
 ghost use Rattle.contents.specs.Asking.{answer};

@@ -1,5 +1,6 @@
 // Sheets scheduled anew, as they are or with marks that come and go: what the calls that schedule, add a mark and take one out do.
 #![tactic(auto)]
+
 ghost use Rattle.std.specs.Prelude.{◌≡◌, cond, [], length};
 ghost use Rattle.changing.specs.Changing.{added, taken_out, added_popup, taken_out_popup};
 ghost use Rattle.contents.specs.Contents.{has, split, marks_part};

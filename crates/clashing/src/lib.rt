@@ -2,6 +2,7 @@
 // questions 1 to 8, the last empty where it is not there; `edition` ranks the marks, and an `axis` is true for x. What the search for those that
 // clash may leave out is here too.
 #![tactic(auto)]
+
 ghost use Rattle.std.specs.Prelude.{◌≡◌, false, cond, ◌+◌, ◌*◌, ◌<◌, ◌≤◌, length};
 ghost use Rattle.fractions.specs.Order.{less, Small};
 ghost use Rattle.marks.specs.Pairs.{popup_value, pair_value};

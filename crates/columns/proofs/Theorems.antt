@@ -1,9 +1,9 @@
 -- 02: "The inverse returns every multiple of 11 bytes up to 45,056 exactly, also where kind or radius would be refused, and the two undo
 -- each other either way round." Of bytes of any such length; jobs has it of the calls.
-use Rattle.std.specs.Prelude.{ℕ, ◌*◌, ◌<◌, ◌≤◌, ◌≡◌, refl, true, List, [], ◌∷◌, length}
-use Rattle.std.proofs.Common.{sym, ◌∙◌, arith}
-use Rattle.numbers.specs.Little.{le_at, le_bytes, Bytes}
-use Rattle.columns.specs.Columns.{Values, in_marks, in_columns, as_marks, as_columns, places_by, differences, sums, to_columns, from_columns}
+use Rattle.std.specs.Prelude.{ℕ, ◌*◌, ◌<◌, ◌≤◌, ◌≡◌, refl, List, length}
+use Rattle.std.proofs.Common.{◌∙◌, arith}
+use Rattle.numbers.specs.Little.{Bytes}
+use Rattle.columns.specs.Columns.{Values, in_marks, in_columns, places_by, differences, sums, to_columns, from_columns}
 use Rattle.columns.proofs.Lemmas.Running.{sums_same, differences_same, sums_small, differences_small, sums_differences, differences_sums}
 use Rattle.columns.proofs.Lemmas.Reading.{Agree, Small, columns_read, columns_same, columns_length, marks_read, marks_same, marks_length, small_marks, small_columns}
 use Rattle.columns.proofs.Lemmas.Rejoined.{marks_again, columns_again}

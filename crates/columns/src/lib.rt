@@ -1,5 +1,6 @@
 // Part 1 by columns, and back. `s` is part 1 of a sheet, `c` the same marks by columns, `n` their number and `m` a mark's.
 #![tactic(auto)]
+
 ghost use Rattle.std.specs.Prelude.{◌≡◌, ◌+◌, ◌-◌, ◌*◌, ◌%◌, ◌<◌, ◌≤◌, length};
 ghost use Rattle.std.proofs.lemmas.List.Edits.{sets};
 ghost use Rattle.marks.specs.Marks.{mark_size};

@@ -9,9 +9,7 @@ use Rattle.contents.specs.Asking.{answer}
 use Rattle.contents.specs.Questions.{top_code, is_count, rising, codes_right, contents_questions}
 use Rattle.contents.specs.Laid.{Laid}
 use Rattle.contents.specs.Places.{layout_of, no_parts, place_of, is_there, cut_of, Located}
-use Rattle.contents.proofs.Lemmas.Asked as Asked
 use Rattle.contents.proofs.Lemmas.Asked.{Numbered}
-use Rattle.contents.proofs.Lemmas.Turns as Turns
 use Rattle.contents.proofs.Lemmas.Laid as Laying
 use Rattle.contents.proofs.Lemmas.Codes as Codes
 use Rattle.contents.proofs.Lemmas.Parts as Parts

@@ -1,5 +1,6 @@
 // The contents of a sheet: questions 1 to 3, and where the parts lie.
 #![tactic(auto)]
+
 ghost use Rattle.std.specs.Prelude.{◌≡◌, true, cond, [], map, ℕ, ◌+◌, ◌<◌, ◌≤◌, eqb, length, get_or, take};
 ghost use Rattle.contents.specs.Contents.{codes_of, bodies_of, names, count_at, code_at, offset_at, length_at, contents_size, split};
 ghost use Rattle.contents.specs.Contents.{together, find};

@@ -1,5 +1,6 @@
 // The same marks in another form: what the calls that fill, turn and rearrange marks do.
 #![tactic(auto)]
+
 ghost use Rattle.std.specs.Prelude.{length};
 ghost use Rattle.jobs.specs.Jobs.{fill_job, log_to_marks_job, marks_to_log_job, to_columns_job, from_columns_job};
 ghost use Rattle.jobs.specs.Answers.{Gives};

@@ -1,6 +1,7 @@
 // Part 6 of a sheet: how many marks of each kind group live at each stop. `marks`, `schedule` and `popups` are its parts 1, 2 and 5, the last
 // one empty where it is not there, `n` is the number of marks and `m` a mark's.
 #![tactic(auto)]
+
 ghost use Rattle.std.specs.Prelude.{◌≡◌, ◌⊎◌, ◌+◌, ◌*◌, ◌<◌, ◌≤◌, min, length, get_or, set};
 ghost use Rattle.fractions.specs.declared.Value.TheVariants.{At};
 ghost use Rattle.marks.specs.Marks.{mark_size};
@@ -136,7 +137,7 @@ struct Cells {
 
 fn cells_of(marks: &[u8], schedule: &[u8], popups: &[u8], m: usize) -> Cells
     requires mark_size_in_bounds { (mark_size * m + mark_size ≤ length marks.now) × (record_size * m + record_size ≤ length schedule.now) }
-    requires fact { (length popups.now ≡ 0) ⊎ (popup_size * m + popup_size ≤ length popups.now) }
+    requires popups_there { (length popups.now ≡ 0) ⊎ (popup_size * m + popup_size ≤ length popups.now) }
     ensures begin_value { result.begin ≡ begin_cell marks.now schedule.now popups.now m }
     ensures end_value { result.end ≡ end_cell marks.now schedule.now m }
 {
@@ -166,7 +167,7 @@ fn tally(
     n: usize,
 )
     requires n_bound { (n ≤ 4096) × (mark_size * n ≤ length marks.now) × (record_size * n ≤ length schedule.now) }
-    requires fact { (length popups.now ≡ 0) ⊎ (popup_size * n ≤ length popups.now) }
+    requires popups_there { (length popups.now ≡ 0) ⊎ (popup_size * n ≤ length popups.now) }
     requires entered { Entered marks.now schedule.now popups.now 0 begins.old ends.old }
     ensures { Entered marks.now schedule.now popups.now n begins.new ends.new }
 {
@@ -185,7 +186,7 @@ fn tally(
 // is gone.
 pub fn counts_of(marks: &[u8], schedule: &[u8], popups: &[u8], n: usize) -> [u8; COUNTS_SIZE]
     requires n_bound { (n ≤ 4096) × (mark_size * n ≤ length marks.now) × (record_size * n ≤ length schedule.now) }
-    requires fact { (length popups.now ≡ 0) ⊎ (popup_size * n ≤ length popups.now) }
+    requires popups_there { (length popups.now ≡ 0) ⊎ (popup_size * n ≤ length popups.now) }
     ensures { result ≡ counts_of marks.now schedule.now popups.now n }
 {
     let mut table = [0u16; BEGIN_SIZE];
@@ -206,7 +207,7 @@ pub fn counts_of(marks: &[u8], schedule: &[u8], popups: &[u8], n: usize) -> [u8;
 // Does this hold the counts of n marks?
 pub fn is_counts(body: &[u8], marks: &[u8], schedule: &[u8], popups: &[u8], n: usize) -> bool
     requires n_bound { (n ≤ 4096) × (mark_size * n ≤ length marks.now) × (record_size * n ≤ length schedule.now) }
-    requires fact { (length popups.now ≡ 0) ⊎ (popup_size * n ≤ length popups.now) }
+    requires popups_there { (length popups.now ≡ 0) ⊎ (popup_size * n ≤ length popups.now) }
     ensures { result ≡ is_counts body.now marks.now schedule.now popups.now n }
 {
     if body.len() != COUNTS_SIZE {

@@ -1,5 +1,6 @@
 // Counts beside the reel: what the call that counts a sheet does.
 #![tactic(auto)]
+
 ghost use Rattle.std.specs.Prelude.{◌≡◌, true, false, [], ◌∷◌, ◌<◌, leb, length};
 ghost use Rattle.contents.specs.Contents.{has, split};
 ghost use Rattle.contents.specs.Asking.{◌asks◌};
@@ -40,7 +41,7 @@ fn copied(sheet: &[u8], out: &mut [u8]) -> Answer
 // the new ones.
 fn put_counted(sheet: &[u8], layout: Layout, out: &mut [u8]) -> Answer
     requires sheet_value { (check sheet.now ≡ 0) × (layout ≡ layout_of sheet.now) }
-    requires sheet_value_2 { (has (split sheet.now) 2 ≡ true) × (has (split sheet.now) 6 ≡ false) }
+    requires parts_there { (has (split sheet.now) 2 ≡ true) × (has (split sheet.now) 6 ≡ false) }
     ensures { Gives (outcome ((13 asks leb (length (with_own_counts sheet.now)) (length out.old)) ∷ []) (length (with_own_counts sheet.now)) (with_own_counts sheet.now)) out.old result out.new }
 {
     let size = sheet.len() + COUNTED_BYTES;

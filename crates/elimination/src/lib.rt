@@ -1,5 +1,6 @@
 // Part 2 of a sheet, the schedule: its records, read and written. Who goes, when and by whom is defined in specs/; crate `scheduling` works it out.
 #![tactic(auto)]
+
 ghost use Rattle.std.specs.Prelude.{◌≡◌, ◌+◌, ◌*◌, ◌≤◌, length};
 ghost use Rattle.std.proofs.lemmas.List.Edits.{sets};
 ghost use Rattle.elimination.specs.Records.{record_size, record_at, record_bytes, fraction_of, is_never, value_of, value_at};

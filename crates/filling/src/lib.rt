@@ -1,5 +1,6 @@
 // Filling: the same marks, each radius 0 written as the number in 01's old table. `s` is the marks' bytes and `m` a mark's number.
 #![tactic(auto)]
+
 ghost use Rattle.std.specs.Prelude.{◌≡◌, ◌+◌, ◌*◌, ◌≤◌, length};
 ghost use Rattle.std.proofs.lemmas.List.Edits.{sets};
 ghost use Rattle.marks.specs.Marks.{mark_size};

@@ -1,5 +1,6 @@
 // Fractions and removal values, compared by exact cross products.
 #![tactic(auto)]
+
 ghost use Rattle.std.specs.Prelude.{◌≡◌, ◌*◌};
 ghost use Rattle.fractions.specs.Order.{less, same, later, level, Small};
 ghost use Rattle.fractions.specs.Wide.{TwoDigits};

@@ -15,7 +15,7 @@ use Rattle.numbers.proofs.Laws.{read_back_sets, kept_write, number_kept}
 use Rattle.fractions.specs.declared.Fraction.{Fraction}
 use Rattle.marks.specs.declared.Label.{Label}
 use Rattle.grid.specs.declared.Region.{Region}
-use Rattle.grid.specs.Table.{cell_count, region_count, region_size, table_size, group_region, region_at, empty_region, link_from, link_at, last_at}
+use Rattle.grid.specs.Table.{cell_count, region_count, region_size, table_size, group_region, region_at, empty_region, link_from, last_at}
 use Rattle.grid.specs.Boxes.{widened}
 use Rattle.grid.specs.Steps.{LinkPut, RegionPut, Cleared, Added}
 use Rattle.grid.specs.Laws.{region_kept}

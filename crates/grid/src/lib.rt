@@ -3,6 +3,7 @@
 // that lives until it touches. Nothing but speed rests on the choice of a row's cell. The table stands in lent bytes `w`, from `at` on: the
 // regions of the cells, those of the groups, and then a link for each row.
 #![tactic(auto)]
+
 ghost use Rattle.std.specs.Prelude.{◌≡◌, ◌+◌, ◌-◌, ◌*◌, ◌/◌, ◌<◌, ◌≤◌, max, pos, length};
 ghost use Rattle.std.proofs.lemmas.List.Edits.{sets};
 ghost use Rattle.fractions.specs.Order.{Small};

@@ -1,5 +1,6 @@
 // Part 3 of a sheet, the index: its check. `marks`, `schedule` and `index` are the bytes of parts 1, 2 and 3; an `axis` is true for x.
 #![tactic(auto)]
+
 ghost use Rattle.std.specs.Prelude.{◌≡◌, true, ◌↔◌, ◌+◌, ◌*◌, ◌<◌, ◌≤◌, min, max, length};
 ghost use Rattle.lists.specs.Blocks.{block};
 ghost use Rattle.marks.specs.Marks.{mark_size};

@@ -7,7 +7,7 @@ use Rattle.std.proofs.Common.{ap, ◌∙◌, inl, inr, arith}
 use borrow.Author.Tests.{eqb-true}
 use Rattle.lists.proofs.TestLaws.{by_cases}
 use Rattle.numbers.specs.Little.{Bytes}
-use Rattle.contents.specs.Contents.{Part, find, has, with_part, split, marks_part, schedule_part, edition_part, popups_part, shape_part}
+use Rattle.contents.specs.Contents.{Part, find, has, with_part, split, marks_part, edition_part, popups_part, shape_part}
 use Rattle.contents.specs.Asking.{Question, answer}
 use Rattle.contents.proofs.Laws.{find_none, with_found, with_there, with_other_found, with_other_there, asked_no, append_yes, append_no}
 use Rattle.parts.specs.Questions.{choice_in, is_choice}

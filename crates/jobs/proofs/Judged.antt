@@ -20,7 +20,6 @@ use Rattle.judging.proofs.Theorems.{judge_schedule_lem}
 use Rattle.jobs.specs.declared.Answer.{Answer}
 use Rattle.jobs.specs.Answers.{answer_of}
 use Rattle.jobs.specs.Jobs.{kept_parts, with_counts, new_schedule, new_index, new_counts, new_parts, scheduled, ScheduledHere, question22, judge_questions, judge_job}
-use Rattle.jobs.specs.Demand3.{Demand3}
 use Rattle.jobs.proofs.Laws.Outcomes.{outcome_number}
 use Rattle.jobs.proofs.Laws.Kept.{kept_edition, kept_shape, kept_popups, kept_whole}
 use Rattle.jobs.proofs.Theorems.{good_reel, schedule_is, here_indexed, demand3}

@@ -1,9 +1,8 @@
 -- 02, request 4: "each is worked out by a shift, and any other stop gets 12. On any sheet, edges and lent map, a stop and the wheel value
 -- of the same zoom give the same answer, map and count." Over the jobs, and so of what the call at a stop answers and leaves.
-use Rattle.std.specs.Prelude.{ℕ, ◌^◌, ◌<◌, ◌≤◌, ◌≡◌, Bool, true, false, cond, List, [], ◌∷◌, leb, length, Float}
+use Rattle.std.specs.Prelude.{ℕ, ◌<◌, ◌≤◌, ◌≡◌, Bool, true, false, cond, List, [], ◌∷◌, leb, length, Float}
 use Rattle.std.proofs.Common.{ap, ◌∙◌, arith}
 use Rattle.std.proofs.Math.Decide.{dec_lt}
-use Rattle.std.specs.Float.Ieee.Exact.{HasValue}
 use Rattle.contents.specs.Contents.{split}
 use Rattle.contents.specs.Asking.{Question, ◌asks◌, answer}
 use Rattle.contents.proofs.Laws.{append_yes, append_iff}
@@ -17,7 +16,7 @@ use Rattle.reaching.specs.declared.Window.{Window}
 use Rattle.reaching.specs.Questions.{question20, question11, is_taken, view_questions}
 use Rattle.jobs.specs.declared.Answer.{Answer}
 use Rattle.jobs.specs.Jobs.{shown_in, view_job}
-use Rattle.jobs.specs.Answers.{refusal, answer_of, Gives}
+use Rattle.jobs.specs.Answers.{answer_of, Gives}
 use Rattle.jobs.specs.Demand3.{MeetsView}
 use Rattle.jobs.proofs.Theorems.{view_meets}
 use Rattle.jobs.proofs.Laws.Outcomes.{outcome_no, outcome_number}

@@ -1,5 +1,5 @@
 -- Demands 2 and 3 over the bytes of sheets, with popups, and that notes don't move breaks. Assumes nothing.
-use Rattle.std.specs.Prelude.{ℕ, zero, suc, ◌+◌, ◌*◌, ◌<◌, ◌≤◌, ◌≡◌, Bool, false, ◌↔◌, take, drop}
+use Rattle.std.specs.Prelude.{ℕ, ◌+◌, ◌*◌, ◌<◌, ◌≤◌, ◌≡◌, Bool, false, ◌↔◌, take, drop}
 use Rattle.std.proofs.Math.Path.{sym, ap}
 use Rattle.std.proofs.Common.{◌∙◌, arith, length-append}
 use Rattle.std.proofs.Math.Bool.{true}
@@ -25,7 +25,7 @@ use Rattle.elimination.specs.Important.{important_count, important_at}
 use Rattle.elimination.proofs.Unmoved.{unpopped_schedule, important_unmoved, same_value}
 use Rattle.contents.specs.Contents.{Part, ◌holds◌, codes_of, bodies_of, count_at, has, split, join, together, marks_part, schedule_part, popups_part}
 use Rattle.contents.specs.Asking.{Question, answer}
-use Rattle.contents.proofs.Laws.{Numbered, asked_iff, append_iff, count_iff, split_length, split_join, join_bytes, together_parts}
+use Rattle.contents.proofs.Laws.{Numbered, asked_iff, append_iff, count_iff, split_length, split_join, together_parts}
 use Rattle.contents.specs.Questions.{is_count, codes_right}
 use Rattle.parts.specs.Questions.{mark_count, reel_from}
 use Rattle.bodies.specs.Questions.{edition_of, shape_of, reel_of}

@@ -11,7 +11,7 @@ use Rattle.elimination.proofs.Unmoved.{alike_schedule}
 use Rattle.turns.proofs.Laws.{turned_0}
 use Rattle.changing.specs.Turned.{turned_at, turned_marks, TurnedFit}
 use Rattle.changing.proofs.TurnedLaws.{turned_length, turned_bytes, turned_fields, turned_used, turned_good, turned_rank, turned_pair}
-use Rattle.contents.specs.Contents.{Part, ◌holds◌, split, join, marks_part, schedule_part, popups_part}
+use Rattle.contents.specs.Contents.{Part, split, marks_part, schedule_part, popups_part}
 use Rattle.contents.specs.Asking.{Question, ◌asks◌, answer}
 use Rattle.parts.specs.Questions.{mark_count, reel_from}
 use Rattle.bodies.specs.Questions.{edition_of, shape_of}

@@ -1,5 +1,6 @@
 // Sheets written: the contents, and the bodies one behind the other.
 #![tactic(auto)]
+
 ghost use Rattle.std.specs.Prelude.{◌≡◌, map, ℕ, ◌+◌, ◌<◌, ◌≤◌, leb, length, get_or, take};
 ghost use Rattle.std.proofs.lemmas.List.Edits.{sets};
 ghost use Rattle.contents.specs.Contents.{contents_size, sizes_of, entry, contents_of, chain, join, together};

@@ -1,5 +1,6 @@
 // The judgement of a sheet's schedule: what the call that judges one does.
 #![tactic(auto)]
+
 ghost use Rattle.std.specs.Prelude.{◌≡◌};
 ghost use Rattle.contents.specs.Contents.{split};
 ghost use Rattle.contents.specs.Asking.{answer};

@@ -1,6 +1,7 @@
 // The judge of request 10: is a proposed schedule ours? `marks`, `schedule`, `index` and `popups` are the bytes of parts 1, 2, 3 and 5 of a
 // sheet that passed questions 1 to 9, the last empty where it is not there; `edition` ranks the marks, `shape` is that of their labels, and an `axis` is true for x.
 #![tactic(auto)]
+
 ghost use Rattle.std.specs.Prelude.{◌≡◌, ◌+◌, ◌<◌, ◌≤◌, max, length};
 ghost use Rattle.marks.specs.Good.{GoodMarks};
 ghost use Rattle.clashing.specs.Clash.{widest_radius, Asked, Subjected};

@@ -1,5 +1,6 @@
 // The lines of a printed schedule, in a lent buffer.
 #![tactic(auto)]
+
 ghost use Rattle.std.specs.Prelude.{◌≡◌, false, [], ◌∷◌, ◌+◌, ◌*◌, ◌<◌, ◌≤◌, length};
 ghost use Rattle.fractions.specs.Order.{Small};
 ghost use Rattle.text.specs.Text.{decimal, number_room, Wrote};

@@ -1,6 +1,6 @@
 -- Tests as statements: what 'and', 'or' and 'not' say, `every`, a test as a number, `how_many` and `passing`. Assumes nothing.
 use Prim.Native.Nat.{ℕ, zero, suc, ◌+◌, ◌<◌, ◌≤◌}
-use Rattle.std.specs.Prelude.{◌≡◌, Bool, true, false, cond, not, ◌&&◌, ◌||◌, List, [], ◌∷◌, ◌↔◌, ◌⊎◌, ltb, length, get_or}
+use Rattle.std.specs.Prelude.{◌≡◌, Bool, true, false, cond, not, ◌&&◌, ◌||◌, List, ◌∷◌, ◌↔◌, ◌⊎◌, ltb, length, get_or}
 use Rattle.std.proofs.Math.Path.{refl, subst⁻¹}
 use Rattle.std.proofs.Common.{sym, ap, ◌∙◌, inl, inr, add-zero, add-suc, add-one, lt-ltb, le-ltb}
 use Rattle.std.proofs.lemmas.Bool.{false≢true, not-true, not-false}

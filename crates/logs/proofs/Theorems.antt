@@ -1,5 +1,5 @@
 -- What follows of logs turned into marks and marks into logs. Assumes nothing.
-use Rattle.std.specs.Prelude.{ℕ, ◌*◌, ◌≡◌, true, List, length}
+use Rattle.std.specs.Prelude.{ℕ, ◌*◌, ◌≡◌, List, length}
 use Rattle.numbers.specs.Little.{Bytes}
 use Rattle.marks.specs.Marks.{mark_size}
 use Rattle.marks.specs.Good.{GoodMarks}

@@ -1,5 +1,6 @@
 // Logs from the winder: what is asked of a log, the marks of a log, and the log of marks. `s` is a log or the marks' bytes.
 #![tactic(auto)]
+
 ghost use Rattle.std.specs.Prelude.{◌≡◌, true, ◌+◌, ◌*◌, ◌<◌, ◌≤◌, length};
 ghost use Rattle.std.proofs.lemmas.List.Edits.{sets};
 ghost use Rattle.marks.specs.Marks.{mark_size, place_bits};

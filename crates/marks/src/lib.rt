@@ -1,5 +1,6 @@
 // The fields of a mark, its used radius, touching and rank. `s` is part 1 of a sheet and `m` a mark's number.
 #![tactic(auto)]
+
 ghost use Rattle.std.specs.Prelude.{◌≡◌, ◌⊎◌, ◌+◌, ◌*◌, ◌/◌, ◌%◌, ◌<◌, ◌≤◌, length, ◌-ℤ◌, nat_abs};
 ghost use Rattle.numbers.specs.Little.{le_bytes};
 ghost use Rattle.fractions.specs.Order.{Small};

@@ -1,5 +1,6 @@
 // What a sheet's parts are asked one by one: questions 4 to 6 of part 1, and what 8, 19, 21 and 24 ask of a body.
 #![tactic(auto)]
+
 ghost use Rattle.std.specs.Prelude.{◌≡◌, ◌+◌, ◌*◌, ◌<◌, ◌≤◌, length};
 ghost use Rattle.marks.specs.Marks.{mark_size};
 ghost use Rattle.marks.specs.Pairs.{GoodPopups};

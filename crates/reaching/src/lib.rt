@@ -1,6 +1,7 @@
 // Whose label reaches a window: the questions of windows, the window turned back, and the test of one mark. `marks` and `popups` are the bytes
 // of parts 1 and 5 of a sheet, the latter empty where it is not there; `shape` is that of the labels.
 #![tactic(auto)]
+
 ghost use Rattle.std.specs.Prelude.{◌≡◌, true, ◌+◌, ◌-◌, ◌*◌, ◌≤◌, length, pos};
 ghost use Rattle.zoom.specs.Zoom.{largest_scale};
 ghost use Rattle.marks.specs.Marks.{mark_size, shifted};

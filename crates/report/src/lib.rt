@@ -1,5 +1,6 @@
 // The printed schedule as bytes in a lent buffer.
 #![tactic(auto)]
+
 ghost use Rattle.std.specs.Prelude.{◌≡◌};
 ghost use Rattle.contents.specs.Asking.{answer};
 ghost use Rattle.report.specs.Text.{print_questions};

@@ -1,5 +1,6 @@
 // The public library, for C and Rust.
 #![tactic(auto)]
+
 ghost use Rattle.std.specs.Prelude.{◌≡◌, map, length};
 ghost use Rattle.changing.specs.Changing.{added, taken_out, added_popup, taken_out_popup};
 ghost use Rattle.contents.specs.Contents.{has, split, marks_part};
@@ -46,11 +47,7 @@ pub fn rollmap_part(sheet: &[u8], code: u32) -> Extent
 // Puts the bodies under these codes together into a sheet at the start of `out`: questions 1 (of the number of parts), 2 of the codes, 4 to 9
 // with 19, 21, 23 and 24, and 13. Bodies behind those that the codes name are ignored. The sheet has these parts and is accepted; an accepted sheet's own
 // parts give that sheet.
-pub fn rollmap_assemble<'a>(
-    codes: &[u16],
-    bodies: &'a [&'a [u8]],
-    out: &mut [u8],
-) -> Answer
+pub fn rollmap_assemble<'a>(codes: &[u16], bodies: &'a [&'a [u8]], out: &mut [u8]) -> Answer
     ensures gives { Gives (assemble_job codes.now (map (λ x. x.now) bodies.now) (length out.old)) out.old result out.new }
     ensures joins { Joins codes.now (map (λ x. x.now) bodies.now) out.old result out.new }
 {

@@ -1,5 +1,6 @@
 // The exports for C: each call of `rollmap` under its own name, with its clauses.
 #![tactic(auto)]
+
 ghost use Rattle.std.specs.Prelude.{◌≡◌, map, length};
 ghost use Rattle.changing.specs.Changing.{added, taken_out, added_popup, taken_out_popup};
 ghost use Rattle.contents.specs.Contents.{has, split, marks_part};

@@ -1,6 +1,7 @@
 // Rows of bytes of one width, one behind the other: a row taken out of them. Definitions and laws serve all jobs that read and write row by
 // row.
 #![tactic(auto)]
+
 ghost use Rattle.std.specs.Prelude.{◌≡◌, ◌+◌, ◌*◌, ◌<◌, take, drop};
 
 // The rows before row m; all where there are fewer.

@@ -1,6 +1,7 @@
 // Prints the schedule of the sheet on standard input. A read or a write that fails is told on standard error; a program of Rattle has no
 // other status than 0.
 #![tactic(auto)]
+
 ghost use Rattle.std.specs.Prelude.{◌<◌, ◌≤◌, length};
 ghost use Rattle.report.specs.Text.{longest_input};
 ghost use Rattle.report.specs.Printing.{Room};

@@ -6,7 +6,7 @@ use mathlib.Core.List.{List}
 use mathlib.Core.Logic.{inl, inr}
 use native.Mathlib.Omega.{arith}
 use borrow.Author.Count.{below_more}
-use borrow.Author.Tests.{ltb-true, ltb-false}
+use borrow.Author.Tests.{ltb-true}
 use lib.Dec.{ltb}
 use lib.IntN.{pos, negsuc}
 use lib.ListN.{length}
@@ -18,9 +18,8 @@ use Rattle.fractions.specs.declared.Fraction.{Fraction}
 use Rattle.fractions.specs.Order.{Small}
 use Rattle.marks.specs.declared.Label.{Label}
 use Rattle.marks.specs.Marks.{shifted}
-use Rattle.grid.specs.declared.Region.{Region}
-use Rattle.grid.specs.Table.{cell_count, region_count, group_region, table_size, link_from, region_at, EntriesLow, assign}
-use Rattle.grid.specs.Boxes.{Holds, widened}
+use Rattle.grid.specs.Table.{cell_count, region_count, group_region, table_size, link_from, region_at, assign}
+use Rattle.grid.specs.Boxes.{widened}
 use Rattle.grid.specs.Steps.{LinkPut, Cleared, Added}
 use Rattle.grid.specs.Laws.{SameTable, ready_none, chained_none, ready_same, chained_same, same_kept, same_linked, ready_left, chained_left, ready_more, chained_more, holds_more, widened_here, assign_same, assign_here}
 use Rattle.searching.specs.Rows.{row_size, row_x_offset, row_y_offset, row_radius_offset, row_record_offset, row_label, row_value}

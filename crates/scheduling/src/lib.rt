@@ -3,6 +3,7 @@
 // into a row, each row is searched for among the rows above it, and the records go out in the order of the marks' numbers. Where the rows are
 // many, a grid of cells serves the search; it stands behind the rows, where the keys stood.
 #![tactic(auto)]
+
 ghost use Rattle.std.specs.Prelude.{◌≡◌, ◌⊎◌, ◌++◌, ℕ, ◌+◌, ◌*◌, ◌<◌, ◌≤◌, length, take, drop};
 ghost use Rattle.std.proofs.lemmas.List.Edits.{sets};
 ghost use Rattle.marks.specs.Marks.{mark_size, used_at};

@@ -3,7 +3,7 @@ use Prim.Native.Nat.{ℕ, ◌+◌, ◌-◌, ◌*◌, ◌/◌, ◌%◌, ◌<◌, 
 use mathlib.Core.Path.{◌≡◌, refl, sym, ◌∙◌, subst}
 use mathlib.Core.Bool.{Bool, true, false, cond, true≢false}
 use mathlib.Core.List.{List}
-use mathlib.Core.Logic.{◌⊎◌, inl, inr}
+use mathlib.Core.Logic.{inl, inr}
 use native.Mathlib.Omega.{arith}
 use native.Mathlib.Nat.{mul-le-mul}
 use native.Mathlib.Decide.{dec_lt, dec_le, ℕ_discrete}
@@ -21,7 +21,7 @@ use Rattle.searching.specs.declared.Leader.{Leader}
 use Rattle.searching.specs.Rows.{row_label, row_popup, row_value, rows_touch, rows_pair}
 use Rattle.searching.specs.Search.{leader_value, StandsAt, Before, SearchFor, Adds, Only, Higher}
 use Rattle.searching.specs.Cells.{HoldsRow, InGrid, Gridded, may_lead, Tail, Walked, CellAdded, Own, InGroup, counted_down, own_first, InTurn, FirstCells, FirstGroups}
-use Rattle.searching.proofs.Steps.{not_less, at_most_lem, adds_before, adds_like, adds_then}
+use Rattle.searching.proofs.Steps.{at_most_lem, adds_before, adds_like, adds_then}
 
 -- ---- a chain, from row h - 1 down
 

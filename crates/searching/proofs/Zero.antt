@@ -1,22 +1,21 @@
 -- A leader of value 0 goes before all rows: of the rows at one place only one can remove another. Assumes nothing.
-use Prim.Native.Nat.{ℕ, zero, suc, ◌+◌, ◌*◌, ◌<◌, ◌≤◌}
-use mathlib.Core.Path.{◌≡◌, sym, ap, ap₂, ◌∙◌, subst}
+use Prim.Native.Nat.{ℕ, zero, suc, ◌*◌, ◌<◌, ◌≤◌}
+use mathlib.Core.Path.{◌≡◌, sym, ap, ◌∙◌}
 use mathlib.Core.List.{List}
 use mathlib.Core.Logic.{inl, inr}
 use native.Mathlib.Omega.{arith}
 use native.Mathlib.Nat.{mul-le-mul}
 use native.Mathlib.Decide.{dec_le}
 use Rattle.fractions.specs.declared.Fraction.{Fraction}
-use Rattle.fractions.specs.Order.{Less, AtMost}
 use Rattle.marks.specs.declared.Label.{Label}
 use Rattle.marks.specs.Marks.{larger, apart, distance, touching_of}
 use Rattle.marks.proofs.Laws.{distance_x, distance_y, distance_most, larger_least, larger_most}
-use Rattle.marks.specs.Pairs.{popup_value, pair_of}
+use Rattle.marks.specs.Pairs.{pair_of}
 use Rattle.marks.proofs.PairLaws.{pair_positive, positive_pair, pair_least, pair_popup, pair_none}
 use Rattle.grid.specs.Laws.{same_place, apart_self}
 use Rattle.searching.specs.declared.Leader.{Leader}
 use Rattle.searching.specs.Rows.{row_label, row_popup, row_value, rows_touch, rows_pair}
-use Rattle.searching.specs.Search.{leader_value, StandsAt, Positive, Zeroed, Before, Leads}
+use Rattle.searching.specs.Search.{StandsAt, Positive, Zeroed, Before, Leads}
 use Rattle.searching.specs.Cells.{CellAdded}
 
 pub zero_factor : (x y : ℕ) → 0 < y → x * y ≤ 0 → x ≡ 0

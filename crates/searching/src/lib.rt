@@ -2,6 +2,7 @@
 // rows above it: of those that are removed later than they touch it, the one that touches it first, and of equal ones the highest-ranked. The
 // rows are searched in any order: all of them, or cell by cell of a grid, which leaves out those that are too far to matter.
 #![tactic(auto)]
+
 ghost use Rattle.std.specs.Prelude.{◌≡◌, ◌+◌, ◌-◌, ◌*◌, ◌<◌, ◌≤◌, ltb, length};
 ghost use Rattle.fractions.specs.Order.{Small};
 ghost use Rattle.marks.specs.Marks.{touching_of};

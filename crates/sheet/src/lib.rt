@@ -1,5 +1,6 @@
 // A whole sheet: checking, putting together and opening.
 #![tactic(auto)]
+
 ghost use Rattle.std.specs.Prelude.{◌≡◌, true, map, length};
 ghost use Rattle.contents.specs.Contents.{together};
 ghost use Rattle.contents.specs.Questions.{codes_right};

@@ -1,5 +1,6 @@
 // What the calls of the public library do in common: refusing, and scheduling marks that are put together.
 #![tactic(auto)]
+
 ghost use Rattle.std.specs.Prelude.{◌≡◌, cond, ◌&&◌, [], ◌++◌, ◌+◌, ◌*◌, ◌≤◌, leb, length};
 ghost use Rattle.scheduling.specs.Filling.{work_size};
 ghost use Rattle.jobs.specs.Jobs.{scheduling_job};

@@ -1,5 +1,6 @@
 // Quarter turns of places.
 #![tactic(auto)]
+
 ghost use Rattle.std.specs.Prelude.{◌≡◌, ◌<◌, ◌≤◌};
 ghost use Rattle.turns.specs.Turns.{row_by_column, product_at, times, turn, applied};
 ghost use Rattle.turns.specs.Small.{UpTo, SmallRow, Small, Within};

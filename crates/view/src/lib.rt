@@ -1,6 +1,7 @@
 // Who is shown: the search down the index, the map and the count. `marks`, `schedule`, `index` and `popups` are the bytes of parts 1, 2, 3
 // and 5 of a sheet, the last empty where it is not there; `shape` is that of the labels, and an `axis` is true for x.
 #![tactic(auto)]
+
 ghost use Rattle.std.specs.Prelude.{◌≡◌, true, [], ◌∷◌, ◌+◌, ◌*◌, ◌/◌, ◌<◌, ◌≤◌, length};
 ghost use Rattle.lists.specs.Blocks.{block};
 ghost use Rattle.zoom.specs.Zoom.{largest_scale};

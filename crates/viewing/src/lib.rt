@@ -1,5 +1,6 @@
 // Views: what the calls that view a sheet and read a map do.
 #![tactic(auto)]
+
 ghost use Rattle.std.specs.Prelude.{◌≡◌, true, ◌≤◌, length};
 ghost use Rattle.contents.specs.Contents.{split};
 ghost use Rattle.contents.specs.Places.{layout_of};

@@ -1,5 +1,6 @@
 // Zooms: which are taken, who lives at one, and the removal zoom that is printed.
 #![tactic(auto)]
+
 ghost use Rattle.std.specs.Prelude.{◌≡◌, ◌<◌};
 ghost use Rattle.fractions.specs.Order.{Small};
 ghost use Rattle.zoom.specs.Zoom.{scale_of, wheel_scale};

@@ -1,9 +1,6 @@
 -- `bitmap::clear` meets its contract: the bytes before i are cleared, as Turns says. Assumes nothing.
 use Prim.Native.Nat.{◌-◌, ◌≤◌}
-use mathlib.Core.Path.{◌≡◌}
-use native.Mathlib.Omega.{arith}
 use Rattle.bitmap.specs.Facts.{MapCleared}
-use Rattle.bitmap.proofs.Turns.{clear_none, clear_more}
 use Rattle.bitmap.proofs.clear.Given as goal
 
 abbrev pub invariant-loop-i : goal.invariant-loop-i

@@ -1,8 +1,7 @@
 -- `bitmap::count` meets its contract: the sum is the count of the words passed, as Turns says. Assumes nothing.
 use Prim.Native.Nat.{◌-◌}
 use native.Mathlib.Omega.{arith}
-use borrow.Author.Rules.{rules}
-use Rattle.bitmap.proofs.Turns.{Counting, count_bits_none, count_room, count_more, count_all}
+use Rattle.bitmap.proofs.Turns.{count_bits_none, count_room, count_more, count_all}
 use Rattle.bitmap.proofs.count.Goals as goal
 
 pub loop-q-init : goal.loop-q-init

@@ -1,8 +1,6 @@
 -- `bitmap::count` meets its contract: the sum is the count of the words passed, as Turns says. Assumes nothing.
 use Prim.Native.Nat.{◌-◌}
-use native.Mathlib.Omega.{arith}
-use borrow.Author.Rules.{rules}
-use Rattle.bitmap.proofs.Turns.{Counting, count_bits_none, count_room, count_more, count_all}
+use Rattle.bitmap.proofs.Turns.{Counting}
 use Rattle.bitmap.proofs.count.Given as goal
 
 abbrev pub invariant-loop-q : goal.invariant-loop-q

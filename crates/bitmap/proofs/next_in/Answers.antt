@@ -1,7 +1,6 @@
 -- `bitmap::next_in` meets its contract: it counts the zeros below a set bit, as Machine says. Assumes nothing.
 use Prim.Native.Nat.{◌/◌, ◌^◌}
 use native.Mathlib.Omega.{arith}
-use borrow.Author.Rules.{rules}
 use lib.Count.{trailing_le}
 use Rattle.bitmap.proofs.Machine.{no_next, is_next}
 use Rattle.bitmap.proofs.next_in.Goals as goal

@@ -1,5 +1,4 @@
 -- `bitmap::set_bit` meets its contract: an or with the mask of one bit, as Machine says. Assumes nothing.
-use borrow.Author.Rules.{rules}
 use Rattle.bitmap.proofs.Machine.{bit_set}
 use Rattle.bitmap.proofs.set_bit.Goals as goal
 

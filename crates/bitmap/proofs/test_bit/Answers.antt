@@ -1,5 +1,4 @@
 -- `bitmap::test_bit` meets its contract: the mask 1 leaves the lowest bit of the shifted byte. Assumes nothing.
-use borrow.Author.Rules.{rules}
 use lib.Bits.{and_mask}
 use Rattle.bitmap.proofs.test_bit.Goals as goal
 

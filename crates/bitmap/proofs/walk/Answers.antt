@@ -1,7 +1,7 @@
 -- `bitmap::walk` meets its contract: no bit from `start` up to i is set, as Turns says. Assumes nothing.
 use Prim.Native.Nat.{◌-◌}
 use native.Mathlib.Omega.{arith}
-use Rattle.bitmap.proofs.Turns.{Walking, Turned, walk_none, walk_turn, walk_end}
+use Rattle.bitmap.proofs.Turns.{Turned, walk_none, walk_turn, walk_end}
 use Rattle.bitmap.proofs.walk.Goals as goal
 use Rattle.bitmap.proofs.walk.Goals.{After-next_in-t}
 

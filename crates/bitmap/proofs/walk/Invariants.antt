@@ -1,7 +1,6 @@
 -- `bitmap::walk` meets its contract: no bit from `start` up to i is set, as Turns says. Assumes nothing.
 use Prim.Native.Nat.{◌-◌}
-use native.Mathlib.Omega.{arith}
-use Rattle.bitmap.proofs.Turns.{Walking, Turned, walk_none, walk_turn, walk_end}
+use Rattle.bitmap.proofs.Turns.{Walking}
 use Rattle.bitmap.proofs.walk.Given as goal
 
 abbrev pub invariant-loop-i : goal.invariant-loop-i

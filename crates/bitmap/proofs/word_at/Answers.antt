@@ -1,7 +1,6 @@
 -- `bitmap::word_at` meets its contract: the bytes past `end` count as 0, as Words says. Assumes nothing.
 use mathlib.Core.Path.{◌∙◌}
 use native.Mathlib.Omega.{arith}
-use borrow.Author.Rules.{rules}
 use Rattle.bitmap.proofs.Words.{word_short, word_whole}
 use Rattle.bitmap.proofs.word_at.Goals as goal
 

@@ -1,5 +1,5 @@
 -- No question of these lists bears the number 0.
-use Rattle.std.specs.Prelude.{ℕ, List}
+use Rattle.std.specs.Prelude.{List}
 use Rattle.std.proofs.Common.{arith}
 use Rattle.contents.specs.Contents.{Part}
 use Rattle.contents.proofs.Laws.{Numbered, numbered_append}

@@ -9,7 +9,6 @@ use Rattle.bodies.specs.Questions.{body_questions}
 use Rattle.parts.proofs.Laws.{part1_numbered}
 use Rattle.parts.proofs.Laws.{part1_iff}
 use native.Mathlib.Omega.{arith}
-use borrow.Author.Rules.{rules}
 use Rattle.bodies.proofs.bodies_answer.Goals as goal
 
 pub returns-then-number-ne0 : goal.returns-then-number-ne0

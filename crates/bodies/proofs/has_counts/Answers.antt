@@ -11,7 +11,6 @@ use Rattle.bodies.specs.Questions.{count_of, question23}
 use Rattle.parts.proofs.Laws.{popups_enough}
 use Rattle.bodies.proofs.Lemmas.Fitting.{sizes_iff, popups_asked, popups_good}
 use native.Mathlib.Omega.{arith}
-use borrow.Author.Rules.{rules}
 use Rattle.bodies.proofs.has_counts.Goals as goal
 
 pub returns-then-not-names : goal.returns-then-not-names
@@ -33,11 +32,14 @@ is_counts-requires c =
     let has-two : has parts 2 ≡ true = rw (together_codes codes bodies same) (six_with_two codes c.requires.bodies_value.2 six) in
     let long = ((sizes_iff parts).0 c.requires.bodies_value.0).0 has-two in
     let popped = popups_good parts (count_of parts) ((popups_asked parts).0 c.requires.bodies_value.1) in
-    let good = c.requires.codes_len.2 in record { n_bound = (
+    let good = c.requires.codes_len.2 in record {
+      n_bound = (
         good.marks.few,
         omega (arith, ap length c.find-2.ensures, good.marks.there),
         omega (arith, ap length c.find-3.ensures, long, good.counted),
-      ); fact = rw (c.find-4.ensures, good.counted) (popups_enough popped) }
+      );
+      fact = rw (c.find-4.ensures, good.counted) (popups_enough popped);
+    }
 
 pub returns : goal.returns
 unfolding question23

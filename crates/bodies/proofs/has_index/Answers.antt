@@ -11,7 +11,6 @@ use Rattle.contents.proofs.Laws.{two_there}
 use Rattle.bodies.specs.Questions.{question9}
 use Rattle.bodies.proofs.Lemmas.Fitting.{sizes_iff}
 use native.Mathlib.Omega.{arith}
-use borrow.Author.Rules.{rules}
 use Rattle.bodies.proofs.has_index.Goals as goal
 
 pub returns-then-not-names : goal.returns-then-not-names

@@ -11,7 +11,6 @@ use Rattle.parts.specs.Questions.{choice_in}
 use Rattle.bodies.specs.Questions.{count_of, edition_of, shape_of, question8}
 use Rattle.bodies.proofs.Lemmas.Fitting.{sizes_iff, popups_asked, popups_good}
 use native.Mathlib.Omega.{arith}
-use borrow.Author.Rules.{rules}
 use Rattle.bodies.proofs.has_schedule.Goals as goal
 
 pub returns-then-not-names : goal.returns-then-not-names

@@ -5,7 +5,6 @@ use lib.ListN.{length, length-map}
 use Rattle.contents.proofs.Laws.{together_codes}
 use Rattle.bodies.specs.Questions.{question7}
 use native.Mathlib.Omega.{arith}
-use borrow.Author.Rules.{rules}
 use Rattle.bodies.proofs.has_sizes.Goals as goal
 
 pub overflow_mul-n : goal.overflow_mul-n

@@ -2,7 +2,6 @@
 use mathlib.Core.Path.{sym, ◌∙◌}
 use Rattle.contents.proofs.Laws.{none_asked, asked_yes, asked_no}
 use Rattle.bodies.specs.Questions.{last_questions, question19, question24}
-use borrow.Author.Rules.{rules}
 use Rattle.bodies.proofs.last_answer.Goals as goal
 
 pub returns-then-not-has_sizes : goal.returns-then-not-has_sizes

@@ -15,11 +15,10 @@ pub limit_at-w-requires : goal.limit_at-w-requires
 limit_at-w-requires c = omega (arith, c.requires.2, c.requires.0.schedule_long)
 
 pub less_small-requires : goal.less_small-requires
-less_small-requires c =
-    (
-      rw c.limit_at-w.ensures (limit_small c.requires.0 (λ i. (c.type_inv.marks i).fits) c.requires.2),
-      rw c.requires.1.value_is (limit_small c.requires.0 (λ i. (c.type_inv.marks i).fits) c.requires.1.inside),
-    )
+less_small-requires c = (
+  rw c.limit_at-w.ensures (limit_small c.requires.0 (λ i. (c.type_inv.marks i).fits) c.requires.2),
+  rw c.requires.1.value_is (limit_small c.requires.0 (λ i. (c.type_inv.marks i).fits) c.requires.1.inside),
+)
 
 pub returns-then-less_small : goal.returns-then-less_small
 unfolding clash

@@ -2,7 +2,7 @@
 use native.Mathlib.Omega.{arith}
 use mathlib.Core.Path.{◌≡◌, sym, ◌∙◌}
 use mathlib.Core.Bool.{false}
-use borrow.Author.Tests.{eq-eqb, ne_eqb, not-true, not-false}
+use borrow.Author.Tests.{eq-eqb, ne_eqb}
 use Rattle.fractions.specs.Order.{less, Small}
 use Rattle.marks.specs.Pairs.{pair_value}
 use Rattle.marks.proofs.PairLaws.{pairs_positive, good_popup}

@@ -1,6 +1,5 @@
 -- `clashing::eliminator_at` meets its contract. Assumes nothing.
 use mathlib.Core.Path.{ap}
-use borrow.Author.Rules.{rules}
 use Rattle.elimination.specs.declared.Record.{Record}
 use Rattle.clashing.proofs.eliminator_at.Goals as goal
 

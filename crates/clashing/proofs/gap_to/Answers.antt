@@ -1,6 +1,5 @@
 -- `clashing::gap_to` meets its contract: a difference where there is one, else 0. Assumes nothing.
 use native.Mathlib.Omega.{arith}
-use borrow.Author.Rules.{rules}
 use Rattle.clashing.proofs.gap_to.Goals as goal
 
 pub returns-then-split-place : goal.returns-then-split-place

@@ -1,7 +1,6 @@
 -- `clashing::is_over` meets its contract: the tests of the definition in their order. Assumes nothing.
 use mathlib.Core.Path.{ap}
 use mathlib.Core.Bool.{not}
-use borrow.Author.Rules.{rules}
 use borrow.Author.Tests.{eq-eqb, ne_eqb}
 use Rattle.clashing.proofs.is_over.Goals as goal
 

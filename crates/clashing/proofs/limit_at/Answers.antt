@@ -1,6 +1,5 @@
 -- `clashing::limit_at` meets its contract: 'never' exactly where the denominator is 0. Assumes nothing.
 use mathlib.Core.Path.{◌≡◌, sym, ap, ◌∙◌}
-use borrow.Author.Rules.{rules}
 use borrow.Author.Tests.{eq-eqb, ne_eqb}
 use Rattle.fractions.specs.declared.Fraction.{Fraction}
 use Rattle.elimination.specs.Records.{fraction_of, fraction_at, value_at}

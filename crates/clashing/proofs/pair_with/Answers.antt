@@ -1,6 +1,5 @@
 -- `clashing::pair_with` meets its contract: it is made as `marks::pair` makes it, from a label that is at hand. Assumes nothing.
 use mathlib.Core.Path.{◌≡◌, ap₂, ◌∙◌}
-use borrow.Author.Rules.{rules}
 use Rattle.marks.specs.Marks.{larger, touching_of, touching}
 use Rattle.marks.specs.Pairs.{pair_of, pair_value}
 use Rattle.marks.proofs.Laws.{larger_most}

@@ -2,7 +2,6 @@
 use Prim.Native.Nat.{◌<◌, ◌≤◌}
 use native.Mathlib.Nat.{mul-le-mul}
 use native.Mathlib.Omega.{arith}
-use borrow.Author.Rules.{rules}
 use Rattle.clashing.specs.Cuts.{size_to_search}
 use Rattle.clashing.proofs.Laws.Cuts.{gap_small, place_small}
 use Rattle.clashing.proofs.size_to_search.Goals as goal

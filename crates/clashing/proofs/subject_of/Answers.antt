@@ -3,7 +3,6 @@ use Prim.Native.Nat.{◌+◌, ◌≤◌}
 use mathlib.Core.Path.{◌≡◌, ap, ◌∙◌}
 use native.Mathlib.Nat.{mul-le-mul}
 use native.Mathlib.Omega.{arith}
-use borrow.Author.Rules.{rules}
 use Rattle.marks.specs.Pairs.{popup_at, popup_value}
 use Rattle.clashing.specs.Clash.{subject_of}
 use Rattle.clashing.proofs.subject_of.Goals as goal

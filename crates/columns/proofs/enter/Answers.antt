@@ -1,6 +1,5 @@
 -- `columns::enter` meets its contract: each value goes to its column. Assumes nothing.
 use Rattle.columns.proofs.Lemmas.Beside.{entry_sets}
-use borrow.Author.Rules.{rules}
 use Rattle.columns.proofs.enter.Goals as goal
 
 pub returns : goal.returns

@@ -1,13 +1,11 @@
 -- `columns::put_columns` meets its contract: each turn fills all columns by one value. Assumes nothing.
-use Prim.Native.Nat.{ℕ, ◌+◌, ◌-◌, ◌*◌, ◌%◌, ◌≤◌}
-use mathlib.Core.Path.{◌≡◌, refl, sym, ap, ◌∙◌}
+use Prim.Native.Nat.{◌-◌, ◌*◌}
+use mathlib.Core.Path.{◌≡◌, refl, ap, ◌∙◌}
 use native.Mathlib.Nat.{add-zero}
-use native.Mathlib.Numerals.{add-one}
 use native.Mathlib.Omega.{arith}
 use lib.ListN.{length}
 use Rattle.numbers.specs.Little.{le_at}
-use Rattle.columns.specs.Columns.{in_marks, places_by, differences, field, to_columns}
-use Rattle.columns.specs.Steps.{columns_of, filled_to, Kept}
+use Rattle.columns.specs.Columns.{field, to_columns}
 use Rattle.columns.proofs.Lemmas.Writing.{kept_none, kept_more, difference}
 use Rattle.columns.proofs.Lemmas.Beside.{filled_none, filled_all, entered_more, filled_length}
 use Rattle.columns.proofs.put_columns.Goals as goal

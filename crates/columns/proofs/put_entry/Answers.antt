@@ -1,5 +1,4 @@
 -- `columns::put_entry` meets its contract: the values as they stand in the mark. Assumes nothing.
-use borrow.Author.Rules.{rules}
 use Rattle.columns.proofs.put_entry.Goals as goal
 
 pub returns : goal.returns

@@ -5,7 +5,7 @@ use Rattle.numbers.specs.Little.{le_at}
 use Prim.Native.Nat.{◌+◌, ◌-◌, ◌*◌, ◌%◌}
 use native.Mathlib.Omega.{arith}
 use Rattle.columns.specs.Columns.{mark_of, as_marks, in_columns, places_by, sums, entry, from_columns}
-use Rattle.columns.specs.Steps.{mark_at, Laid, Kept}
+use Rattle.columns.specs.Steps.{mark_at}
 use Rattle.columns.proofs.Lemmas.Writing.{laid_none, laid_all, marks_more, kept_none, kept_more, sum}
 use Rattle.columns.proofs.put_marks.Goals as goal
 

@@ -1,12 +1,7 @@
 -- `columns::put_marks` meets its contract: each turn writes one mark, and keeps its place. Assumes nothing.
-use mathlib.Core.Path.{◌≡◌, ◌∙◌}
-use native.Mathlib.Nat.{zero-add}
-use Rattle.numbers.specs.Little.{le_at}
-use Prim.Native.Nat.{◌+◌, ◌-◌, ◌*◌, ◌%◌}
-use native.Mathlib.Omega.{arith}
-use Rattle.columns.specs.Columns.{mark_of, as_marks, in_columns, places_by, sums, entry, from_columns}
-use Rattle.columns.specs.Steps.{mark_at, Laid, Kept}
-use Rattle.columns.proofs.Lemmas.Writing.{laid_none, laid_all, marks_more, kept_none, kept_more, sum}
+use Prim.Native.Nat.{◌-◌, ◌*◌}
+use Rattle.columns.specs.Columns.{mark_of, in_columns, places_by, sums, entry}
+use Rattle.columns.specs.Steps.{Laid, Kept}
 use Rattle.columns.proofs.put_marks.Given as goal
 
 abbrev pub invariant-loop-m : goal.invariant-loop-m

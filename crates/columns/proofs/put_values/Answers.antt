@@ -1,6 +1,5 @@
 -- `columns::put_values` meets its contract: the six values one behind the other. Assumes nothing.
 use Rattle.columns.proofs.Lemmas.Writing.{values_sets}
-use borrow.Author.Rules.{rules}
 use Rattle.columns.proofs.put_values.Goals as goal
 
 pub returns : goal.returns

@@ -1,5 +1,5 @@
 -- A sheet of bodies of bytes is a list of bytes.
-use Rattle.std.specs.Prelude.{ℕ, zero, suc, ◌+◌, List, [], ◌∷◌, ◌++◌, length, get_or}
+use Rattle.std.specs.Prelude.{ℕ, suc, ◌+◌, List, [], ◌∷◌, ◌++◌, length, get_or}
 use Rattle.std.proofs.Common.{arith}
 use Rattle.numbers.specs.Little.{le_bytes, Bytes}
 use Rattle.numbers.proofs.Laws.{bytes_append, le_bytes_lem}

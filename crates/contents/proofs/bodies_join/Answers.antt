@@ -1,8 +1,7 @@
 -- `contents::bodies_join` meets its contract: while the loop runs, `start` is where the next body has to start, and every body before it starts right. Assumes nothing.
-use Prim.Native.Nat.{◌-◌, ◌^◌, ◌<◌, ◌≤◌}
+use Prim.Native.Nat.{◌-◌}
 use mathlib.Core.Path.{◌≡◌, refl, sym, ◌∙◌}
 use native.Mathlib.Omega.{arith}
-use borrow.Author.Rules.{rules}
 use mathlib.Core.Bool.{true}
 use native.Mathlib.Numerals.{add-one}
 use lib.Dec.{eqb}

@@ -1,16 +1,10 @@
 -- `contents::bodies_join` meets its contract: while the loop runs, `start` is where the next body has to start, and every body before it starts right. Assumes nothing.
 use Prim.Native.Nat.{◌-◌, ◌^◌, ◌<◌, ◌≤◌}
-use mathlib.Core.Path.{◌≡◌, refl, sym, ◌∙◌}
-use native.Mathlib.Omega.{arith}
-use borrow.Author.Rules.{rules}
+use mathlib.Core.Path.{◌≡◌}
 use mathlib.Core.Bool.{true}
-use native.Mathlib.Numerals.{add-one}
 use lib.Dec.{eqb}
-use borrow.Author.Tests.{eq-eqb, ne_eqb}
 use Rattle.lists.specs.Tests.{every}
-use Rattle.lists.proofs.TestLaws.{every_more, every_not}
 use Rattle.contents.specs.Contents.{count_at, offset_at, start_at}
-use Rattle.contents.specs.Questions.{question3}
 use Rattle.contents.proofs.bodies_join.Given as goal
 
 abbrev pub invariant-loop-i : goal.invariant-loop-i

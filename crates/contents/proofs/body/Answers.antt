@@ -1,6 +1,5 @@
 -- `contents::body` meets its contract: the bytes at the place that the contents give a body are the body. Assumes nothing.
 use mathlib.Core.Path.{ap, ◌∙◌}
-use borrow.Author.Rules.{rules}
 use Rattle.contents.specs.Places.{cut_of}
 use Rattle.contents.proofs.Lemmas.Places.{cut_body}
 use Rattle.contents.proofs.body.Goals as goal

@@ -1,5 +1,4 @@
 -- `contents::body_of` meets its contract: what lies behind element i is element i of what lies behind each. Assumes nothing.
-use borrow.Author.Rules.{rules}
 use mathlib.Core.Path.{sym}
 use lib.ListN.{get_or-map}
 use Rattle.contents.proofs.body_of.Goals as goal

@@ -1,15 +1,13 @@
 -- `contents::codes_of` meets its contract: the codes of the entries before i stand in the array. Assumes nothing.
-use Prim.Native.Nat.{◌-◌, ◌≤◌}
+use Prim.Native.Nat.{◌-◌}
 use mathlib.Core.Path.{◌≡◌, refl, sym, ◌∙◌}
-use lib.ListN.{length, take, length-set}
+use lib.ListN.{length, length-set}
 use lib.ListN.{length-map}
 use lib.Seq.{take-length}
 use Rattle.contents.specs.Contents.{codes_of, count_at, split}
-use Rattle.contents.specs.Questions.{top_code}
 use Rattle.contents.proofs.Lemmas.Parts.{split_length, split_code}
 use Rattle.contents.proofs.Lemmas.Filled.{fill_turn}
 use native.Mathlib.Omega.{arith}
-use borrow.Author.Rules.{rules}
 use Rattle.contents.proofs.codes_of.Goals as goal
 
 pub loop-i-init : goal.loop-i-init

@@ -1,15 +1,9 @@
 -- `contents::codes_of` meets its contract: the codes of the entries before i stand in the array. Assumes nothing.
 use Prim.Native.Nat.{◌-◌, ◌≤◌}
-use mathlib.Core.Path.{◌≡◌, refl, sym, ◌∙◌}
-use lib.ListN.{length, take, length-set}
-use lib.ListN.{length-map}
-use lib.Seq.{take-length}
+use mathlib.Core.Path.{◌≡◌}
+use lib.ListN.{length, take}
 use Rattle.contents.specs.Contents.{codes_of, count_at, split}
 use Rattle.contents.specs.Questions.{top_code}
-use Rattle.contents.proofs.Lemmas.Parts.{split_length, split_code}
-use Rattle.contents.proofs.Lemmas.Filled.{fill_turn}
-use native.Mathlib.Omega.{arith}
-use borrow.Author.Rules.{rules}
 use Rattle.contents.proofs.codes_of.Given as goal
 
 abbrev pub invariant-loop-i : goal.invariant-loop-i

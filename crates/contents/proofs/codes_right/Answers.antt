@@ -5,7 +5,6 @@ use Rattle.contents.specs.Contents.{names}
 use Rattle.contents.specs.Asking.{if_there}
 use Rattle.contents.specs.Questions.{rising, codes_right}
 use Rattle.contents.proofs.Lemmas.Codes.{beside_two}
-use borrow.Author.Rules.{rules}
 use Rattle.contents.proofs.codes_right.Goals as goal
 use Rattle.contents.proofs.codes_right.Goals.{Else-not-names}
 

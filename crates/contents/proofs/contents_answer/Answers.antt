@@ -1,5 +1,4 @@
 -- `contents::contents_answer` meets its contract: the first of three tests that fails gives the number. Assumes nothing.
-use borrow.Author.Rules.{rules}
 use mathlib.Core.Path.{sym, ◌∙◌}
 use Rattle.contents.specs.Questions.{contents_questions}
 use Rattle.contents.proofs.Lemmas.Asked.{none_asked, asked_yes, asked_no}

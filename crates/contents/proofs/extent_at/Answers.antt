@@ -1,7 +1,6 @@
 -- `contents::extent_at` meets its contract: a part below the count has the two numbers of its entry. Assumes nothing.
 use Prim.Native.Nat.{◌<◌, ◌≤◌}
 use native.Mathlib.Omega.{arith}
-use borrow.Author.Rules.{rules}
 use borrow.Author.Tests.{lt-ltb, le-ltb}
 use Rattle.contents.specs.Contents.{count_at}
 use Rattle.contents.proofs.extent_at.Goals as goal

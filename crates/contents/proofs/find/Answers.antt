@@ -1,11 +1,9 @@
 -- `contents::find` meets its contract: what is left to look at has the same part, until it is found. Assumes nothing.
-use Prim.Native.Nat.{◌-◌, ◌<◌, ◌≤◌}
-use mathlib.Core.Path.{◌≡◌, ◌∙◌, refl}
+use Prim.Native.Nat.{◌-◌, ◌<◌}
+use mathlib.Core.Path.{◌∙◌, refl}
 use mathlib.Core.List.{map}
 use native.Mathlib.Omega.{arith}
-use lib.ListN.{length, drop, length-map}
-use borrow.Author.Rules.{rules}
-use Rattle.contents.specs.Contents.{find, together}
+use lib.ListN.{length, length-map}
 use Rattle.contents.proofs.Lemmas.Parts.{find_found, find_passed, find_past}
 use Rattle.contents.proofs.find.Goals as goal
 

@@ -1,12 +1,9 @@
 -- `contents::find` meets its contract: what is left to look at has the same part, until it is found. Assumes nothing.
-use Prim.Native.Nat.{◌-◌, ◌<◌, ◌≤◌}
-use mathlib.Core.Path.{◌≡◌, ◌∙◌, refl}
+use Prim.Native.Nat.{◌-◌, ◌≤◌}
+use mathlib.Core.Path.{◌≡◌}
 use mathlib.Core.List.{map}
-use native.Mathlib.Omega.{arith}
-use lib.ListN.{length, drop, length-map}
-use borrow.Author.Rules.{rules}
+use lib.ListN.{length, drop}
 use Rattle.contents.specs.Contents.{find, together}
-use Rattle.contents.proofs.Lemmas.Parts.{find_found, find_passed, find_past}
 use Rattle.contents.proofs.find.Given as goal
 
 abbrev pub invariant-loop-i : goal.invariant-loop-i

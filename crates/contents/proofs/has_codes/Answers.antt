@@ -3,7 +3,6 @@ use mathlib.Core.Path.{sym, ap, ◌∙◌}
 use lib.Seq.{length-take-le}
 use Rattle.contents.specs.Questions.{codes_right}
 use native.Mathlib.Omega.{arith}
-use borrow.Author.Rules.{rules}
 use Rattle.contents.proofs.has_codes.Goals as goal
 
 pub slice_bounds-codes_right-end : goal.slice_bounds-codes_right-end

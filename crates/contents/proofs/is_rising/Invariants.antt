@@ -1,11 +1,8 @@
 -- `contents::is_rising` meets its contract: what is left rises from the last code passed. Assumes nothing.
 use Prim.Native.Nat.{◌-◌, ◌≤◌}
-use mathlib.Core.Path.{◌≡◌, refl, sym, ◌∙◌}
+use mathlib.Core.Path.{◌≡◌}
 use lib.ListN.{length, drop}
 use Rattle.contents.specs.Questions.{rising}
-use Rattle.contents.proofs.Lemmas.Codes.{rising_on, rising_stops, rising_past}
-use native.Mathlib.Omega.{arith}
-use borrow.Author.Rules.{rules}
 use Rattle.contents.proofs.is_rising.Given as goal
 
 abbrev pub invariant-loop-i : goal.invariant-loop-i

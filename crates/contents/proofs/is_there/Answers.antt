@@ -1,5 +1,4 @@
 -- `contents::is_there` meets its contract: the place of the code tells. Assumes nothing.
-use borrow.Author.Rules.{rules}
 use Rattle.contents.proofs.is_there.Goals as goal
 
 pub returns : goal.returns

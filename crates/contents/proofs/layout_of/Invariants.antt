@@ -1,13 +1,10 @@
 -- `contents::layout_of` meets its contract: the places are those of the entries before i. Assumes nothing.
 use Prim.Native.Nat.{ℕ, ◌-◌, ◌≤◌}
-use mathlib.Core.Path.{◌≡◌, ◌∙◌}
+use mathlib.Core.Path.{◌≡◌}
 use mathlib.Core.List.{List}
-use native.Mathlib.Numerals.{add-one}
 use Rattle.contents.specs.declared.Layout.{Layout}
 use Rattle.contents.specs.Contents.{count_at}
 use Rattle.contents.specs.Places.{place_before}
-use native.Mathlib.Omega.{arith}
-use borrow.Author.Rules.{rules}
 use Rattle.contents.proofs.layout_of.Given as goal
 
 -- where the parts lie by the first i entries

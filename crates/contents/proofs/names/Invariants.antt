@@ -1,11 +1,8 @@
 -- `contents::names` meets its contract: what is left to look at names the code alike, until it is found. Assumes nothing.
 use Prim.Native.Nat.{◌-◌, ◌≤◌}
-use mathlib.Core.Path.{◌≡◌, refl, sym, ◌∙◌}
+use mathlib.Core.Path.{◌≡◌}
 use lib.ListN.{length, drop}
 use Rattle.contents.specs.Contents.{names}
-use Rattle.contents.proofs.Lemmas.Parts.{names_found, names_passed, names_past}
-use native.Mathlib.Omega.{arith}
-use borrow.Author.Rules.{rules}
 use Rattle.contents.proofs.names.Given as goal
 
 abbrev pub invariant-loop-i : goal.invariant-loop-i

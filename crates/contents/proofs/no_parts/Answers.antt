@@ -1,5 +1,4 @@
 -- `contents::no_parts` meets its contract: every place is nowhere. Assumes nothing.
-use borrow.Author.Rules.{rules}
 use Rattle.contents.proofs.no_parts.Goals as goal
 
 pub returns : goal.returns

@@ -1,7 +1,6 @@
 -- `contents::part` meets its contract: the bytes at the place of the code. Assumes nothing.
 use mathlib.Core.Path.{ap, ◌∙◌}
 use Rattle.contents.specs.Places.{cut_of}
-use borrow.Author.Rules.{rules}
 use Rattle.contents.proofs.part.Goals as goal
 
 pub returns : goal.returns

@@ -1,5 +1,4 @@
 -- `contents::with_place` meets its contract: place by place. Assumes nothing.
-use borrow.Author.Rules.{rules}
 use Rattle.contents.proofs.with_place.Goals as goal
 
 pub returns : goal.returns

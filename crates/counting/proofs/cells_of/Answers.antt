@@ -6,7 +6,6 @@ use Rattle.marks.proofs.Laws.{kind_group_few}
 use Rattle.marks.specs.Marks.{kind_group, group_number}
 use Rattle.counting.proofs.Lemmas.Stops.{stops_most}
 use Rattle.counting.specs.Steps.{stops_lived, begin_cell, end_cell}
-use borrow.Author.Rules.{rules}
 use Rattle.counting.proofs.cells_of.Goals as goal
 
 pub overflow_add-result : goal.overflow_add-result

@@ -3,7 +3,7 @@ use Prim.Native.Nat.{◌-◌}
 use mathlib.Core.Path.{refl, sym}
 use native.Mathlib.Omega.{arith}
 use Rattle.counting.proofs.Lemmas.Tallies.{entered_none}
-use Rattle.counting.proofs.Lemmas.Adding.{blank, Added, added_none, added_sum, added_small, added_more, added_all}
+use Rattle.counting.proofs.Lemmas.Adding.{blank, added_none, added_sum, added_small, added_more, added_all}
 use Rattle.counting.proofs.counts_of.Goals as goal
 
 pub slice_bounds-tally-end : goal.slice_bounds-tally-end
@@ -14,7 +14,7 @@ slice_bounds-tally-end-2 c = refl
 
 pub tally-requires : goal.tally-requires
 tally-requires c =
-    record { n_bound = c.requires.n_bound; fact = c.requires.fact; entered = entered_none _ _ _ }
+    record { n_bound = c.requires.n_bound; popups_there = c.requires.popups_there; entered = entered_none _ _ _ }
 
 pub loop-i-init : goal.loop-i-init
 unfolding blank

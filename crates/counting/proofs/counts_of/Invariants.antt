@@ -1,9 +1,6 @@
 -- `counting::counts_of` meets its contract: the cells that are passed are counts, and are written. Assumes nothing.
 use Prim.Native.Nat.{◌-◌}
-use mathlib.Core.Path.{refl, sym}
-use native.Mathlib.Omega.{arith}
-use Rattle.counting.proofs.Lemmas.Tallies.{entered_none}
-use Rattle.counting.proofs.Lemmas.Adding.{blank, Added, added_none, added_sum, added_small, added_more, added_all}
+use Rattle.counting.proofs.Lemmas.Adding.{Added}
 use Rattle.counting.proofs.counts_of.Given as goal
 
 abbrev pub invariant-loop-i : goal.invariant-loop-i

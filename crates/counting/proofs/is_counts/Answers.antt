@@ -1,5 +1,5 @@
 -- `counting::is_counts` meets its contract: while the loop runs, every byte before i is right. Assumes nothing.
-use Prim.Native.Nat.{◌-◌, ◌≤◌}
+use Prim.Native.Nat.{◌-◌}
 use mathlib.Core.Path.{◌≡◌, refl, sym}
 use mathlib.Core.Bool.{true, false}
 use native.Mathlib.Omega.{arith}
@@ -17,7 +17,7 @@ unfolding is_counts
 returns-then-body-ne-COUNTS_SIZE c = rw (ne_eqb _ _ c.if-body-ne-COUNTS_SIZE.true)
 
 pub counts_of-counts-requires : goal.counts_of-counts-requires
-counts_of-counts-requires c = record { n_bound = c.requires.n_bound; fact = c.requires.fact }
+counts_of-counts-requires c = record { n_bound = c.requires.n_bound; popups_there = c.requires.popups_there }
 
 pub loop-i-init : goal.loop-i-init
 unfolding every

@@ -1,14 +1,8 @@
 -- `counting::is_counts` meets its contract: while the loop runs, every byte before i is right. Assumes nothing.
 use Prim.Native.Nat.{◌-◌, ◌≤◌}
-use mathlib.Core.Path.{◌≡◌, refl, sym}
-use mathlib.Core.Bool.{true, false}
-use native.Mathlib.Omega.{arith}
-use borrow.Author.Tests.{eq-eqb, ne_eqb}
-use lib.Dec.{eqb}
-use lib.ListN.{length}
+use mathlib.Core.Path.{◌≡◌}
+use mathlib.Core.Bool.{true}
 use Rattle.lists.specs.Tests.{every}
-use Rattle.lists.proofs.TestLaws.{and_both, and_no, every_more, every_not}
-use Rattle.counting.specs.Counts.{counts_of, is_counts}
 use Rattle.counting.proofs.Lemmas.Bytes.{same_at}
 use Rattle.counting.proofs.is_counts.Given as goal
 

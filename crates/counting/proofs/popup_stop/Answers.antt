@@ -3,7 +3,6 @@ use Prim.Native.Nat.{ℕ, ◌≤◌}
 use mathlib.Core.Path.{ap, ◌∙◌}
 use native.Mathlib.Nat.{mul-le-mul}
 use native.Mathlib.Omega.{arith}
-use borrow.Author.Rules.{rules}
 use Rattle.fractions.specs.declared.Value.TheVariants.{At}
 use Rattle.marks.specs.Pairs.{popup_value}
 use Rattle.counting.specs.Steps.{stops_lived}

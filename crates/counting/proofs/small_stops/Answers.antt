@@ -2,7 +2,6 @@
 use Prim.Native.Nat.{ℕ}
 use mathlib.Core.Path.{ap, ◌∙◌}
 use native.Mathlib.Omega.{arith}
-use borrow.Author.Rules.{rules}
 use Rattle.fractions.specs.declared.Value.TheVariants.{At}
 use Rattle.counting.specs.Steps.{stops_lived, step_to}
 use Rattle.counting.proofs.Lemmas.Stops.{stops_most, step_most, five_steps}

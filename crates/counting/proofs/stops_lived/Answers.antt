@@ -1,6 +1,5 @@
 -- `counting::stops_lived` meets its contract: who never goes lives at every stop. Assumes nothing.
 use mathlib.Core.Path.{sym, ap, ◌∙◌}
-use borrow.Author.Rules.{rules}
 use Rattle.counting.specs.Steps.{stops_lived}
 use Rattle.counting.proofs.Lemmas.Stops.{never_goes}
 use Rattle.counting.proofs.stops_lived.Goals as goal

@@ -1,9 +1,8 @@
 -- `counting::tally` meets its contract: the tables hold the marks before m. Assumes nothing.
-use Prim.Native.Nat.{◌-◌, ◌≤◌}
+use Prim.Native.Nat.{◌-◌}
 use mathlib.Core.Path.{◌≡◌, sym, ◌∙◌}
 use native.Mathlib.Omega.{arith}
 use mathlib.Core.Logic.{inl, inr}
-use Rattle.counting.specs.Steps.{Entered}
 use Rattle.counting.proofs.Lemmas.Cells.{begin_small, end_small}
 use Rattle.counting.proofs.Lemmas.Tallies.{tallied_room, tallied_more}
 use Rattle.counting.proofs.tally.Goals as goal
@@ -16,7 +15,7 @@ pub cells_of-cells-requires : goal.cells_of-cells-requires
 cells_of-cells-requires c =
     record {
       mark_size_in_bounds = omega arith;
-      fact = elim c.requires.fact [ inl e ↦ inl e | inr e ↦ inr (omega arith) ];
+      popups_there = elim c.requires.popups_there [ inl e ↦ inl e | inr e ↦ inr (omega arith) ];
     }
 
 pub add_one-requires : goal.add_one-requires

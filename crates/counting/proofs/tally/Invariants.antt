@@ -1,11 +1,6 @@
 -- `counting::tally` meets its contract: the tables hold the marks before m. Assumes nothing.
 use Prim.Native.Nat.{◌-◌, ◌≤◌}
-use mathlib.Core.Path.{◌≡◌, sym, ◌∙◌}
-use native.Mathlib.Omega.{arith}
-use mathlib.Core.Logic.{inl, inr}
 use Rattle.counting.specs.Steps.{Entered}
-use Rattle.counting.proofs.Lemmas.Cells.{begin_small, end_small}
-use Rattle.counting.proofs.Lemmas.Tallies.{tallied_room, tallied_more}
 use Rattle.counting.proofs.tally.Given as goal
 
 abbrev pub invariant-loop-m : goal.invariant-loop-m

@@ -1,6 +1,5 @@
 -- `counting::wide_stops` meets its contract: five steps leave one number. Assumes nothing.
 use native.Mathlib.Omega.{arith}
-use borrow.Author.Rules.{rules}
 use Rattle.counting.proofs.Lemmas.Stops.{stops_most}
 use Rattle.counting.proofs.wide_stops.Goals as goal
 

@@ -52,7 +52,7 @@ put_counted-requires c =
     let k = (goal.at.put_counted-requires c).Else-number-ne0 in
     record {
       sheet_value = (accepted k, found_layout _ c.opened-found.ensures (accepted k));
-      sheet_value_2 = (sym (c.is_there.ensures ∙ there k 2) ∙ c.if-not-is_there.false, sym (c.is_there-2.ensures ∙ there k 6) ∙ c.if-is_there.false);
+      parts_there = (sym (c.is_there.ensures ∙ there k 2) ∙ c.if-not-is_there.false, sym (c.is_there-2.ensures ∙ there k 6) ∙ c.if-is_there.false);
     }
 
 pub returns : goal.returns

@@ -18,7 +18,7 @@ use Rattle.jobs.specs.Steps.{codes_from}
 use Rattle.jobs.proofs.Laws.Rooms.{no_room, wrote}
 use Rattle.jobs.proofs.Laws.Counted.{counted_long, counted_small, count_ready, count_own, bodies_within, counted_written}
 use Rattle.counts.proofs.put_counted.Goals as goal
-use Rattle.counts.proofs.put_counted.Goals.{After-is_there-has_shape, After-put_head-start, Start}
+use Rattle.counts.proofs.put_counted.Goals.{After-is_there-has_shape, Start}
 
 part_is : (k : Start) {l : List ℕ} (code : ℕ) → l ≡ cut_of k.args.sheet.now (place_of k.args.layout code) → l ≡ find (split k.args.sheet.now) code
 part_is k code e = e ∙ layout_part k.args.sheet.now k.requires.sheet_value.0 k.requires.sheet_value.1 code
@@ -36,7 +36,7 @@ within h bytes e =
     let s = h.args.sheet.now in
     let p = h.requires in
     let there : (code : ℕ) → is_there h.args.layout code ≡ has (split s) code = λ code. layout_there s p.sheet_value.0 p.sheet_value.1 code in
-    let w = bodies_within s bytes p.sheet_value.0 p.sheet_value_2.0 p.sheet_value_2.1 (h.is_there-index.ensures ∙ there 3) (h.is_there-edition.ensures ∙ there 4)
+    let w = bodies_within s bytes p.sheet_value.0 p.parts_there.0 p.parts_there.1 (h.is_there-index.ensures ∙ there 3) (h.is_there-edition.ensures ∙ there 4)
     (h.is_there-has_popups.ensures ∙ there 5) (h.is_there-has_shape.ensures ∙ there 7) e in
     let long = ap length (h.part-shape.ensures ∙ layout_part s p.sheet_value.0 p.sheet_value.1 7) in
     (omega (arith, w.0, w.1, long), omega (arith, w.1, long))
@@ -50,14 +50,14 @@ pub returns-then-out-size : goal.returns-then-out-size
 returns-then-out-size c =
     let s = c.args.sheet.now in
     let w = with_own_counts s in
-    let long = counted_long s (λ i. (c.type_inv.sheet i).fits) c.requires.sheet_value.0 c.requires.sheet_value_2.0 c.requires.sheet_value_2.1 in
+    let long = counted_long s (λ i. (c.type_inv.sheet i).fits) c.requires.sheet_value.0 c.requires.parts_there.0 c.requires.parts_there.1 in
     no_room [] tt (length w) w _ none_asked (omega (arith, long, c.if-out-size.true)) c.refused.ensures
 
 pub counts_of-counts-requires : goal.counts_of-counts-requires
 counts_of-counts-requires c =
     let k = (goal.at.counts_of-counts-requires c).Start in
     let ready =
-    count_ready c.args.sheet.now c.requires.sheet_value.0 c.requires.sheet_value_2.0 (part_is k 1 c.part-marks.ensures) (part_is k 2 c.part-schedule.ensures) (part_is k 5 c.part-popups.ensures) in
+    count_ready c.args.sheet.now c.requires.sheet_value.0 c.requires.parts_there.0 (part_is k 1 c.part-marks.ensures) (part_is k 2 c.part-schedule.ensures) (part_is k 5 c.part-popups.ensures) in
     record { n_bound = ready.0; fact = ready.1 }
 
 -- ---- the contents
@@ -67,7 +67,7 @@ put_head-start-requires c =
     let k = (goal.at.put_head-start-requires c).Start in
     let h = (goal.at.put_head-start-requires c).After-is_there-has_shape in
     let ready =
-    count_ready c.args.sheet.now c.requires.sheet_value.0 c.requires.sheet_value_2.0 (part_is k 1 c.part-marks.ensures) (part_is k 2 c.part-schedule.ensures) (part_is k 5 c.part-popups.ensures) in
+    count_ready c.args.sheet.now c.requires.sheet_value.0 c.requires.parts_there.0 (part_is k 1 c.part-marks.ensures) (part_is k 2 c.part-schedule.ensures) (part_is k 5 c.part-popups.ensures) in
     (ready.0.0, omega (arith, within h (λ i. (c.type_inv.sheet i).fits) refl, c.if-out-size.false))
 
 pub overflow_sub-rest : goal.overflow_sub-rest
@@ -104,7 +104,7 @@ overflow_cast-result c =
     let s = c.args.sheet.now in
     let bytes : Bytes s = λ i. (c.type_inv.sheet i).fits in
     let p = c.requires in
-    omega (arith, counted_long s bytes p.sheet_value.0 p.sheet_value_2.0 p.sheet_value_2.1, counted_small s bytes p.sheet_value.0 p.sheet_value_2.0)
+    omega (arith, counted_long s bytes p.sheet_value.0 p.parts_there.0 p.parts_there.1, counted_small s bytes p.sheet_value.0 p.parts_there.0)
 
 pub returns : goal.returns
 returns c =
@@ -112,13 +112,13 @@ returns c =
     let s = c.args.sheet.now in
     let bytes : Bytes s = λ i. (c.type_inv.sheet i).fits in
     let p = c.requires in
-    let long = counted_long s bytes p.sheet_value.0 p.sheet_value_2.0 p.sheet_value_2.1 in
+    let long = counted_long s bytes p.sheet_value.0 p.parts_there.0 p.parts_there.1 in
     let marks = part_is k 1 c.part-marks.ensures in
     let shape_is : c.part-shape.result.now ≡ shape_part (split s) = part_is k 7 c.part-shape.ensures in
     let w = with_own_counts s in
     let start = c.put_head-start.result in
     wrote [] tt (length w) w _ none_asked (omega (arith, long, c.if-out-size.false)) refl (rw long)
-    (counted_written s bytes p.sheet_value.0 p.sheet_value_2.0 p.sheet_value_2.1 (c.is_there-index.ensures ∙ there k 3) (c.is_there-edition.ensures ∙ there k 4)
+    (counted_written s bytes p.sheet_value.0 p.parts_there.0 p.parts_there.1 (c.is_there-index.ensures ∙ there k 3) (c.is_there-edition.ensures ∙ there k 4)
     (c.is_there-has_popups.ensures ∙ there k 5) (c.is_there-has_shape.ensures ∙ there k 7) c.put_head-start.ensures.0 _
     (ap (λ (l : List ℕ). length l / 11) marks) (ap (λ (l : List ℕ). take (length s - length l - (start - 10)) (drop (start - 10) s)) shape_is)
     (count_own s marks (part_is k 2 c.part-schedule.ensures) (part_is k 5 c.part-popups.ensures) c.counts_of-counts.ensures) shape_is c.put_head-start.ensures.1

@@ -1,6 +1,6 @@
 -- The marks of priority p and above are the highest-ranked of a reel, in either edition, and alike in two reels that hold the same.
-use Rattle.std.specs.Prelude.{ℕ, ◌+◌, ◌-◌, ◌*◌, ◌<◌, ◌≤◌, ◌≡◌, refl, leb, eqb, get_or}
-use Rattle.std.proofs.Common.{sym, ap, ◌∙◌, add_assoc, zero-add, leb-true, le-leb}
+use Rattle.std.specs.Prelude.{ℕ, ◌+◌, ◌-◌, ◌*◌, ◌<◌, ◌≤◌, ◌≡◌, refl, eqb}
+use Rattle.std.proofs.Common.{sym, ap, add_assoc, zero-add, leb-true, le-leb}
 use Rattle.std.proofs.Math.Path.{ap₂}
 use Rattle.std.proofs.Math.Bool.{cond}
 use Rattle.std.proofs.Math.Decide.{dec_lt, ℕ_discrete}

@@ -1,6 +1,5 @@
 -- `elimination::put_record` meets its contract: three numbers written one behind the other are the record. Assumes nothing.
 use Rattle.elimination.proofs.Bytes.{record_put}
-use borrow.Author.Rules.{rules}
 use Rattle.elimination.proofs.put_record.Goals as goal
 
 pub returns : goal.returns

@@ -1,5 +1,4 @@
 -- `elimination::record_at` meets its contract: the three numbers are read as they stand. Assumes nothing.
-use borrow.Author.Rules.{rules}
 use Rattle.elimination.proofs.record_at.Goals as goal
 
 pub returns : goal.returns

@@ -1,7 +1,6 @@
 -- `elimination::value_at` meets its contract: the value of the record that was read. Assumes nothing.
 use mathlib.Core.Path.{ap, ◌∙◌}
 use Rattle.elimination.specs.Records.{value_of, value_at}
-use borrow.Author.Rules.{rules}
 use Rattle.elimination.proofs.value_at.Goals as goal
 
 pub returns : goal.returns

@@ -2,7 +2,6 @@
 use mathlib.Core.Path.{ap}
 use borrow.Author.Tests.{eq-eqb, ne_eqb}
 use Rattle.fractions.specs.declared.Value.TheVariants.{At}
-use borrow.Author.Rules.{rules}
 use Rattle.elimination.proofs.value_of.Goals as goal
 
 pub returns-then-r-eq0 : goal.returns-then-r-eq0

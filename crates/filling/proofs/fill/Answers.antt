@@ -1,9 +1,8 @@
 -- `filling::fill` meets its contract: each turn writes one row more. Assumes nothing.
-use Prim.Native.Nat.{◌-◌, ◌≤◌}
+use Prim.Native.Nat.{◌-◌}
 use mathlib.Core.Path.{◌≡◌, ap, ◌∙◌}
 use lib.ListN.{length}
-use lib.Seq.{sets, length-sets}
-use Rattle.rows.specs.Rows.{rows}
+use lib.Seq.{length-sets}
 use Rattle.rows.proofs.Laws.{rows_none, rows_more}
 use Rattle.filling.specs.Filling.{filled_mark}
 use Rattle.filling.proofs.Lemmas.Filled.{mark_length}

@@ -1,13 +1,9 @@
 -- `filling::fill` meets its contract: each turn writes one row more. Assumes nothing.
 use Prim.Native.Nat.{◌-◌, ◌≤◌}
-use mathlib.Core.Path.{◌≡◌, ap, ◌∙◌}
-use lib.ListN.{length}
-use lib.Seq.{sets, length-sets}
+use mathlib.Core.Path.{◌≡◌}
+use lib.Seq.{sets}
 use Rattle.rows.specs.Rows.{rows}
-use Rattle.rows.proofs.Laws.{rows_none, rows_more}
 use Rattle.filling.specs.Filling.{filled_mark}
-use Rattle.filling.proofs.Lemmas.Filled.{mark_length}
-use native.Mathlib.Omega.{arith}
 use Rattle.filling.proofs.fill.Given as goal
 
 abbrev pub invariant-loop-m : goal.invariant-loop-m

@@ -1,5 +1,4 @@
 -- `filling::filled_radius` meets its contract: 0 alone is replaced. Assumes nothing.
-use borrow.Author.Rules.{rules}
 use borrow.Author.Tests.{eq-eqb, ne_eqb}
 use Rattle.filling.specs.Filling.{filled_radius}
 use Rattle.filling.proofs.filled_radius.Goals as goal

@@ -2,7 +2,6 @@
 use mathlib.Core.Path.{ap₂, ◌∙◌}
 use Rattle.filling.specs.Filling.{filled_radius}
 use Rattle.filling.proofs.Lemmas.Filled.{mark_put}
-use borrow.Author.Rules.{rules}
 use Rattle.filling.proofs.put_mark.Goals as goal
 
 pub returns : goal.returns

@@ -1,6 +1,5 @@
 -- Both cross products fit 64 bits since the fractions are small, so the code compares what the definition compares.
 use mathlib.Core.Path.{refl}
-use borrow.Author.Rules.{rules}
 use native.Mathlib.Omega.{arith}
 use Rattle.fractions.specs.Order.{less}
 use Rattle.fractions.proofs.Laws.{small_cross}

@@ -1,7 +1,6 @@
 -- `grid::add` meets its contract: a link and two regions. Assumes nothing.
 use native.Mathlib.Omega.{arith}
 use Rattle.grid.proofs.Table.{added}
-use borrow.Author.Rules.{rules}
 use Rattle.grid.proofs.add.Goals as goal
 
 pub taking_in-requires : goal.taking_in-requires

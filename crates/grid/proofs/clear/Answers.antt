@@ -1,10 +1,8 @@
 -- `grid::clear` meets its contract: each turn clears one region more. Assumes nothing.
-use Prim.Native.Nat.{◌≤◌, ◌-◌}
+use Prim.Native.Nat.{◌-◌}
 use mathlib.Core.Path.{◌≡◌, refl}
 use native.Mathlib.Omega.{arith}
-use borrow.Author.Rules.{rules}
 use Rattle.grid.specs.Table.{region_count}
-use Rattle.grid.specs.Steps.{Cleared}
 use Rattle.grid.proofs.Table.{cleared_none, cleared_more}
 use Rattle.grid.proofs.clear.Goals as goal
 
@@ -19,12 +17,11 @@ put_region-requires c =
     omega (arith, c.loop-i-test.true, c.loop-i.invariant, c.requires, c.loop-i.invariant.2.kept.long)
 
 pub loop-i-preserved : goal.loop-i-preserved
-loop-i-preserved c =
-    (
-      omega arith,
-      c.loop-i.invariant.1,
-      cleared_more (omega (arith, c.loop-i-test.true, c.loop-i.invariant.1)) c.loop-i.invariant.2 (rw c.empty.ensures at c.put_region.ensures),
-    )
+loop-i-preserved c = (
+  omega arith,
+  c.loop-i.invariant.1,
+  cleared_more (omega (arith, c.loop-i-test.true, c.loop-i.invariant.1)) c.loop-i.invariant.2 (rw c.empty.ensures at c.put_region.ensures),
+)
 
 pub shape_of-w : goal.shape_of-w
 shape_of-w c = c.loop-i.invariant.2.kept.long

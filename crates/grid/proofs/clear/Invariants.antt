@@ -1,11 +1,8 @@
 -- `grid::clear` meets its contract: each turn clears one region more. Assumes nothing.
 use Prim.Native.Nat.{◌≤◌, ◌-◌}
-use mathlib.Core.Path.{◌≡◌, refl}
-use native.Mathlib.Omega.{arith}
-use borrow.Author.Rules.{rules}
+use mathlib.Core.Path.{◌≡◌}
 use Rattle.grid.specs.Table.{region_count}
 use Rattle.grid.specs.Steps.{Cleared}
-use Rattle.grid.proofs.Table.{cleared_none, cleared_more}
 use Rattle.grid.proofs.clear.Given as goal
 
 abbrev pub invariant-loop-i : goal.invariant-loop-i

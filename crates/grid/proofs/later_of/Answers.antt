@@ -1,6 +1,5 @@
 -- `grid::later_of` meets its contract. Assumes nothing.
 use mathlib.Core.Path.{sym, ◌∙◌}
-use borrow.Author.Rules.{rules}
 use Rattle.grid.proofs.later_of.Goals as goal
 
 pub returns-then-less_small : goal.returns-then-less_small

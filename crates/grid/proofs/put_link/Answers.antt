@@ -1,6 +1,5 @@
 -- `grid::put_link` meets its contract: what is written is read back, and the rest stays. Assumes nothing.
 use Rattle.grid.proofs.Table.{link_is}
-use borrow.Author.Rules.{rules}
 use Rattle.grid.proofs.put_link.Goals as goal
 
 pub returns : goal.returns

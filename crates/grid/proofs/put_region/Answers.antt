@@ -1,7 +1,6 @@
 -- `grid::put_region` meets its contract: the sides and four numbers, one behind the other. Assumes nothing.
 use Rattle.grid.proofs.Regions.{region_put, put_is}
 use native.Mathlib.Omega.{arith}
-use borrow.Author.Rules.{rules}
 use Rattle.grid.proofs.put_region.Goals as goal
 
 pub returns : goal.returns

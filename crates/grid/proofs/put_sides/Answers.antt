@@ -1,6 +1,5 @@
 -- `grid::put_sides` meets its contract: four numbers, one behind the other. Assumes nothing.
 use Rattle.grid.proofs.Regions.{sides_put}
-use borrow.Author.Rules.{rules}
 use Rattle.grid.proofs.put_sides.Goals as goal
 
 pub returns : goal.returns

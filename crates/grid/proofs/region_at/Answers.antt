@@ -1,6 +1,5 @@
 -- `grid::region_at` meets its contract: the numbers are read as they stand. Assumes nothing.
 use Rattle.grid.specs.Table.{region_at}
-use borrow.Author.Rules.{rules}
 use Rattle.grid.proofs.region_at.Goals as goal
 
 pub returns : goal.returns

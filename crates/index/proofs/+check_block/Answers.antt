@@ -1,6 +1,5 @@
 -- `index::check_block` meets its contract: what the check finds of a block is what it finds of its halves, joined under the root.
 -- The measure is the size. Assumes nothing.
-use Prim.Native.Nat.{ℕ, ◌<◌}
 use native.Mathlib.Omega.{arith}
 use Rattle.index.specs.Valid.{valid, is_tree}
 use Rattle.index.specs.Check.{finding_of, span_of}

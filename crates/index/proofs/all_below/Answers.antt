@@ -1,12 +1,11 @@
 -- `index::all_below` meets its contract. The loop's invariant: every number passed is below n. The measure is what is left of n.
 -- Assumes nothing.
-use Prim.Native.Nat.{ℕ, ◌≤◌, ◌<◌, ◌-◌}
+use Prim.Native.Nat.{◌-◌}
 use native.Mathlib.Omega.{arith}
 use mathlib.Core.Path.{refl}
 use mathlib.Core.Bool.{false≢true}
 use borrow.Author.Count.{below_more}
 use borrow.Author.Rules.{rules}
-use Rattle.index.specs.Blocks.{entry_at}
 use Rattle.index.proofs.all_below.Goals as goal
 
 pub loop-i-init : goal.loop-i-init

@@ -1,5 +1,4 @@
 -- `index::beats` meets its contract: the values are those that the records name. Assumes nothing.
-use borrow.Author.Rules.{rules}
 use Rattle.index.specs.Index.{beats}
 use Rattle.index.proofs.beats.Goals as goal
 

@@ -1,6 +1,5 @@
 -- `index::beats_head` meets its contract: the head of a block that is not empty is its first number. Assumes nothing.
 use native.Mathlib.Omega.{arith}
-use borrow.Author.Rules.{rules}
 use Rattle.index.specs.Index.{beats}
 use Rattle.index.specs.Blocks.{entry_at}
 use Rattle.index.proofs.Lemmas.Blocks.{heads_block}

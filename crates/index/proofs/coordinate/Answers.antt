@@ -1,5 +1,5 @@
 -- `index::coordinate` meets its contract, on either axis. Assumes nothing.
-use borrow.Author.Rules.{rules, sfits_of}
+use borrow.Author.Rules.{sfits_of}
 use native.Mathlib.Omega.{arith}
 use mir.Facts.{to_z-of_z}
 use Rattle.index.specs.Index.{coordinate}

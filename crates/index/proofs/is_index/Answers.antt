@@ -3,7 +3,6 @@
 use mathlib.Core.Path.{sym, ◌∙◌}
 use native.Mathlib.Omega.{arith}
 use mathlib.Core.Bool.{false≢true}
-use borrow.Author.Rules.{rules}
 use Rattle.index.proofs.Lemmas.Question9.{checkable_whole, whole_is, whole_not}
 use Rattle.index.proofs.is_index.Goals as goal
 

@@ -1,5 +1,4 @@
 -- `index::join_findings` meets its contract, by what its calls ensure. Assumes nothing.
-use borrow.Author.Rules.{rules}
 use Rattle.index.specs.Check.{join_findings}
 use Rattle.index.proofs.join_findings.Goals as goal
 

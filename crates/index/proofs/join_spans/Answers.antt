@@ -1,6 +1,5 @@
 -- `index::join_spans` meets its contract, by what its calls ensure. Assumes nothing.
 use native.Mathlib.Numerals.{add-one}
-use borrow.Author.Rules.{rules}
 use Rattle.index.specs.Check.{join_spans}
 use Rattle.index.proofs.join_spans.Goals as goal
 

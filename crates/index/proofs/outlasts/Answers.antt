@@ -1,5 +1,4 @@
 -- `index::outlasts` meets its contract: each `return` follows the tests that led to it. Assumes nothing.
-use borrow.Author.Rules.{rules}
 use Rattle.index.proofs.outlasts.Goals as goal
 
 pub returns-then-later : goal.returns-then-later

@@ -9,7 +9,7 @@ use Rattle.lists.specs.Stores.{over}
 use Rattle.lists.specs.Tests.{how_many}
 use Rattle.lists.proofs.TestLaws.{many_same}
 use Rattle.numbers.specs.Little.{Bytes}
-use Rattle.marks.specs.Marks.{x_at, y_at, used_at, apart}
+use Rattle.marks.specs.Marks.{x_at, y_at, apart}
 use Rattle.marks.proofs.Laws.{place_fits, distance_most}
 use Rattle.elimination.specs.Records.{value_at}
 use Rattle.counting.specs.Lives.{lives}
@@ -30,7 +30,7 @@ use Rattle.bitmap.proofs.Laws.{map_shows, shown_set}
 use Rattle.zoom.specs.declared.Zoom.TheVariants.{Stop}
 use Rattle.zoom.specs.Zoom.{scale_of, stop_scale, scale}
 use Rattle.reaching.specs.Questions.{question11, view_questions}
-use Rattle.reaching.specs.Shown.{place_at, reaches, shown, CommonPlace}
+use Rattle.reaching.specs.Shown.{place_at, reaches, shown}
 use Rattle.reaching.proofs.Laws.{reaches_iff}
 use Rattle.jobs.specs.declared.Answer.{Answer}
 use Rattle.jobs.specs.Jobs.{outcome, wrote, after, counts_in, with_own_counts, count_checks, count_job, shown_in, view_job}

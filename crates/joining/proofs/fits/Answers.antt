@@ -1,10 +1,9 @@
 -- `nest::fits` meets its contract: what is left of the room is the room less the bodies passed. Assumes nothing.
-use Prim.Native.Nat.{◌+◌, ◌-◌, ◌≤◌}
-use mathlib.Core.Path.{◌≡◌, ap, sym}
+use Prim.Native.Nat.{◌-◌}
+use mathlib.Core.Path.{ap, sym}
 use mathlib.Core.List.{map}
 use native.Mathlib.Omega.{arith}
-use lib.ListN.{length, drop}
-use borrow.Author.Rules.{rules}
+use lib.ListN.{length}
 use borrow.Author.Tests.{le-leb, lt-leb}
 use Rattle.contents.specs.Contents.{chain}
 use Rattle.joining.specs.Writing.{chain_less, chain_done}

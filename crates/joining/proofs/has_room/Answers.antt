@@ -6,7 +6,6 @@ use borrow.Author.Tests.{lt-leb}
 use Rattle.contents.specs.Contents.{contents_size, chain}
 use Rattle.joining.specs.Writing.{together_size, leb_less}
 use native.Mathlib.Omega.{arith}
-use borrow.Author.Rules.{rules}
 use Rattle.joining.proofs.has_room.Goals as goal
 
 pub returns-then-room-head : goal.returns-then-room-head

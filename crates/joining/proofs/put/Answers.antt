@@ -1,11 +1,10 @@
 -- `joining::put` meets its contract: what is left to copy makes the whole, whatever was copied so far. Assumes nothing.
-use Prim.Native.Nat.{◌+◌, ◌-◌, ◌≤◌}
+use Prim.Native.Nat.{◌-◌}
 use mathlib.Core.Path.{◌≡◌, refl, ◌∙◌}
 use mathlib.Core.List.{[]}
 use native.Mathlib.Nat.{add-zero}
 use native.Mathlib.Omega.{arith}
-use lib.ListN.{length, drop, length-set, drop_of_length-le}
-use lib.Seq.{sets}
+use lib.ListN.{drop, length-set, drop_of_length-le}
 use Rattle.lists.proofs.StoreLaws.{sets_turn}
 use Rattle.joining.proofs.put.Goals as goal
 

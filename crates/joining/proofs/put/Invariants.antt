@@ -1,12 +1,8 @@
 -- `joining::put` meets its contract: what is left to copy makes the whole, whatever was copied so far. Assumes nothing.
 use Prim.Native.Nat.{◌+◌, ◌-◌, ◌≤◌}
-use mathlib.Core.Path.{◌≡◌, refl, ◌∙◌}
-use mathlib.Core.List.{[]}
-use native.Mathlib.Nat.{add-zero}
-use native.Mathlib.Omega.{arith}
-use lib.ListN.{length, drop, length-set, drop_of_length-le}
+use mathlib.Core.Path.{◌≡◌}
+use lib.ListN.{length, drop}
 use lib.Seq.{sets}
-use Rattle.lists.proofs.StoreLaws.{sets_turn}
 use Rattle.joining.proofs.put.Given as goal
 
 abbrev pub invariant-loop-j : goal.invariant-loop-j

@@ -1,12 +1,8 @@
 -- `nest::put_bodies` meets its contract: what is left to copy makes the whole, whatever was copied so far. Assumes nothing.
-use Prim.Native.Nat.{◌+◌, ◌-◌, ◌≤◌}
-use mathlib.Core.Path.{◌≡◌, refl, ap, ◌∙◌}
-use mathlib.Core.List.{map}
+use Prim.Native.Nat.{◌-◌}
+use mathlib.Core.Path.{refl, ap, ◌∙◌}
 use native.Mathlib.Omega.{arith}
-use lib.ListN.{length, drop}
-use lib.Seq.{sets}
-use borrow.Author.Rules.{rules}
-use Rattle.contents.specs.Contents.{chain}
+use lib.ListN.{length}
 use Rattle.joining.specs.Writing.{chain_less, chain_done, bodies_turn}
 use Rattle.joining.proofs.put_bodies.Goals as goal
 

@@ -1,10 +1,9 @@
 -- `joining::put_contents` meets its contract: what is left of the entries makes the whole, whatever was written so far. Assumes nothing.
-use Prim.Native.Nat.{◌+◌, ◌-◌, ◌*◌, ◌≤◌}
+use Prim.Native.Nat.{◌-◌}
 use mathlib.Core.Path.{◌≡◌, refl, ◌∙◌}
 use mathlib.Core.List.{[]}
-use lib.ListN.{length, drop, drop_of_length-le}
-use lib.Seq.{sets}
-use Rattle.contents.specs.Contents.{contents_size, entries}
+use lib.ListN.{drop, drop_of_length-le}
+use Rattle.contents.specs.Contents.{entries}
 use Rattle.joining.specs.Writing.{entries_turn, contents_sets}
 use native.Mathlib.Omega.{arith}
 use Rattle.joining.proofs.put_contents.Goals as goal

@@ -1,12 +1,9 @@
 -- `joining::put_contents` meets its contract: what is left of the entries makes the whole, whatever was written so far. Assumes nothing.
 use Prim.Native.Nat.{◌+◌, ◌-◌, ◌*◌, ◌≤◌}
-use mathlib.Core.Path.{◌≡◌, refl, ◌∙◌}
-use mathlib.Core.List.{[]}
-use lib.ListN.{length, drop, drop_of_length-le}
+use mathlib.Core.Path.{◌≡◌}
+use lib.ListN.{length, drop}
 use lib.Seq.{sets}
 use Rattle.contents.specs.Contents.{contents_size, entries}
-use Rattle.joining.specs.Writing.{entries_turn, contents_sets}
-use native.Mathlib.Omega.{arith}
 use Rattle.joining.proofs.put_contents.Given as goal
 
 abbrev pub invariant-loop-i : goal.invariant-loop-i

@@ -1,7 +1,6 @@
 -- `joining::put_entry` meets its contract: three runs of stores, each where the last ended, are one. Assumes nothing.
 use Rattle.contents.specs.Contents.{contents_size}
 use Rattle.joining.specs.Writing.{entry_sets}
-use borrow.Author.Rules.{rules}
 use Rattle.joining.proofs.put_entry.Goals as goal
 
 pub returns : goal.returns

@@ -6,7 +6,6 @@ use lib.Seq.{length-take-le}
 use Rattle.contents.specs.Contents.{sizes_of}
 use Rattle.joining.specs.Writing.{together_size, parts_sets, size_below}
 use native.Mathlib.Omega.{arith}
-use borrow.Author.Rules.{rules}
 use Rattle.joining.proofs.put_parts.Goals as goal
 
 pub slice_bounds-put_contents-end : goal.slice_bounds-put_contents-end

@@ -1,16 +1,14 @@
 -- `joining::sizes_of` meets its contract: the sizes of the bodies before i stand in the array. Assumes nothing.
-use Prim.Native.Nat.{◌-◌, ◌≤◌}
+use Prim.Native.Nat.{◌-◌}
 use mathlib.Core.Path.{◌≡◌, refl, ap, ◌∙◌}
-use lib.ListN.{length, take, length-set}
+use lib.ListN.{length, length-set}
 use mathlib.Core.List.{map}
 use lib.ListN.{length-map}
 use lib.Seq.{take-length}
 use Rattle.contents.specs.Contents.{sizes_of}
-use Rattle.contents.specs.Questions.{top_code}
 use Rattle.contents.proofs.Laws.{fill_turn}
 use Rattle.joining.specs.Writing.{size_at}
 use native.Mathlib.Omega.{arith}
-use borrow.Author.Rules.{rules}
 use Rattle.joining.proofs.sizes_of.Goals as goal
 
 pub loop-i-init : goal.loop-i-init

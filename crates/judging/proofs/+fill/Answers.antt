@@ -1,6 +1,5 @@
 -- `judging::fill` meets its contract: a block's table is that of its halves, and its own split, as Lemmas/Filling says. The measure is the
 -- size. Assumes nothing.
-use Prim.Native.Nat.{ℕ, ◌<◌}
 use native.Mathlib.Omega.{arith}
 use mathlib.Core.Path.{refl, ap, ◌∙◌}
 use mathlib.Core.Bool.{true, false}

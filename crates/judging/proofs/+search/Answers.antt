@@ -1,11 +1,9 @@
 -- `judging::search` meets its contract: a block is clear where its root is over, or where its root and both halves are clear, as Lemmas/Search
 -- says. The measure is the size. Assumes nothing.
-use Prim.Native.Nat.{ℕ, ◌+◌, ◌/◌, ◌<◌}
+use Prim.Native.Nat.{ℕ, ◌+◌, ◌/◌}
 use native.Mathlib.Omega.{arith}
 use mathlib.Core.Path.{sym, ◌∙◌}
 use mathlib.Core.Bool.{Bool, true, false}
-use mathlib.Core.Logic.{◌≢◌}
-use borrow.Author.Tests.{not-true, not-false}
 use Rattle.clashing.proofs.Laws.Clash.{limit_small}
 use Rattle.judging.specs.Search.{Searched}
 use Rattle.judging.proofs.Lemmas.Search.{still_there, searched_none, root_below, searched_over, searched_root, half_call, searched_half, searched_both}

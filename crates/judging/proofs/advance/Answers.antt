@@ -1,6 +1,5 @@
 -- `judging::advance` meets its contract. Assumes nothing.
 use native.Mathlib.Numerals.{add-one}
-use borrow.Author.Rules.{rules}
 use Rattle.judging.proofs.advance.Goals as goal
 
 pub returns-then-more : goal.returns-then-more

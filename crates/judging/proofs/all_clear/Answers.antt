@@ -1,6 +1,6 @@
 -- `judging::all_clear` meets its contract: while the loop runs, every mark before m is clear. Assumes nothing.
 use Rattle.std.proofs.Common.{◌∙◌}
-use Prim.Native.Nat.{◌-◌, ◌≤◌}
+use Prim.Native.Nat.{◌-◌}
 use mathlib.Core.Path.{◌≡◌, refl, sym}
 use mathlib.Core.Bool.{true}
 use native.Mathlib.Omega.{arith}

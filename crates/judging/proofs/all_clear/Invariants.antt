@@ -1,11 +1,9 @@
 -- `judging::all_clear` meets its contract: while the loop runs, every mark before m is clear. Assumes nothing.
 use Prim.Native.Nat.{◌-◌, ◌≤◌}
-use mathlib.Core.Path.{◌≡◌, refl, sym}
+use mathlib.Core.Path.{◌≡◌}
 use mathlib.Core.Bool.{true}
-use native.Mathlib.Omega.{arith}
 use Rattle.lists.specs.Tests.{every}
-use Rattle.lists.proofs.TestLaws.{said_no, said_yes, every_not, every_more}
-use Rattle.judging.specs.Search.{is_clear, all_clear}
+use Rattle.judging.specs.Search.{is_clear}
 use Rattle.judging.proofs.all_clear.Given as goal
 
 abbrev pub invariant-loop-m : goal.invariant-loop-m

@@ -1,6 +1,4 @@
 -- `judging::is_clear` meets its contract: a mark is listed, or its radius is within the bound and it is in the index. Assumes nothing.
-use Rattle.std.proofs.Common.{sym, ◌∙◌}
-use borrow.Author.Tests.{not-true, not-false}
 use Rattle.judging.proofs.Lemmas.Listing.{subjectable, asked, subjected, large_found, searchable, clear_is}
 use Rattle.judging.proofs.is_clear.Goals as goal
 

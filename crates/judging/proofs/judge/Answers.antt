@@ -1,6 +1,5 @@
 -- `judging::judge` meets its contract: the table is that of the whole index, and nobody clashes exactly where the judge accepts. Assumes nothing.
 use mathlib.Core.Path.{refl, ◌∙◌}
-use borrow.Author.Rules.{rules}
 use Rattle.judging.proofs.Lemmas.Clear.{judge_clear}
 use Rattle.judging.proofs.Lemmas.Listing.{fillable, tabled}
 use Rattle.judging.proofs.judge.Goals as goal

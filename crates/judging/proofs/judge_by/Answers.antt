@@ -1,6 +1,5 @@
 -- `judging::judge_by` meets its contract: the list is whole, or no radius is above the bound. Assumes nothing.
 use native.Mathlib.Omega.{arith}
-use borrow.Author.Rules.{rules}
 use Rattle.judging.proofs.Lemmas.Listing.{listed_widest}
 use Rattle.judging.proofs.judge_by.Goals as goal
 

@@ -1,11 +1,9 @@
 -- `judging::large_clear` meets its contract: while the loop runs, none of the listed marks passed clashes. Assumes nothing.
-use Prim.Native.Nat.{ℕ, ◌-◌, ◌<◌, ◌≤◌}
-use mathlib.Core.Path.{◌≡◌, sym, ◌∙◌}
+use Prim.Native.Nat.{◌-◌}
+use mathlib.Core.Path.{sym, ◌∙◌}
 use mathlib.Core.Bool.{true, false, true≢false, false≢true}
 use native.Mathlib.Omega.{arith}
-use lib.ListN.{get_or}
 use borrow.Author.Count.{below_more}
-use Rattle.clashing.specs.Clash.{clash}
 use Rattle.judging.proofs.large_clear.Goals as goal
 
 pub loop-i-init : goal.loop-i-init

@@ -1,10 +1,9 @@
 -- `judging::list_large` meets its contract: while the loop runs, the large ones of the marks before m are listed. Assumes nothing.
-use Prim.Native.Nat.{◌-◌, ◌≤◌}
+use Prim.Native.Nat.{◌-◌}
 use mathlib.Core.Path.{◌≡◌, refl, sym, ap, ◌∙◌}
 use native.Mathlib.Omega.{arith}
 use lib.Dec.{ltb}
-use lib.ListN.{length, length-set}
-use Rattle.judging.specs.Search.{most_large, Listed}
+use lib.ListN.{length-set}
 use Rattle.judging.proofs.Lemmas.Listing.{listed_none, listed_more, advanced_most}
 use Rattle.judging.proofs.list_large.Goals as goal
 
@@ -31,14 +30,13 @@ pub radius_at-requires : goal.radius_at-requires
 radius_at-requires c = omega (arith, c.requires.0.there)
 
 pub loop-m-preserved : goal.loop-m-preserved
-loop-m-preserved c =
-    (
-      omega arith,
-      rw c.advance-k.ensures (advanced_most (ltb c.args.bound c.radius_at.result) (omega arith)),
-      simp length-set c.loop-m.invariant.2,
-      rw c.advance-k.ensures
-          (listed_more (omega arith) (omega (arith, c.loop-m.invariant.2)) refl (ap (ltb c.args.bound) c.radius_at.ensures) c.loop-m.invariant.3),
-    )
+loop-m-preserved c = (
+  omega arith,
+  rw c.advance-k.ensures (advanced_most (ltb c.args.bound c.radius_at.result) (omega arith)),
+  simp length-set c.loop-m.invariant.2,
+  rw c.advance-k.ensures
+      (listed_more (omega arith) (omega (arith, c.loop-m.invariant.2)) refl (ap (ltb c.args.bound) c.radius_at.ensures) c.loop-m.invariant.3),
+)
 
 pub shape_of-large : goal.shape_of-large
 shape_of-large c =

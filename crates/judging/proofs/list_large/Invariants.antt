@@ -1,11 +1,8 @@
 -- `judging::list_large` meets its contract: while the loop runs, the large ones of the marks before m are listed. Assumes nothing.
 use Prim.Native.Nat.{◌-◌, ◌≤◌}
-use mathlib.Core.Path.{◌≡◌, refl, sym, ap, ◌∙◌}
-use native.Mathlib.Omega.{arith}
-use lib.Dec.{ltb}
-use lib.ListN.{length, length-set}
+use mathlib.Core.Path.{◌≡◌}
+use lib.ListN.{length}
 use Rattle.judging.specs.Search.{most_large, Listed}
-use Rattle.judging.proofs.Lemmas.Listing.{listed_none, listed_more, advanced_most}
 use Rattle.judging.proofs.list_large.Given as goal
 
 abbrev pub invariant-loop-m : goal.invariant-loop-m

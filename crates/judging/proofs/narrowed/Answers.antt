@@ -1,10 +1,6 @@
 -- `judging::narrowed` meets its contract: the bound only falls, and never by more than it is. Assumes nothing.
-use Prim.Native.Nat.{◌*◌, ◌≤◌}
-use mathlib.Core.Path.{◌≡◌, sym, ◌∙◌}
+use mathlib.Core.Path.{sym, ◌∙◌}
 use native.Mathlib.Omega.{arith}
-use lib.ListN.{length}
-use Rattle.clashing.specs.Clash.{widest_radius}
-use Rattle.judging.specs.Search.{most_large}
 use Rattle.judging.proofs.narrowed.Goals as goal
 
 pub loop-step-init : goal.loop-step-init

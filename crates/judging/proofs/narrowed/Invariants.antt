@@ -1,7 +1,6 @@
 -- `judging::narrowed` meets its contract: the bound only falls, and never by more than it is. Assumes nothing.
 use Prim.Native.Nat.{◌*◌, ◌≤◌}
-use mathlib.Core.Path.{◌≡◌, sym, ◌∙◌}
-use native.Mathlib.Omega.{arith}
+use mathlib.Core.Path.{◌≡◌}
 use lib.ListN.{length}
 use Rattle.clashing.specs.Clash.{widest_radius}
 use Rattle.judging.specs.Search.{most_large}

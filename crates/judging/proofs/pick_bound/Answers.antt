@@ -1,10 +1,6 @@
 -- `judging::pick_bound` meets its contract: the bound only falls. Assumes nothing.
-use Prim.Native.Nat.{◌≤◌}
-use mathlib.Core.Path.{◌≡◌, sym, ◌∙◌}
+use mathlib.Core.Path.{sym, ◌∙◌}
 use native.Mathlib.Omega.{arith}
-use lib.ListN.{length}
-use Rattle.clashing.specs.Clash.{widest_radius}
-use Rattle.judging.specs.Search.{most_large}
 use Rattle.judging.proofs.pick_bound.Goals as goal
 
 pub loop-bound-init : goal.loop-bound-init

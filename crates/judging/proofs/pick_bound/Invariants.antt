@@ -1,7 +1,6 @@
 -- `judging::pick_bound` meets its contract: the bound only falls. Assumes nothing.
 use Prim.Native.Nat.{◌≤◌}
-use mathlib.Core.Path.{◌≡◌, sym, ◌∙◌}
-use native.Mathlib.Omega.{arith}
+use mathlib.Core.Path.{◌≡◌}
 use lib.ListN.{length}
 use Rattle.clashing.specs.Clash.{widest_radius}
 use Rattle.judging.specs.Search.{most_large}

@@ -1,11 +1,6 @@
 -- `listing::put_gone` meets its contract: each number ends at most `number_room` bytes behind the last, so that there is room for five; together they
 -- are the line. Assumes nothing.
-use Prim.Native.Nat.{◌+◌, ◌*◌, ◌≤◌}
-use mathlib.Core.Path.{◌≡◌, ◌∙◌}
 use native.Mathlib.Omega.{arith}
-use lib.ListN.{length}
-use borrow.Author.Rules.{rules}
-use Rattle.text.specs.Text.{number_room}
 use Rattle.listing.proofs.Laws.{number_ends, gone_line}
 use Rattle.listing.proofs.put_gone.Goals as goal
 

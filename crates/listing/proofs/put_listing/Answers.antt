@@ -1,6 +1,5 @@
 -- `listing::put_listing` meets its contract: the first line, and the marks' lines behind it. Assumes nothing.
 use native.Mathlib.Omega.{arith}
-use borrow.Author.Rules.{rules}
 use Rattle.text.proofs.Laws.{wrote_then, wrote_length}
 use Rattle.listing.specs.Lines.{text, listing}
 use Rattle.listing.proofs.Laws.{first_room_lem}

@@ -7,7 +7,6 @@ use Rattle.elimination.specs.declared.Record.{Record}
 use Rattle.elimination.specs.Process.{stays, gone}
 use Rattle.elimination.specs.Records.{is_never, mark_record, fraction_of}
 use Rattle.listing.specs.Listed.{removal_at}
-use borrow.Author.Rules.{rules}
 use Rattle.listing.proofs.put_mark.Goals as goal
 
 -- what becomes of mark m, by its record d as it was read

@@ -1,12 +1,8 @@
 -- `listing::put_marks` meets its contract: while the loop runs, the lines of the marks before m are written. Assumes nothing.
 use Prim.Native.Nat.{◌-◌, ◌≤◌}
-use mathlib.Core.Path.{◌≡◌}
-use native.Mathlib.Omega.{arith}
 use Rattle.text.specs.Text.{Wrote}
-use Rattle.text.proofs.Laws.{wrote_length}
 use Rattle.listing.specs.Lines.{mark_lines}
 use Rattle.listing.specs.Listed.{removal_at}
-use Rattle.listing.proofs.Laws.{marks_room, lines_none, lines_more}
 use Rattle.listing.proofs.put_marks.Given as goal
 
 abbrev pub invariant-loop-m : goal.invariant-loop-m

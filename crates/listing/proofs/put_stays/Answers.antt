@@ -1,7 +1,6 @@
 -- `listing::put_stays` meets its contract: the number ends at most `number_room` bytes on, and the two bytes behind it make the line. Assumes nothing.
 use native.Mathlib.Omega.{arith}
 use lib.ListN.{length-set}
-use borrow.Author.Rules.{rules}
 use Rattle.listing.proofs.Laws.{number_ends, stays_line}
 use Rattle.listing.proofs.put_stays.Goals as goal
 

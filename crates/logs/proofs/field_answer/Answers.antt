@@ -1,5 +1,4 @@
 -- `logs::field_answer`: what is asked are the fields that were read. Assumes nothing.
-use borrow.Author.Rules.{rules}
 use Rattle.logs.proofs.field_answer.Goals as goal
 
 pub returns : goal.returns

@@ -2,7 +2,6 @@
 use mathlib.Core.Path.{sym, ◌∙◌}
 use Rattle.contents.proofs.Laws.{asked_yes, asked_no}
 use Rattle.logs.specs.Questions.{log_checks}
-use borrow.Author.Rules.{rules}
 use Rattle.logs.proofs.log_answer.Goals as goal
 
 pub returns-then-not-is_log : goal.returns-then-not-is_log

@@ -1,7 +1,6 @@
 -- `logs::place_answer`: 15 is asked first, and then 16 of the number that the bytes hold. Assumes nothing.
 use mathlib.Core.Path.{sym, ◌∙◌}
 use Rattle.contents.proofs.Laws.{none_asked, asked_yes, asked_no}
-use borrow.Author.Rules.{rules}
 use Rattle.logs.proofs.place_answer.Goals as goal
 
 pub returns-then-not-is_packed : goal.returns-then-not-is_packed

@@ -1,5 +1,4 @@
 -- `logs::place_bits`: the sign and the magnitude are those of the coordinate. Assumes nothing.
-use borrow.Author.Rules.{rules}
 use Rattle.logs.proofs.place_bits.Goals as goal
 
 pub bits_of-requires : goal.bits_of-requires

@@ -1,6 +1,5 @@
 -- `logs::put_mark`: two places and the last 7 bytes of the record, one behind the other. Assumes nothing.
 use Rattle.logs.proofs.Lemmas.Writing.{mark_put}
-use borrow.Author.Rules.{rules}
 use native.Mathlib.Omega.{arith}
 use Rattle.logs.proofs.put_mark.Goals as goal
 

@@ -1,9 +1,8 @@
 -- `logs::put_marks`: each turn writes one row more. Assumes nothing.
-use Prim.Native.Nat.{◌-◌, ◌≤◌}
+use Prim.Native.Nat.{◌-◌}
 use mathlib.Core.Path.{◌≡◌, ap, ◌∙◌}
 use lib.ListN.{length}
-use lib.Seq.{sets, length-sets}
-use Rattle.rows.specs.Rows.{rows}
+use lib.Seq.{length-sets}
 use Rattle.rows.proofs.Laws.{rows_none, rows_more}
 use Rattle.logs.specs.Log.{mark_of_record}
 use Rattle.logs.proofs.Lemmas.Writing.{mark_length}

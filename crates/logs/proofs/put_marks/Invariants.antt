@@ -1,13 +1,9 @@
 -- `logs::put_marks`: each turn writes one row more. Assumes nothing.
 use Prim.Native.Nat.{◌-◌, ◌≤◌}
-use mathlib.Core.Path.{◌≡◌, ap, ◌∙◌}
-use lib.ListN.{length}
-use lib.Seq.{sets, length-sets}
+use mathlib.Core.Path.{◌≡◌}
+use lib.Seq.{sets}
 use Rattle.rows.specs.Rows.{rows}
-use Rattle.rows.proofs.Laws.{rows_none, rows_more}
 use Rattle.logs.specs.Log.{mark_of_record}
-use Rattle.logs.proofs.Lemmas.Writing.{mark_length}
-use native.Mathlib.Omega.{arith}
 use Rattle.logs.proofs.put_marks.Given as goal
 
 abbrev pub invariant-loop-r : goal.invariant-loop-r

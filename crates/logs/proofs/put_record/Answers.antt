@@ -1,6 +1,5 @@
 -- `logs::put_record`: two places and the last 7 bytes of the mark, one behind the other. Assumes nothing.
 use Rattle.logs.proofs.Lemmas.Writing.{record_put}
-use borrow.Author.Rules.{rules}
 use Rattle.logs.proofs.put_record.Goals as goal
 
 pub returns : goal.returns

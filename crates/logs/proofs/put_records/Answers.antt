@@ -1,9 +1,8 @@
 -- `logs::put_records`: each turn writes one row more. Assumes nothing.
-use Prim.Native.Nat.{◌-◌, ◌≤◌}
+use Prim.Native.Nat.{◌-◌}
 use mathlib.Core.Path.{◌≡◌, ap, ◌∙◌}
 use lib.ListN.{length}
-use lib.Seq.{sets, length-sets}
-use Rattle.rows.specs.Rows.{rows}
+use lib.Seq.{length-sets}
 use Rattle.rows.proofs.Laws.{rows_none, rows_more}
 use Rattle.logs.specs.Log.{record_of_mark}
 use Rattle.logs.proofs.Lemmas.Writing.{record_length}

@@ -1,13 +1,9 @@
 -- `logs::put_records`: each turn writes one row more. Assumes nothing.
 use Prim.Native.Nat.{◌-◌, ◌≤◌}
-use mathlib.Core.Path.{◌≡◌, ap, ◌∙◌}
-use lib.ListN.{length}
-use lib.Seq.{sets, length-sets}
+use mathlib.Core.Path.{◌≡◌}
+use lib.Seq.{sets}
 use Rattle.rows.specs.Rows.{rows}
-use Rattle.rows.proofs.Laws.{rows_none, rows_more}
 use Rattle.logs.specs.Log.{record_of_mark}
-use Rattle.logs.proofs.Lemmas.Writing.{record_length}
-use native.Mathlib.Omega.{arith}
 use Rattle.logs.proofs.put_records.Given as goal
 
 abbrev pub invariant-loop-m : goal.invariant-loop-m

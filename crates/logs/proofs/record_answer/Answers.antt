@@ -1,7 +1,6 @@
 -- `logs::record_answer`: x, y and the fields, in that order. Assumes nothing.
 use mathlib.Core.Path.{sym, ◌∙◌}
 use Rattle.logs.proofs.Lemmas.Right.{record_x, record_y, record_rest}
-use borrow.Author.Rules.{rules}
 use native.Mathlib.Omega.{arith}
 use Rattle.logs.proofs.record_answer.Goals as goal
 

@@ -1,11 +1,8 @@
 -- `logs::records_answer`: while the loop runs, the records before r answer 0. Assumes nothing.
 use Prim.Native.Nat.{◌-◌, ◌≤◌}
-use mathlib.Core.Path.{◌≡◌, sym, ◌∙◌}
+use mathlib.Core.Path.{◌≡◌}
 use Rattle.contents.specs.Asking.{answer, in_turn}
-use Rattle.contents.proofs.Laws.{turn_none, turn_more, turn_stop}
 use Rattle.logs.specs.Questions.{record_questions}
-use Rattle.logs.proofs.Lemmas.Right.{record_numbered}
-use native.Mathlib.Omega.{arith}
 use Rattle.logs.proofs.records_answer.Given as goal
 
 abbrev pub invariant-loop-r : goal.invariant-loop-r

@@ -1,5 +1,4 @@
 -- `marks::label_at` meets its contract: the place and the used radius that were read. Assumes nothing.
-use borrow.Author.Rules.{rules}
 use Rattle.marks.proofs.Laws.{place_passed}
 use Rattle.marks.proofs.label_at.Goals as goal
 

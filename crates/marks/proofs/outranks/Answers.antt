@@ -2,7 +2,6 @@
 use mathlib.Core.Path.{sym}
 use mathlib.Core.Bool.{or-false}
 use native.Mathlib.Nat.{le_of_eq}
-use borrow.Author.Rules.{rules}
 use borrow.Author.Tests.{le-ltb, eq-eqb, ne_eqb}
 use Rattle.marks.specs.Marks.{outranks}
 use Rattle.marks.proofs.outranks.Goals as goal

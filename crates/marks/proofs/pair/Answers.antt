@@ -1,7 +1,6 @@
 -- `marks::pair` meets its contract: the larger popup and the touching value make the pair value, and without popups it is the touching value.
 -- Assumes nothing.
 use mathlib.Core.Path.{ap₂, ◌∙◌}
-use borrow.Author.Rules.{rules}
 use Rattle.marks.specs.Marks.{larger}
 use Rattle.marks.specs.Pairs.{pair_of, pair_value}
 use Rattle.marks.proofs.Laws.{larger_most}

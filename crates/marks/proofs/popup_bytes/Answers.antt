@@ -2,7 +2,6 @@
 use mathlib.Core.Path.{◌∙◌}
 use mathlib.Core.List.{[], ◌∷◌, append-nil}
 use native.Mathlib.Omega.{arith}
-use borrow.Author.Rules.{rules}
 use Rattle.lists.specs.Stores.{over}
 use Rattle.lists.proofs.StoreLaws.{over_sets}
 use Rattle.numbers.specs.Little.{le_bytes}

@@ -1,6 +1,5 @@
 -- `marks::radius_at` meets its contract: the used radius of the two fields read. Assumes nothing.
 use mathlib.Core.Path.{ap₂, ◌∙◌}
-use borrow.Author.Rules.{rules}
 use Rattle.marks.specs.Marks.{used_radius}
 use Rattle.marks.proofs.radius_at.Goals as goal
 

@@ -1,6 +1,5 @@
 -- `marks::rank_key` meets its contract: the priority and the radius read give the definition's number. Assumes nothing.
 use native.Mathlib.Omega.{arith}
-use borrow.Author.Rules.{rules}
 use Rattle.marks.specs.Marks.{rank_key}
 use Rattle.marks.proofs.Laws.{rank_radius_bound}
 use Rattle.marks.proofs.rank_key.Goals as goal

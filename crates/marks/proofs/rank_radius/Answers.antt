@@ -1,6 +1,4 @@
 -- `marks::rank_radius` meets its contract: the test of the edition is the definition's. Assumes nothing.
-use mathlib.Core.Path.{◌∙◌}
-use borrow.Author.Rules.{rules}
 use borrow.Author.Tests.{eq-eqb, ne_eqb}
 use Rattle.marks.specs.Marks.{rank_radius}
 use Rattle.marks.proofs.rank_radius.Goals as goal

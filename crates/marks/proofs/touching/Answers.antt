@@ -1,5 +1,4 @@
 -- `marks::touching` meets its contract: `touching_of` is handed the two labels. Assumes nothing.
-use borrow.Author.Rules.{rules}
 use Rattle.marks.specs.Marks.{touching}
 use Rattle.marks.proofs.touching.Goals as goal
 

@@ -2,7 +2,7 @@
 use Prim.Native.Nat.{◌+◌, ◌-◌, ◌<◌}
 use native.Mathlib.Omega.{arith}
 use lib.ListN.{get_or}
-use Rattle.numbers.proofs.Turns.{Reading, read_none, read_more, read_room, read_all}
+use Rattle.numbers.proofs.Turns.{read_none, read_more, read_room, read_all}
 use Rattle.numbers.proofs.read.Goals as goal
 use Rattle.numbers.proofs.read.Goals.{After-shared_slice_known-1}
 

@@ -1,8 +1,5 @@
 -- `numbers::read` meets its contract: v stays the number of the bytes passed, as Turns says. Assumes nothing.
-use Prim.Native.Nat.{◌+◌, ◌-◌, ◌<◌}
-use native.Mathlib.Omega.{arith}
-use lib.ListN.{get_or}
-use Rattle.numbers.proofs.Turns.{Reading, read_none, read_more, read_room, read_all}
+use Rattle.numbers.proofs.Turns.{Reading}
 use Rattle.numbers.proofs.read.Given as goal
 
 abbrev pub invariant-loop-j : goal.invariant-loop-j

@@ -1,6 +1,6 @@
 -- `numbers::read_i16` meets its contract: the signed number of what is read fits 16 bits. Assumes nothing.
 use mathlib.Core.Path.{ap, ◌∙◌}
-use borrow.Author.Rules.{rules, sfits_of}
+use borrow.Author.Rules.{sfits_of}
 use mir.Syntax.{w16}
 use mir.Facts.{to_z-of_z}
 use Rattle.numbers.specs.Little.{signed}

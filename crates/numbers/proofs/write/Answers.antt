@@ -1,7 +1,6 @@
 -- `numbers::write` meets its contract: the bytes left to write complete the result, as Turns says. Assumes nothing.
-use Prim.Native.Nat.{◌-◌}
 use native.Mathlib.Omega.{arith}
-use Rattle.numbers.proofs.Turns.{Writing, write_none, write_more, write_all}
+use Rattle.numbers.proofs.Turns.{write_none, write_more, write_all}
 use Rattle.numbers.proofs.write.Goals as goal
 
 pub loop-j-init : goal.loop-j-init

@@ -1,6 +1,5 @@
 -- `packed::is_packed`: the tests of question 15. Assumes nothing.
 use Rattle.packed.specs.Packed.{is_packed}
-use borrow.Author.Rules.{rules}
 use Rattle.packed.proofs.is_packed.Goals as goal
 
 pub returns : goal.returns

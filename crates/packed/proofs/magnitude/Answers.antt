@@ -1,6 +1,5 @@
 -- `packed::magnitude`: five digits, each times its power of ten. Assumes nothing.
 use Rattle.packed.specs.Packed.{magnitude}
-use borrow.Author.Rules.{rules}
 use native.Mathlib.Omega.{arith}
 use Rattle.packed.proofs.magnitude.Goals as goal
 

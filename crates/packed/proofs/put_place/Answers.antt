@@ -1,6 +1,5 @@
 -- `packed::put_place`: the upper half of the 16 bits is below zero. Assumes nothing.
 use Rattle.packed.proofs.Laws.{packed_low, packed_high}
-use borrow.Author.Rules.{rules}
 use Rattle.packed.proofs.put_place.Goals as goal
 
 pub returns-then-u-lt32768 : goal.returns-then-u-lt32768

@@ -1,7 +1,6 @@
 -- `parts::fields_answer` meets its contract: question 5 goes by the number of what `house_radius` answers. Assumes nothing.
 use Prim.Native.Nat.{ℕ}
 use mathlib.Core.Path.{◌≡◌, sym, ap, ◌∙◌}
-use borrow.Author.Rules.{rules}
 use borrow.Author.Tests.{le-leb, lt-leb}
 use lib.Dec.{eqb}
 use Rattle.marks.specs.declared.House.{House}

@@ -1,14 +1,13 @@
 -- `parts::is_choice` meets its contract: one byte, and which. Assumes nothing.
 use Prim.Native.Nat.{ℕ}
-use mathlib.Core.Path.{◌≡◌, refl}
+use mathlib.Core.Path.{◌≡◌}
 use mathlib.Core.Bool.{false, ◌||◌}
 use mathlib.Core.List.{List, [], ◌∷◌}
 use native.Mathlib.Omega.{arith}
-use borrow.Author.Rules.{rules}
 use borrow.Author.Tests.{eq-eqb, ne_eqb}
 use lib.Dec.{eqb}
 use lib.ListN.{length, get_or}
-use Rattle.parts.specs.Questions.{choice_in, is_choice}
+use Rattle.parts.specs.Questions.{is_choice}
 use Rattle.parts.proofs.is_choice.Goals as goal
 
 -- of one byte it is asked which

@@ -1,6 +1,6 @@
 -- `parts::is_popups` meets its contract: while the loop runs, every popup before m is right. Assumes nothing.
 use Rattle.std.proofs.Common.{sym, ◌∙◌}
-use Prim.Native.Nat.{◌-◌, ◌≤◌}
+use Prim.Native.Nat.{◌-◌}
 use mathlib.Core.Path.{◌≡◌, refl}
 use mathlib.Core.Bool.{true}
 use mathlib.Core.Logic.{inr}
@@ -10,7 +10,6 @@ use Rattle.lists.specs.Tests.{every}
 use Rattle.lists.proofs.TestLaws.{every_more, every_not}
 use Rattle.marks.specs.Pairs.{popup_at}
 use Rattle.parts.specs.Questions.{is_popup, is_popups}
-use borrow.Author.Rules.{rules}
 use Rattle.parts.proofs.is_popups.Goals as goal
 
 pub returns-then-body-n : goal.returns-then-body-n
@@ -32,11 +31,10 @@ returns-then-not-is_popup c =
     rw (eq-eqb _ _ c.if-body-n.false, no)
 
 pub loop-m-preserved : goal.loop-m-preserved
-loop-m-preserved c =
-    (
-      omega (arith, c.loop-m-test.true),
-      every_more _ c.loop-m.m c.loop-m.invariant.1 (rw (← c.popup_at.ensures) (sym c.is_popup.ensures ∙ c.if-not-is_popup.false)),
-    )
+loop-m-preserved c = (
+  omega (arith, c.loop-m-test.true),
+  every_more _ c.loop-m.m c.loop-m.invariant.1 (rw (← c.popup_at.ensures) (sym c.is_popup.ensures ∙ c.if-not-is_popup.false)),
+)
 
 pub returns : goal.returns
 unfolding is_popups

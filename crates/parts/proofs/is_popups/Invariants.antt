@@ -1,15 +1,10 @@
 -- `parts::is_popups` meets its contract: while the loop runs, every popup before m is right. Assumes nothing.
 use Prim.Native.Nat.{◌-◌, ◌≤◌}
-use mathlib.Core.Path.{◌≡◌, refl}
+use mathlib.Core.Path.{◌≡◌}
 use mathlib.Core.Bool.{true}
-use mathlib.Core.Logic.{inr}
-use native.Mathlib.Omega.{arith}
-use borrow.Author.Tests.{eq-eqb, ne_eqb}
 use Rattle.lists.specs.Tests.{every}
-use Rattle.lists.proofs.TestLaws.{said_no, said_yes, every_more, every_not}
 use Rattle.marks.specs.Pairs.{popup_at}
-use Rattle.parts.specs.Questions.{is_popup, is_popups}
-use borrow.Author.Rules.{rules}
+use Rattle.parts.specs.Questions.{is_popup}
 use Rattle.parts.proofs.is_popups.Given as goal
 
 abbrev pub invariant-loop-m : goal.invariant-loop-m

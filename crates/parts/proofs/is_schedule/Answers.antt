@@ -1,6 +1,6 @@
 -- `parts::is_schedule` meets its contract: while the loop runs, every record before m is right. Assumes nothing.
 use Rattle.std.proofs.Common.{◌∙◌}
-use Prim.Native.Nat.{◌-◌, ◌≤◌}
+use Prim.Native.Nat.{◌-◌}
 use mathlib.Core.Path.{◌≡◌, refl, sym}
 use mathlib.Core.Bool.{true}
 use native.Mathlib.Omega.{arith}

@@ -1,11 +1,9 @@
 -- `parts::is_schedule` meets its contract: while the loop runs, every record before m is right. Assumes nothing.
 use Prim.Native.Nat.{◌-◌, ◌≤◌}
-use mathlib.Core.Path.{◌≡◌, refl, sym}
+use mathlib.Core.Path.{◌≡◌}
 use mathlib.Core.Bool.{true}
-use native.Mathlib.Omega.{arith}
 use Rattle.lists.specs.Tests.{every}
-use Rattle.lists.proofs.TestLaws.{said_no, said_yes, every_more, every_not}
-use Rattle.parts.specs.Questions.{record_right, is_schedule}
+use Rattle.parts.specs.Questions.{record_right}
 use Rattle.parts.proofs.is_schedule.Given as goal
 
 abbrev pub invariant-loop-m : goal.invariant-loop-m

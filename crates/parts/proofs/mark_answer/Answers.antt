@@ -1,5 +1,4 @@
 -- `parts::mark_answer` meets its contract: what is asked are the fields that were read. Assumes nothing.
-use borrow.Author.Rules.{rules}
 use Rattle.parts.proofs.mark_answer.Goals as goal
 
 pub returns : goal.returns

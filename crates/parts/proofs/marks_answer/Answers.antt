@@ -1,8 +1,7 @@
 -- `parts::marks_answer` meets its contract: while the loop runs, the marks before m answer 0. Assumes nothing.
-use Prim.Native.Nat.{◌-◌, ◌≤◌}
+use Prim.Native.Nat.{◌-◌}
 use mathlib.Core.Path.{◌≡◌, sym, ◌∙◌}
 use native.Mathlib.Omega.{arith}
-use Rattle.contents.specs.Asking.{answer}
 use Rattle.contents.proofs.Laws.{turn_none, turn_more, turn_stop}
 use Rattle.parts.specs.Questions.{one_mark, mark_questions}
 use Rattle.parts.proofs.Lemmas.Numbered.{one_numbered}

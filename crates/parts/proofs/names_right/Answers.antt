@@ -4,7 +4,6 @@ use native.Mathlib.Omega.{arith}
 use borrow.Author.Tests.{lt-ltb, le-ltb}
 use Rattle.marks.proofs.PairLaws.{good_popup}
 use Rattle.parts.specs.Questions.{names_right}
-use borrow.Author.Rules.{rules}
 use Rattle.parts.proofs.names_right.Goals as goal
 
 pub returns-then-n-by : goal.returns-then-n-by

@@ -1,6 +1,5 @@
 -- `parts::part1_answer` meets its contract: 4 is asked before 5 and 6. Assumes nothing.
 use mathlib.Core.Path.{sym, ◌∙◌}
-use borrow.Author.Rules.{rules}
 use Rattle.contents.proofs.Laws.{asked_yes, asked_no}
 use Rattle.parts.specs.Questions.{part1_questions}
 use Rattle.parts.proofs.part1_answer.Goals as goal

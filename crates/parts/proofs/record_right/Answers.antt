@@ -2,7 +2,6 @@
 use mathlib.Core.Path.{sym, ◌∙◌}
 use native.Mathlib.Omega.{arith}
 use Rattle.parts.proofs.Lemmas.Records.{named, right_of_lem}
-use borrow.Author.Rules.{rules}
 use Rattle.parts.proofs.record_right.Goals as goal
 
 pub returns-then-is_never : goal.returns-then-is_never

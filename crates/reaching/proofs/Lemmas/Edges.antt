@@ -1,5 +1,5 @@
 -- Edges: what question 20 says of their size, and which places can be one. Assumes nothing.
-use Rattle.std.specs.Prelude.{ℕ, zero, suc, ◌+◌, ◌-◌, ◌<◌, ◌≤◌, ◌≡◌, refl, true, ℤ, pos, negsuc, neg_ℤ, nat_abs, ◌-ℤ◌}
+use Rattle.std.specs.Prelude.{zero, suc, ◌-◌, ◌<◌, ◌≤◌, ◌≡◌, refl, true, ℤ, pos, negsuc, neg_ℤ, nat_abs, ◌-ℤ◌}
 use Rattle.std.proofs.Common.{arith, SFits, leb-true, le-leb}
 use Rattle.std.proofs.lemmas.Bool.{false≢true}
 use Rattle.std.specs.Int.Signed.{mag, le_z}

@@ -1,7 +1,6 @@
 -- `reaching::gap` meets its contract: the gap is at most 131,072. Assumes nothing.
 use mathlib.Core.Path.{◌∙◌}
 use native.Mathlib.Omega.{arith}
-use borrow.Author.Rules.{rules}
 use mir.Facts.{to_z-of_z}
 use Rattle.reaching.proofs.gap.Goals as goal
 

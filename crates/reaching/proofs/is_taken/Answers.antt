@@ -1,6 +1,5 @@
 -- `reaching::is_taken` meets its contract: the tests of question 20. Assumes nothing.
 use Rattle.std.proofs.Common.{sym, ◌∙◌}
-use borrow.Author.Rules.{rules}
 use borrow.Author.Tests.{eq-eqb, ne_eqb}
 use Rattle.reaching.specs.Questions.{question20}
 use Rattle.reaching.proofs.is_taken.Goals as goal

@@ -1,5 +1,5 @@
 -- `reaching::is_window` meets its contract: the tests of a window. Assumes nothing.
-use borrow.Author.Rules.{rules, sfits_of}
+use borrow.Author.Rules.{sfits_of}
 use mir.Facts.{to_z-of_z}
 use Rattle.reaching.specs.Questions.{is_window}
 use Rattle.reaching.proofs.is_window.Goals as goal

@@ -1,5 +1,5 @@
 -- `reaching::shifted` meets its contract: 32 bits hold the sum, which is not negative. Assumes nothing.
-use Prim.Native.Nat.{suc, ◌<◌}
+use Prim.Native.Nat.{suc}
 use mathlib.Core.Path.{◌≡◌, refl, ◌∙◌}
 use native.Mathlib.Omega.{arith}
 use borrow.Author.Tests.{le-ltb}

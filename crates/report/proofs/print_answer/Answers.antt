@@ -4,7 +4,6 @@ use mathlib.Core.Path.{◌≡◌, sym, ap, ◌∙◌}
 use mathlib.Core.List.{List}
 use native.Mathlib.Omega.{arith}
 use lib.ListN.{length}
-use borrow.Author.Rules.{rules}
 use Rattle.sheet.specs.Questions.{check, sheet_count}
 use Rattle.sheet.proofs.Laws.{found_number, found_part}
 use Rattle.report.proofs.Lemmas.Printed.{answer_long, answer_refused, answer_many, answer_taken}

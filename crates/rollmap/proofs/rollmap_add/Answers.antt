@@ -1,5 +1,4 @@
 -- `rollmap::rollmap_add`: what `changes::add` gives. Assumes nothing.
-use borrow.Author.Rules.{rules}
 use mir.Facts.{to_z-of_z}
 use Rattle.rollmap.proofs.rollmap_add.Goals as goal
 

@@ -1,5 +1,4 @@
 -- `rollmap::rollmap_assemble`: what `assembly::assemble` gives. Assumes nothing.
-use borrow.Author.Rules.{rules}
 use Rattle.rollmap.proofs.rollmap_assemble.Goals as goal
 
 pub returns : goal.returns

@@ -1,6 +1,5 @@
 -- `rollmap::rollmap_check`: the sheet's own answer. Assumes nothing.
 use Rattle.jobs.proofs.Laws.Outcomes.{check_gives}
-use borrow.Author.Rules.{rules}
 use Rattle.rollmap.proofs.rollmap_check.Goals as goal
 
 pub returns : goal.returns

@@ -1,5 +1,4 @@
 -- `rollmap::rollmap_from_columns`: what `conversions::from_columns` gives. Assumes nothing.
-use borrow.Author.Rules.{rules}
 use Rattle.rollmap.proofs.rollmap_from_columns.Goals as goal
 
 pub returns : goal.returns

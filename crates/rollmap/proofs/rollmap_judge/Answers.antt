@@ -1,5 +1,4 @@
 -- `rollmap::rollmap_judge`: what `judgement::judge` gives. Assumes nothing.
-use borrow.Author.Rules.{rules}
 use Rattle.rollmap.proofs.rollmap_judge.Goals as goal
 
 pub returns : goal.returns

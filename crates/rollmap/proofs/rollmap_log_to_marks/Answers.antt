@@ -1,5 +1,4 @@
 -- `rollmap::rollmap_log_to_marks`: what `conversions::log_to_marks` gives. Assumes nothing.
-use borrow.Author.Rules.{rules}
 use Rattle.rollmap.proofs.rollmap_log_to_marks.Goals as goal
 
 pub returns : goal.returns

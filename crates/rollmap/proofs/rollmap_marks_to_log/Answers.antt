@@ -1,5 +1,4 @@
 -- `rollmap::rollmap_marks_to_log`: what `conversions::marks_to_log` gives. Assumes nothing.
-use borrow.Author.Rules.{rules}
 use Rattle.rollmap.proofs.rollmap_marks_to_log.Goals as goal
 
 pub returns : goal.returns

@@ -1,5 +1,4 @@
 -- `rollmap::rollmap_part`: the place as the sheet tells it, and so the part's bytes. Assumes nothing.
-use borrow.Author.Rules.{rules}
 use Rattle.sheet.proofs.Laws.{located}
 use Rattle.rollmap.proofs.rollmap_part.Goals as goal
 

@@ -1,5 +1,4 @@
 -- `rollmap::rollmap_schedule`: what `changes::schedule` gives. Assumes nothing.
-use borrow.Author.Rules.{rules}
 use Rattle.rollmap.proofs.rollmap_schedule.Goals as goal
 
 pub returns : goal.returns

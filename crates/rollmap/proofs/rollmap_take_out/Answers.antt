@@ -1,5 +1,4 @@
 -- `rollmap::rollmap_take_out`: what `changes::take_out` gives. Assumes nothing.
-use borrow.Author.Rules.{rules}
 use Rattle.rollmap.proofs.rollmap_take_out.Goals as goal
 
 pub returns : goal.returns

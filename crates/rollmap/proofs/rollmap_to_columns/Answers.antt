@@ -1,5 +1,4 @@
 -- `rollmap::rollmap_to_columns`: what `conversions::to_columns` gives. Assumes nothing.
-use borrow.Author.Rules.{rules}
 use Rattle.rollmap.proofs.rollmap_to_columns.Goals as goal
 
 pub returns : goal.returns

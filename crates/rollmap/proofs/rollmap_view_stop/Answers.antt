@@ -1,5 +1,4 @@
 -- `rollmap::rollmap_view_stop`: the view at a stop. Assumes nothing.
-use borrow.Author.Rules.{rules}
 use mir.Facts.{to_z-of_z}
 use Rattle.jobs.proofs.Stops.{stop_whole}
 use Rattle.jobs.proofs.Turns.{turn_meets}

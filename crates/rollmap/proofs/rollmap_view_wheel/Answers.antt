@@ -1,5 +1,4 @@
 -- `rollmap::rollmap_view_wheel`: the view at a wheel value. Assumes nothing.
-use borrow.Author.Rules.{rules}
 use mir.Facts.{to_z-of_z}
 use Rattle.jobs.proofs.Theorems.{view_whole}
 use Rattle.jobs.proofs.Turns.{turn_meets}

@@ -1,5 +1,4 @@
 -- `rollmap::rollmap_walk`: what `viewing::walk` gives. Assumes nothing.
-use borrow.Author.Rules.{rules}
 use Rattle.rollmap.proofs.rollmap_walk.Goals as goal
 
 pub returns : goal.returns

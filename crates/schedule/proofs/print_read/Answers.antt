@@ -1,5 +1,5 @@
 -- `schedule::print_read` meets its contract: by what reading came to. Assumes nothing.
-use Rattle.std.proofs.Common.{rules, refl}
+use Rattle.std.proofs.Common.{rules}
 use Rattle.schedule.specs.Reading.{Reported}
 use Rattle.schedule.proofs.print_read.Goals as goal
 

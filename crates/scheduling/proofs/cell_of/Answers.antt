@@ -1,9 +1,7 @@
 -- `scheduling::cell_of` meets its contract: whatever cell it is, it is one of them. Assumes nothing.
 use Prim.Native.Nat.{◌-◌, ◌≤◌}
-use mathlib.Core.Logic.{⊎_elim}
 use native.Mathlib.Omega.{arith}
 use native.Mathlib.Nat.{div-le_self}
-use borrow.Author.Rules.{rules}
 use Rattle.scheduling.proofs.cell_of.Goals as goal
 use Rattle.scheduling.proofs.cell_of.Goals.{then-plan, else-plan}
 

@@ -1,7 +1,6 @@
 -- `scheduling::cell_size` meets its contract: a quotient is no larger than what is divided. Assumes nothing.
 use native.Mathlib.Omega.{arith}
 use native.Mathlib.Nat.{div-le_self}
-use borrow.Author.Rules.{rules}
 use Rattle.scheduling.proofs.cell_size.Goals as goal
 
 pub overflow_add-result : goal.overflow_add-result

@@ -2,7 +2,6 @@
 use Prim.Native.Nat.{◌-◌}
 use native.Mathlib.Omega.{arith}
 use native.Mathlib.Nat.{div-le_self}
-use borrow.Author.Rules.{rules}
 use Rattle.scheduling.proofs.cells_between.Goals as goal
 
 pub overflow_cast-result-2 : goal.overflow_cast-result-2

@@ -1,7 +1,5 @@
 -- `scheduling::columns_for` meets its contract: fewer than 16 columns are doubled. Assumes nothing.
-use Prim.Native.Nat.{◌*◌, ◌-◌, ◌<◌, ◌≤◌}
-use native.Mathlib.Omega.{arith}
-use native.Mathlib.Nat.{mul-le-mul}
+use Prim.Native.Nat.{◌-◌, ◌<◌, ◌≤◌}
 use Rattle.scheduling.proofs.columns_for.Given as goal
 
 abbrev pub invariant-loop-columns : goal.invariant-loop-columns

@@ -1,7 +1,6 @@
 -- `scheduling::enter` meets its contract: a row is in its cell, or in none. Assumes nothing.
 use native.Mathlib.Omega.{arith}
 use mathlib.Core.Logic.{inl, inr}
-use borrow.Author.Rules.{rules}
 use Rattle.scheduling.proofs.enter.Goals as goal
 
 pub add-requires : goal.add-requires

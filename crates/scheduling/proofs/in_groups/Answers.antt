@@ -2,7 +2,6 @@
 use Prim.Native.Nat.{◌*◌, ◌/◌, ◌≤◌}
 use native.Mathlib.Omega.{arith}
 use native.Mathlib.Nat.{mul-le-mul}
-use borrow.Author.Rules.{rules}
 use Rattle.scheduling.proofs.in_groups.Goals as goal
 use Rattle.scheduling.proofs.in_groups.Goals.{Start}
 

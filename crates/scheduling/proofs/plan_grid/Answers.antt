@@ -1,7 +1,6 @@
 -- `scheduling::plan_grid` meets its contract: the radii of n rows have a sum that fits. Assumes nothing.
 use native.Mathlib.Omega.{arith}
-use Prim.Native.Nat.{◌≤◌, ◌*◌, ◌-◌}
-use borrow.Author.Rules.{rules}
+use Prim.Native.Nat.{◌-◌}
 use Rattle.scheduling.proofs.plan_grid.Goals as goal
 
 pub loop-q-init : goal.loop-q-init

@@ -1,7 +1,5 @@
 -- `scheduling::plan_grid` meets its contract: the radii of n rows have a sum that fits. Assumes nothing.
-use native.Mathlib.Omega.{arith}
 use Prim.Native.Nat.{◌≤◌, ◌*◌, ◌-◌}
-use borrow.Author.Rules.{rules}
 use Rattle.scheduling.proofs.plan_grid.Given as goal
 
 abbrev pub invariant-loop-q : goal.invariant-loop-q

@@ -1,10 +1,6 @@
 -- `scheduling::put_keys` meets its contract: each turn writes one key more. Assumes nothing.
-use native.Mathlib.Omega.{arith}
-use borrow.Author.Rules.{rules}
 use Prim.Native.Nat.{◌≤◌, ◌-◌}
-use mathlib.Core.Path.{◌≡◌}
 use Rattle.scheduling.specs.Filling.{Keyed}
-use Rattle.scheduling.proofs.Filling.{keyed_none, keyed_more}
 use Rattle.scheduling.proofs.put_keys.Given as goal
 
 abbrev pub invariant-loop-i : goal.invariant-loop-i

@@ -2,7 +2,6 @@
 use mathlib.Core.Path.{◌∙◌}
 use Rattle.scheduling.proofs.Filling.{ranks, in_rank}
 use native.Mathlib.Omega.{arith}
-use borrow.Author.Rules.{rules}
 use Rattle.scheduling.proofs.put_ranked.Goals as goal
 
 pub put_rows-requires : goal.put_rows-requires

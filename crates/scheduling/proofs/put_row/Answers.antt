@@ -1,6 +1,5 @@
 -- `scheduling::put_row` meets its contract: five numbers written one behind the other are the fields. Assumes nothing.
 use Rattle.scheduling.proofs.Bytes.{row_put}
-use borrow.Author.Rules.{rules}
 use Rattle.scheduling.proofs.put_row.Goals as goal
 
 pub popup_at-requires : goal.popup_at-requires

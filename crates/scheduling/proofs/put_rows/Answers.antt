@@ -1,11 +1,9 @@
 -- `scheduling::put_rows` meets its contract: each turn writes one row more, and the keys stay. Assumes nothing.
 use native.Mathlib.Omega.{arith}
-use borrow.Author.Rules.{rules}
 use Prim.Native.Nat.{ℕ, ◌+◌, ◌*◌, ◌≤◌, ◌<◌, ◌-◌, ◌%◌}
 use mathlib.Core.Path.{◌≡◌}
 use mathlib.Core.Logic.{◌⊎◌, inl, inr}
 use Rattle.marks.specs.Pairs.{popup_size}
-use Rattle.scheduling.specs.Filling.{RowsPut}
 use Rattle.scheduling.proofs.Filling.{rows_none, rows_more}
 use Rattle.scheduling.proofs.put_rows.Goals as goal
 use Rattle.scheduling.proofs.put_rows.Goals.{After-put_row-arg-1}

@@ -1,7 +1,6 @@
 -- `scheduling::rows_for` meets its contract: a quotient is no larger than what is divided. Assumes nothing.
 use native.Mathlib.Omega.{arith}
 use native.Mathlib.Nat.{div-le_self}
-use borrow.Author.Rules.{rules}
 use Rattle.scheduling.proofs.rows_for.Goals as goal
 
 pub overflow_cast-result : goal.overflow_cast-result

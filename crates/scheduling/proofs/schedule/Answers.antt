@@ -3,7 +3,6 @@ use Rattle.elimination.specs.Reel.{schedule_of}
 use Rattle.scheduling.proofs.Filling.{ordered, numbered, rows_small}
 use native.Mathlib.Omega.{arith}
 use lib.ListN.{length}
-use borrow.Author.Rules.{rules}
 use borrow.Author.Tests.{ltb-false}
 use Rattle.scheduling.proofs.schedule.Goals as goal
 

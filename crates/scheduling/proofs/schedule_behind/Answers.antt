@@ -3,7 +3,6 @@ use Prim.Native.Nat.{◌*◌, ◌-◌}
 use mathlib.Core.Path.{refl}
 use lib.ListN.{length, drop, length-drop}
 use native.Mathlib.Omega.{arith}
-use borrow.Author.Rules.{rules}
 use borrow.Author.Tests.{ltb-false}
 use Rattle.marks.specs.Marks.{mark_size}
 use Rattle.elimination.specs.Reel.{schedule_of}

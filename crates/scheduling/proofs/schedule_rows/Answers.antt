@@ -1,7 +1,6 @@
 -- `scheduling::schedule_rows` meets its contract: the records that go out are those of the settled rows. Assumes nothing.
 use native.Mathlib.Omega.{arith}
 use Rattle.scheduling.proofs.Sending.{numbered_like, published}
-use borrow.Author.Rules.{rules}
 use Rattle.scheduling.proofs.schedule_rows.Goals as goal
 
 pub settle_all-requires : goal.settle_all-requires

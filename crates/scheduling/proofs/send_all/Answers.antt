@@ -1,9 +1,7 @@
 -- `scheduling::send_all` meets its contract: each turn fills one slot more. Assumes nothing.
 use native.Mathlib.Omega.{arith}
-use borrow.Author.Rules.{rules}
-use Prim.Native.Nat.{◌≤◌, ◌-◌}
+use Prim.Native.Nat.{◌-◌}
 use mathlib.Core.Path.{◌≡◌}
-use Rattle.scheduling.specs.Sending.{Spread}
 use Rattle.scheduling.proofs.Sending.{spread_none, spread_more}
 use Rattle.scheduling.proofs.send_all.Goals as goal
 

@@ -1,10 +1,6 @@
 -- `scheduling::send_all` meets its contract: each turn fills one slot more. Assumes nothing.
-use native.Mathlib.Omega.{arith}
-use borrow.Author.Rules.{rules}
 use Prim.Native.Nat.{◌≤◌, ◌-◌}
-use mathlib.Core.Path.{◌≡◌}
 use Rattle.scheduling.specs.Sending.{Spread}
-use Rattle.scheduling.proofs.Sending.{spread_none, spread_more}
 use Rattle.scheduling.proofs.send_all.Given as goal
 
 abbrev pub invariant-loop-q : goal.invariant-loop-q

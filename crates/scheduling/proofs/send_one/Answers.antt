@@ -1,5 +1,4 @@
 -- `scheduling::send_one` meets its contract: the record goes to the slot of the number read. Assumes nothing.
-use borrow.Author.Rules.{rules}
 use Rattle.scheduling.proofs.send_one.Goals as goal
 
 pub returns : goal.returns

@@ -2,7 +2,6 @@
 use native.Mathlib.Omega.{arith}
 use Rattle.lists.proofs.StoreLaws.{kept_none}
 use Rattle.scheduling.proofs.Progress.{settles, search_for}
-use borrow.Author.Rules.{rules}
 use Rattle.scheduling.proofs.settle.Goals as goal
 
 pub best_of-found-requires : goal.best_of-found-requires

@@ -2,13 +2,9 @@
 use mathlib.Core.Path.{◌∙◌}
 use Rattle.scheduling.proofs.Progress.{same_kept, small_same, processed_like}
 use native.Mathlib.Omega.{arith}
-use Prim.Native.Nat.{◌≤◌, ◌-◌, ◌*◌}
-use borrow.Author.Rules.{rules}
-use Rattle.searching.specs.Rows.{row_size}
-use Rattle.searching.specs.Cells.{Gridded}
-use Rattle.scheduling.specs.Planning.{Planned}
+use Prim.Native.Nat.{◌-◌}
 use Rattle.scheduling.proofs.Cells.{gridded_none}
-use Rattle.scheduling.proofs.Progress.{Progress, start, ready, advance, finish}
+use Rattle.scheduling.proofs.Progress.{start, ready, advance, finish}
 use Rattle.scheduling.proofs.settle_by_cells.Goals as goal
 
 pub clear-requires : goal.clear-requires
@@ -30,13 +26,12 @@ settle_in_grid-requires c =
     )
 
 pub loop-p-preserved : goal.loop-p-preserved
-loop-p-preserved c =
-    (
-      omega (arith, c.loop-p-test.true),
-      advance c.loop-p-test.true c.loop-p.invariant.1 c.settle_in_grid.ensures.0,
-      c.settle_in_grid.ensures.1,
-      c.loop-p.invariant.3,
-    )
+loop-p-preserved c = (
+  omega (arith, c.loop-p-test.true),
+  advance c.loop-p-test.true c.loop-p.invariant.1 c.settle_in_grid.ensures.0,
+  c.settle_in_grid.ensures.1,
+  c.loop-p.invariant.3,
+)
 
 pub shape_of-w : goal.shape_of-w
 shape_of-w c =

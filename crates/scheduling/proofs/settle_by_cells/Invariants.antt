@@ -1,14 +1,9 @@
 -- `scheduling::settle_by_cells` meets its contract: each turn settles one mark more and puts its row into the grid. Assumes nothing.
-use mathlib.Core.Path.{◌∙◌}
-use Rattle.scheduling.proofs.Progress.{same_kept, small_same, processed_like}
-use native.Mathlib.Omega.{arith}
 use Prim.Native.Nat.{◌≤◌, ◌-◌, ◌*◌}
-use borrow.Author.Rules.{rules}
 use Rattle.searching.specs.Rows.{row_size}
 use Rattle.searching.specs.Cells.{Gridded}
 use Rattle.scheduling.specs.Planning.{Planned}
-use Rattle.scheduling.proofs.Cells.{gridded_none}
-use Rattle.scheduling.proofs.Progress.{Progress, start, ready, advance, finish}
+use Rattle.scheduling.proofs.Progress.{Progress}
 use Rattle.scheduling.proofs.settle_by_cells.Given as goal
 
 abbrev pub invariant-loop-p : goal.invariant-loop-p

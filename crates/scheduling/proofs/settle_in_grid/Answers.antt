@@ -8,7 +8,6 @@ use Rattle.scheduling.specs.Planning.{Entered}
 use Rattle.scheduling.proofs.Bytes.{put_kept}
 use Rattle.scheduling.proofs.Cells.{entered_kept, gridded_more}
 use Rattle.scheduling.proofs.Progress.{record_is, settles, search_for}
-use borrow.Author.Rules.{rules}
 use Rattle.scheduling.proofs.settle_in_grid.Goals as goal
 
 pub best_in_grid-found-requires : goal.best_in_grid-found-requires
@@ -16,14 +15,13 @@ best_in_grid-found-requires c =
     (search_for c.requires.0 c.row_label-label.ensures, c.requires.2, c.cell_of-c.ensures, omega (arith, c.requires.1.few), c.requires.4)
 
 pub enter-requires : goal.enter-requires
-enter-requires c =
-    (
-      omega (arith, c.requires.0.below, c.requires.0.few),
-      c.cell_of-c.ensures,
-      omega (arith, c.requires.0.below, c.requires.1.room, c.requires.3),
-      rw c.fraction_of.ensures c.best_in_grid-found.ensures.small,
-      c.requires.2.ready,
-    )
+enter-requires c = (
+  omega (arith, c.requires.0.below, c.requires.0.few),
+  c.cell_of-c.ensures,
+  omega (arith, c.requires.0.below, c.requires.1.room, c.requires.3),
+  rw c.fraction_of.ensures c.best_in_grid-found.ensures.small,
+  c.requires.2.ready,
+)
 
 pub returns : goal.returns
 returns c =

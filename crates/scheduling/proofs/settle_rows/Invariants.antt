@@ -1,8 +1,6 @@
 -- `scheduling::settle_rows` meets its contract: each turn settles one mark more, in the order of rank. Assumes nothing.
-use native.Mathlib.Omega.{arith}
 use Prim.Native.Nat.{◌≤◌, ◌-◌}
-use borrow.Author.Rules.{rules}
-use Rattle.scheduling.proofs.Progress.{Progress, start, ready, advance, finish}
+use Rattle.scheduling.proofs.Progress.{Progress}
 use Rattle.scheduling.proofs.settle_rows.Given as goal
 
 abbrev pub invariant-loop-p : goal.invariant-loop-p

@@ -1,5 +1,4 @@
 -- `searching::best_in_grid` meets its contract: what goes before all rows above is what is found. Assumes nothing.
-use borrow.Author.Rules.{rules}
 use Rattle.searching.proofs.best_in_grid.Goals as goal
 
 pub found_of-requires : goal.found_of-requires

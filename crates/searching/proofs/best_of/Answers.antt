@@ -1,6 +1,5 @@
 -- `searching::best_of` meets its contract: what goes before all rows above is what is found. Assumes nothing.
 use native.Mathlib.Omega.{arith}
-use borrow.Author.Rules.{rules}
 use Rattle.searching.proofs.best_of.Goals as goal
 
 pub scan_rows-requires : goal.scan_rows-requires

@@ -1,5 +1,4 @@
 -- `searching::better` meets its contract: what is compared is the pair value. Assumes nothing.
-use borrow.Author.Rules.{rules}
 use Rattle.searching.proofs.better.Goals as goal
 
 pub pair_at-v-requires : goal.pair_at-v-requires

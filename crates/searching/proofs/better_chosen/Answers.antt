@@ -6,7 +6,6 @@ use mathlib.Core.Logic.{◌⊎◌, inl, inr}
 use Rattle.lists.proofs.TestLaws.{both_iff}
 use Rattle.fractions.proofs.Laws.{less_iff}
 use Rattle.searching.proofs.Steps.{not_less, keep_behind, keep_gone, take}
-use borrow.Author.Rules.{rules}
 use Rattle.searching.proofs.better_chosen.Goals as goal
 
 -- of two tests that do not both hold, one does not
@@ -34,15 +33,14 @@ returns-then-sooner-stands c =
     )
 
 pub returns : goal.returns
-returns c =
-    (
-      c.requires.2,
-      record {
-        adds = λ shape v-is.
-            elim (not_both c.precedes-sooner.result c.less_small-stands.result c.if-sooner-stands.false) [
-              | inl n ↦ keep_behind c.requires.1 v-is (rw (c.leader_value.ensures, c.requires.3) at (sym c.precedes-sooner.ensures ∙ n))
-              | inr n ↦ keep_gone c.requires.1 v-is (λ l. not_less (sym c.less_small-stands.ensures ∙ n) (rw c.row_value.ensures l))
-            ];
-      },
-      inr refl,
-    )
+returns c = (
+  c.requires.2,
+  record {
+    adds = λ shape v-is.
+        elim (not_both c.precedes-sooner.result c.less_small-stands.result c.if-sooner-stands.false) [
+          | inl n ↦ keep_behind c.requires.1 v-is (rw (c.leader_value.ensures, c.requires.3) at (sym c.precedes-sooner.ensures ∙ n))
+          | inr n ↦ keep_gone c.requires.1 v-is (λ l. not_less (sym c.less_small-stands.ensures ∙ n) (rw c.row_value.ensures l))
+        ];
+  },
+  inr refl,
+)

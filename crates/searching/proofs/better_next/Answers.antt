@@ -1,6 +1,5 @@
 -- `searching::better_next` meets its contract: the best so far ranks higher than row q, so no tie goes to that. Assumes nothing.
 use mathlib.Core.Path.{sym}
-use borrow.Author.Rules.{rules}
 use borrow.Author.Tests.{le-ltb}
 use Rattle.searching.proofs.better_next.Goals as goal
 

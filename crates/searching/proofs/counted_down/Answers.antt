@@ -1,7 +1,6 @@
 -- `searching::counted_down` meets its contract. Assumes nothing.
 use native.Mathlib.Omega.{arith}
 use borrow.Author.Tests.{le-leb, lt-leb}
-use borrow.Author.Rules.{rules}
 use Rattle.searching.proofs.counted_down.Goals as goal
 
 pub returns-then-i-start : goal.returns-then-i-start

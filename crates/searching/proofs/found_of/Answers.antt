@@ -2,7 +2,6 @@
 use mathlib.Core.Path.{refl}
 use native.Mathlib.Omega.{arith}
 use Rattle.searching.proofs.Steps.{searched_nobody, searched}
-use borrow.Author.Rules.{rules}
 use Rattle.searching.proofs.found_of.Goals as goal
 
 pub returns-then-best-eq0 : goal.returns-then-best-eq0

@@ -1,9 +1,8 @@
 -- `searching::is_least` meets its contract: the square of a popup is small. Assumes nothing.
 use Prim.Native.Nat.{◌≤◌}
-use mathlib.Core.Path.{◌≡◌, sym, ◌∙◌}
+use mathlib.Core.Path.{sym, ◌∙◌}
 use native.Mathlib.Omega.{arith}
 use native.Mathlib.Nat.{mul-le-mul}
-use borrow.Author.Rules.{rules}
 use Rattle.searching.specs.Search.{is_least}
 use Rattle.searching.proofs.is_least.Goals as goal
 use Rattle.searching.proofs.is_least.Goals.{After-row_popup-k}

@@ -2,7 +2,6 @@
 use mathlib.Core.Path.{sym, ap, ◌∙◌}
 use Rattle.fractions.specs.Order.{less}
 use Rattle.searching.specs.Cells.{may_lead}
-use borrow.Author.Rules.{rules}
 use Rattle.searching.proofs.may_lead.Goals as goal
 
 pub less_small-requires : goal.less_small-requires

@@ -1,7 +1,6 @@
 -- `searching::own_first` meets its contract. Assumes nothing.
 use native.Mathlib.Omega.{arith}
 use borrow.Author.Tests.{lt-ltb, le-ltb, eq-eqb, ne_eqb}
-use borrow.Author.Rules.{rules}
 use Rattle.searching.proofs.own_first.Goals as goal
 
 pub returns-then-i-eq0 : goal.returns-then-i-eq0

@@ -1,6 +1,5 @@
 -- `searching::row_label` meets its contract: the place and the radius that were read. Assumes nothing.
 use Rattle.marks.proofs.Laws.{place_passed}
-use borrow.Author.Rules.{rules}
 use Rattle.searching.proofs.row_label.Goals as goal
 
 pub returns : goal.returns

@@ -1,7 +1,6 @@
 -- `searching::row_value` meets its contract: the two numbers of the row's record. Assumes nothing.
 use mathlib.Core.Path.{ap, ◌∙◌}
 use Rattle.elimination.specs.Records.{fraction_of}
-use borrow.Author.Rules.{rules}
 use Rattle.searching.proofs.row_value.Goals as goal
 
 pub returns : goal.returns

@@ -1,10 +1,7 @@
 -- `searching::scan_cell` meets its contract: each turn takes in one row more of the cell, from the last one down. Assumes nothing.
 use native.Mathlib.Omega.{arith}
-use Prim.Native.Nat.{◌≤◌, ◌-◌}
+use Prim.Native.Nat.{◌-◌}
 use mathlib.Core.Path.{refl}
-use borrow.Author.Rules.{rules}
-use Rattle.searching.specs.Search.{Admitted}
-use Rattle.searching.specs.Cells.{Walked}
 use Rattle.searching.proofs.Cells.{walk_start, walk_next, walk_end}
 use Rattle.searching.proofs.scan_cell.Goals as goal
 

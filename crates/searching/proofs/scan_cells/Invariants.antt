@@ -1,12 +1,7 @@
 -- `searching::scan_cells` meets its contract: each turn takes in one cell more, and in 16 turns all of the group. Assumes nothing.
 use Prim.Native.Nat.{◌≤◌, ◌-◌}
-use mathlib.Core.Path.{◌≡◌}
-use native.Mathlib.Omega.{arith}
-use borrow.Author.Rules.{rules}
 use Rattle.searching.specs.Search.{Admitted}
 use Rattle.searching.specs.Cells.{CellAdded, FirstCells}
-use Rattle.searching.proofs.Zero.{at_zero}
-use Rattle.searching.proofs.Cells.{counted_low, cells_none, cells_more, cells_all}
 use Rattle.searching.proofs.scan_cells.Given as goal
 
 abbrev pub invariant-loop-i : goal.invariant-loop-i

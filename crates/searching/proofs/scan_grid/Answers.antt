@@ -1,10 +1,8 @@
 -- `searching::scan_grid` meets its contract: each turn takes in one group more, and every row is in some group or stands for nobody. Assumes nothing.
-use Prim.Native.Nat.{◌-◌, ◌/◌, ◌%◌, ◌<◌, ◌≤◌}
+use Prim.Native.Nat.{◌-◌, ◌/◌}
 use mathlib.Core.Path.{◌≡◌}
 use native.Mathlib.Omega.{arith}
-use borrow.Author.Rules.{rules}
-use Rattle.searching.specs.Search.{none, Admitted}
-use Rattle.searching.specs.Cells.{CellAdded, FirstGroups}
+use Rattle.searching.specs.Search.{none}
 use Rattle.searching.proofs.Zero.{at_zero}
 use Rattle.searching.proofs.Cells.{groups_none, groups_more, all_groups}
 use Rattle.searching.proofs.scan_grid.Goals as goal
@@ -32,14 +30,13 @@ returns-then-best-eq0 c =
     (c.scan_group-best.ensures.0, all_groups (c.args.own / 16) c.loop-i.invariant.1 c.requires.1 (at_zero c.requires.4 c.if-best-eq0.true more))
 
 pub loop-i-preserved : goal.loop-i-preserved
-loop-i-preserved c =
-    (
-      omega (arith, c.loop-i-test.true),
-      c.loop-i.invariant.1,
-      c.loop-i.invariant.2,
-      c.scan_group-best.ensures.0,
-      groups_more (c.args.own / 16) c.loop-i.i c.loop-i.invariant.4 (rw c.own_first-g.ensures.0 at c.scan_group-best.ensures.1),
-    )
+loop-i-preserved c = (
+  omega (arith, c.loop-i-test.true),
+  c.loop-i.invariant.1,
+  c.loop-i.invariant.2,
+  c.scan_group-best.ensures.0,
+  groups_more (c.args.own / 16) c.loop-i.i c.loop-i.invariant.4 (rw c.own_first-g.ensures.0 at c.scan_group-best.ensures.1),
+)
 
 pub returns : goal.returns
 returns c =

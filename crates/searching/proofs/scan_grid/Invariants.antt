@@ -1,12 +1,7 @@
 -- `searching::scan_grid` meets its contract: each turn takes in one group more, and every row is in some group or stands for nobody. Assumes nothing.
-use Prim.Native.Nat.{◌-◌, ◌/◌, ◌%◌, ◌<◌, ◌≤◌}
-use mathlib.Core.Path.{◌≡◌}
-use native.Mathlib.Omega.{arith}
-use borrow.Author.Rules.{rules}
+use Prim.Native.Nat.{◌-◌, ◌<◌, ◌≤◌}
 use Rattle.searching.specs.Search.{none, Admitted}
 use Rattle.searching.specs.Cells.{CellAdded, FirstGroups}
-use Rattle.searching.proofs.Zero.{at_zero}
-use Rattle.searching.proofs.Cells.{groups_none, groups_more, all_groups}
 use Rattle.searching.proofs.scan_grid.Given as goal
 
 abbrev pub invariant-loop-i : goal.invariant-loop-i

@@ -2,7 +2,6 @@
 use Prim.Native.Nat.{◌+◌, ◌<◌}
 use mathlib.Core.Path.{sym, ◌∙◌}
 use native.Mathlib.Omega.{arith}
-use borrow.Author.Rules.{rules}
 use Rattle.grid.specs.Table.{cell_count, region_count}
 use Rattle.searching.proofs.Cells.{skip_group}
 use Rattle.searching.proofs.scan_group.Goals as goal

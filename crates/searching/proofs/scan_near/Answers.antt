@@ -4,7 +4,6 @@ use mathlib.Core.Path.{sym, ◌∙◌}
 use native.Mathlib.Omega.{arith}
 use Rattle.grid.specs.Table.{region_count}
 use Rattle.searching.proofs.Cells.{skip_cell}
-use borrow.Author.Rules.{rules}
 use Rattle.searching.proofs.scan_near.Goals as goal
 
 pub may_lead-requires : goal.may_lead-requires

@@ -1,12 +1,11 @@
 -- `searching::scan_rows` meets its contract: each turn takes in two rows more, and a last one may be left; where a value is the least there can be, the rest changes nothing. Assumes nothing.
-use Prim.Native.Nat.{ℕ, ◌+◌, ◌-◌, ◌≤◌}
+use Prim.Native.Nat.{ℕ, ◌+◌, ◌-◌}
 use mathlib.Core.Path.{◌≡◌}
 use mathlib.Core.List.{List}
 use mathlib.Core.Logic.{inl, inr}
 use native.Mathlib.Omega.{arith}
-use borrow.Author.Rules.{rules}
 use Rattle.searching.specs.declared.Leader.{Leader}
-use Rattle.searching.specs.Search.{none, Admitted, Adds, Only, Higher, OneOf, BestOfFirst}
+use Rattle.searching.specs.Search.{none, Admitted, Adds, Only, OneOf, BestOfFirst}
 use Rattle.searching.proofs.Steps.{higher_none, higher_more, least_all}
 use Rattle.searching.proofs.scan_rows.Goals as goal
 use Rattle.searching.proofs.scan_rows.Goals.{After-better_next-best-in-loop-q}

@@ -1,13 +1,11 @@
 -- `searching::scan_rows` meets its contract: each turn takes in two rows more, and a last one may be left; where a value is the least there can be, the rest changes nothing. Assumes nothing.
 use Prim.Native.Nat.{ℕ, ◌+◌, ◌-◌, ◌≤◌}
-use mathlib.Core.Path.{◌≡◌}
 use mathlib.Core.List.{List}
 use mathlib.Core.Logic.{inl, inr}
 use native.Mathlib.Omega.{arith}
-use borrow.Author.Rules.{rules}
 use Rattle.searching.specs.declared.Leader.{Leader}
-use Rattle.searching.specs.Search.{none, Admitted, Adds, Only, Higher, OneOf, BestOfFirst}
-use Rattle.searching.proofs.Steps.{higher_none, higher_more, least_all}
+use Rattle.searching.specs.Search.{Admitted, Adds, Only, OneOf, BestOfFirst}
+use Rattle.searching.proofs.Steps.{higher_more}
 use Rattle.searching.proofs.scan_rows.Given as goal
 
 one_more : {shape : ℕ} {w : List ℕ} {p q : ℕ} {c d : Leader} → BestOfFirst shape w p q c → Admitted p d × Adds shape w p (Only q) c d × OneOf q c d

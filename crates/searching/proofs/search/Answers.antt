@@ -1,6 +1,5 @@
 -- `searching::search` meets its contract: a value that no pair value is below is the best of all in the order of rank. Assumes nothing.
 use native.Mathlib.Omega.{arith}
-use borrow.Author.Rules.{rules}
 use Rattle.searching.proofs.Steps.{least_all}
 use Rattle.searching.proofs.search.Goals as goal
 

@@ -1,5 +1,4 @@
 -- `searching::touching_row` meets its contract: `touching_of` is handed the row's label. Assumes nothing.
-use borrow.Author.Rules.{rules}
 use Rattle.searching.proofs.touching_row.Goals as goal
 
 pub touching_of-requires : goal.touching_of-requires

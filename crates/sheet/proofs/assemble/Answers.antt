@@ -11,7 +11,6 @@ use Rattle.contents.proofs.Laws.{codes_some, codes_few, together_codes}
 use Rattle.bodies.proofs.Laws.{fitting_iff, fitting_writable}
 use Rattle.sheet.proofs.Lemmas.Assembling.{refused_bodies, no_room, written}
 use native.Mathlib.Omega.{arith}
-use borrow.Author.Rules.{rules}
 use Rattle.sheet.proofs.assemble.Goals as goal
 use Rattle.sheet.proofs.assemble.Goals.{Else-number-ne0}
 

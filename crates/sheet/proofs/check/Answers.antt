@@ -13,7 +13,6 @@ use Rattle.bodies.specs.Questions.{body_questions}
 use Rattle.sheet.proofs.Lemmas.Accepting.{check_refused, check_laid}
 use Rattle.sheet.proofs.Lemmas.Whole.{first_of, parts_read}
 use native.Mathlib.Omega.{arith}
-use borrow.Author.Rules.{rules}
 use Rattle.sheet.proofs.check.Goals as goal
 use Rattle.sheet.proofs.check.Goals.{After-body-7, Else-number-ne0}
 

@@ -1,7 +1,6 @@
 -- `sheet::indexed` meets its contract: what `opened` refuses stays refused, and of an accepted sheet 10 is asked. Assumes nothing.
 use mathlib.Core.Path.{sym, ap₂, ◌∙◌}
 use mathlib.Core.Bool.{◌&&◌}
-use borrow.Author.Rules.{rules}
 use Rattle.sheet.proofs.Lemmas.Opened.{indexed_refused, indexed_there, indexed_missing}
 use Rattle.sheet.proofs.indexed.Goals as goal
 

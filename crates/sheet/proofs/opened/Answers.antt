@@ -1,10 +1,8 @@
 -- `sheet::opened` meets its contract: an accepted sheet has its contents' layout, a refused one no parts. Assumes nothing.
 use mathlib.Core.Path.{sym, ◌∙◌}
 use borrow.Author.Tests.{eq-eqb, ne_eqb}
-use Rattle.sheet.specs.Questions.{check}
 use Rattle.sheet.specs.Opened.{opened}
 use Rattle.sheet.proofs.Lemmas.Accepting.{accepted_iff}
-use borrow.Author.Rules.{rules}
 use Rattle.sheet.proofs.opened.Goals as goal
 
 pub returns-then-number-ne0 : goal.returns-then-number-ne0

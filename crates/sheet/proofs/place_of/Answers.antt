@@ -1,5 +1,4 @@
 -- `sheet::place_of` meets its contract: the part's place in the layout. Assumes nothing.
-use borrow.Author.Rules.{rules}
 use Rattle.sheet.proofs.place_of.Goals as goal
 
 pub returns : goal.returns

@@ -1,9 +1,7 @@
 -- `text::put_decimal`: the digits of a tenth of v, and the last digit behind them. The measure is v. Assumes nothing.
-use Prim.Native.Nat.{ℕ, ◌<◌}
 use mathlib.Core.Path.{ap}
 use native.Mathlib.Omega.{arith}
 use lib.ListN.{length}
-use borrow.Author.Rules.{rules}
 use Rattle.text.proofs.Laws.{decimal_one, decimal_more, decimal_longer, wrote_byte, wrote_then, wrote_length}
 use Rattle.text.proofs.+put_decimal.Goals as goal
 

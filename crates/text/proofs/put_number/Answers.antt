@@ -1,7 +1,6 @@
 -- `text::put_number`: the digits, and a byte behind them. Assumes nothing.
 use native.Mathlib.Omega.{arith}
 use Rattle.text.proofs.Laws.{decimal_bound, wrote_byte, wrote_then, wrote_length}
-use borrow.Author.Rules.{rules}
 use Rattle.text.proofs.put_number.Goals as goal
 
 pub put_decimal-last-requires : goal.put_decimal-last-requires

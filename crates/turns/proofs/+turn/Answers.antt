@@ -1,5 +1,5 @@
 -- `turns::turn` meets its contract: one quarter turn after those of the call with one less. The measure is their number. Assumes nothing.
-use Prim.Native.Nat.{ℕ, suc, ◌-◌, ◌<◌}
+use Prim.Native.Nat.{suc, ◌-◌}
 use mathlib.Core.Path.{◌≡◌, ap, ◌∙◌, subst⁻¹}
 use native.Mathlib.Omega.{arith}
 use Rattle.turns.specs.Turns.{unit, quarter, times, turn}

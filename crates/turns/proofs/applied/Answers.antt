@@ -1,7 +1,6 @@
 -- `turns::applied` meets its contract: the place is read back. Assumes nothing.
 use mathlib.Core.Path.{ap₂}
 use mathlib.Core.List.{[]}
-use borrow.Author.Rules.{rules}
 use lib.ListN.{get_or}
 use Rattle.turns.specs.Turns.{applied}
 use Rattle.turns.proofs.Lemmas.Quarters.{placed}

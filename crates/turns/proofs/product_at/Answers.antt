@@ -1,6 +1,5 @@
 -- `turns::product_at` meets its contract: the entries of small grids are read back. Assumes nothing.
 use mathlib.Core.List.{[]}
-use borrow.Author.Rules.{rules}
 use lib.ListN.{get_or}
 use Rattle.turns.specs.Turns.{product_at}
 use Rattle.turns.proofs.Signed.{back_small, as_place, row_told}

@@ -1,5 +1,4 @@
 -- `turns::row_by_column` meets its contract: within the bounds neither product nor sum leaves 32 bits. Assumes nothing.
-use borrow.Author.Rules.{rules}
 use Rattle.turns.proofs.Signed.{product_fits, sum_fits, sum_back}
 use Rattle.turns.proofs.row_by_column.Goals as goal
 

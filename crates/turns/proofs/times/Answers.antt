@@ -1,5 +1,4 @@
 -- `turns::times` meets its contract: its entries are what `product_at` gives. Assumes nothing.
-use borrow.Author.Rules.{rules}
 use Rattle.turns.specs.Turns.{times}
 use Rattle.turns.proofs.Signed.{passed}
 use Rattle.turns.proofs.times.Goals as goal

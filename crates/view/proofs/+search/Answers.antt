@@ -1,12 +1,8 @@
 -- `view::search` meets its contract: the bits of a block are those of its root and of its halves, as Lemmas/Search says. The measure is the size.
 -- Assumes nothing.
-use Prim.Native.Nat.{ℕ, ◌<◌}
 use native.Mathlib.Omega.{arith}
 use mathlib.Core.Path.{sym, ◌∙◌}
 use mathlib.Core.Bool.{true, false}
-use mathlib.Core.Logic.{◌≢◌}
-use borrow.Author.Rules.{rules}
-use borrow.Author.Tests.{not-true, not-false}
 use Rattle.view.proofs.Lemmas.Reaching.{living_shown}
 use Rattle.view.proofs.Lemmas.Bits.{set_nothing, set_same}
 use Rattle.view.proofs.Lemmas.Search.{root_fits, root_popup, all_marked, block_none, half_call, block_set}

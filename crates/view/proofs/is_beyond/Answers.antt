@@ -1,5 +1,4 @@
 -- `view::is_beyond` meets its contract, for either half. Assumes nothing.
-use borrow.Author.Rules.{rules}
 use Rattle.view.specs.Search.{is_beyond}
 use Rattle.view.proofs.is_beyond.Goals as goal
 

@@ -1,8 +1,4 @@
 -- `view::moved` meets its contract: down and up, and at most to 0. Assumes nothing.
-use Rattle.std.proofs.Common.{sym}
-use mathlib.Core.Path.{◌∙◌}
-use borrow.Author.Rules.{rules}
-use borrow.Author.Tests.{not-true, not-false}
 use Rattle.view.specs.Search.{moved}
 use Rattle.view.proofs.moved.Goals as goal
 

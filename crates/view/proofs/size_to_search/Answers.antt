@@ -1,6 +1,5 @@
 -- `view::size_to_search` meets its contract: each answer has the tests of the definition decided. Assumes nothing.
 use native.Mathlib.Omega.{arith}
-use borrow.Author.Rules.{rules}
 use borrow.Author.Tests.{eq-eqb, ne_eqb}
 use Rattle.view.specs.Search.{size_to_search}
 use Rattle.view.proofs.size_to_search.Goals as goal

@@ -1,7 +1,6 @@
 -- `view::visit` meets its contract: one bit is set, or none. Assumes nothing.
 use mathlib.Core.Path.{sym, ◌∙◌}
 use native.Mathlib.Omega.{arith}
-use borrow.Author.Rules.{rules}
 use Rattle.lists.proofs.TestLaws.{bit_false}
 use Rattle.view.proofs.Lemmas.Bits.{set_nothing, set_none, set_one}
 use Rattle.view.proofs.visit.Goals as goal

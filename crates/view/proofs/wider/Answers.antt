@@ -1,5 +1,4 @@
 -- `view::wider` meets its contract: each answer has the tests of the definition decided. Assumes nothing.
-use borrow.Author.Rules.{rules}
 use borrow.Author.Tests.{le-leb, lt-leb}
 use Rattle.view.specs.Search.{wider}
 use Rattle.view.proofs.wider.Goals as goal

@@ -1,8 +1,6 @@
 -- `view::widest_living` meets its contract: the loop has the greatest radius of the marks passed. Assumes nothing.
 use Prim.Native.Nat.{◌-◌, ◌≤◌}
-use native.Mathlib.Numerals.{add-one}
-use native.Mathlib.Omega.{arith}
-use mathlib.Core.Path.{◌≡◌, refl}
+use mathlib.Core.Path.{◌≡◌}
 use Rattle.view.specs.Search.{widest_living}
 use Rattle.view.proofs.widest_living.Given as goal
 

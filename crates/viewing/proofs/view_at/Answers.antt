@@ -23,7 +23,7 @@ show-requires c =
     let marks_are = is s 1 c.part-marks.ensures in
     record {
       viewable = rw (marks_are, is s 2 c.part-schedule.ensures, is s 3 c.part-index.ensures, is s 5 c.part-popups.ensures)
-      (viewable c.args.sheet.now _ c.requires.sheet_value.0 c.requires.sheet_value.2 (rw marks_are at c.if-map-n.false), c.requires.sheet_value.3);
+          (viewable c.args.sheet.now _ c.requires.sheet_value.0 c.requires.sheet_value.2 (rw marks_are at c.if-map-n.false), c.requires.sheet_value.3);
       window_value = (c.requires.shape_value.1, c.requires.shape_value.2);
     }
 

@@ -6,7 +6,7 @@ use native.Mathlib.Omega.{arith}
 use Rattle.std.proofs.Math.Decide.{dec_lt, ℕ_discrete}
 use borrow.Author.Tests.{eqb-true, eq-eqb}
 use Rattle.fractions.specs.declared.Fraction.{Fraction}
-use Rattle.zoom.specs.Printed.{root, Nearest, nearest_from, nearest, AtMostZoom, AtLeastZoom, WithinHalf, NoneNearer}
+use Rattle.zoom.specs.Printed.{root, Nearest, nearest_from, nearest, WithinHalf, NoneNearer}
 use Rattle.zoom.proofs.Lemmas.Roots.{root_narrow, IsRoot, root_is}
 
 -- ---- squares

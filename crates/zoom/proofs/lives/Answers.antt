@@ -1,5 +1,5 @@
 -- `zoom::lives` meets its contract: the square of 32 bits fits 64. Assumes nothing.
-use Rattle.std.proofs.Common.{◌≤◌, mul-le-mul, arith, rules}
+use Rattle.std.proofs.Common.{◌≤◌, mul-le-mul, arith}
 use Rattle.zoom.specs.Living.{lives_at}
 use Rattle.zoom.proofs.lives.Goals as goal
 

@@ -1,7 +1,6 @@
 -- `zoom::root_of`: after each turn r is the root of the bits of v passed so far. Assumes nothing.
-use Rattle.std.proofs.Common.{◌≡◌, ◌-◌, ◌*◌, ◌/◌, ◌^◌, ◌≤◌, ◌∙◌, arith}
+use Rattle.std.proofs.Common.{◌≡◌, ◌-◌, ◌*◌, ◌/◌, ◌^◌, ◌≤◌}
 use Rattle.zoom.specs.Printed.{root}
-use Rattle.zoom.proofs.Lemmas.Roots.{root_none, root_half, root_turn, root_all}
 use Rattle.zoom.proofs.root_of.Given as goal
 
 abbrev pub invariant-loop-left : goal.invariant-loop-left

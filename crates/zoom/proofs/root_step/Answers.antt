@@ -1,5 +1,5 @@
 -- `zoom::root_step`: the definition's own test; the square of a number below 2³² fits. Assumes nothing.
-use Rattle.std.proofs.Common.{◌+◌, ◌*◌, ◌≤◌, mul-le-mul, arith, rules, le-leb}
+use Rattle.std.proofs.Common.{◌+◌, ◌*◌, ◌≤◌, mul-le-mul, arith, le-leb}
 use borrow.Author.Tests.{lt-leb}
 use Rattle.zoom.specs.Printed.{root_step}
 use Rattle.zoom.proofs.root_step.Goals as goal

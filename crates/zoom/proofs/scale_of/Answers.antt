@@ -1,5 +1,5 @@
 -- `zoom::scale_of`: by the zoom's two cases; a stop up to 16 shifts without loss. Assumes nothing.
-use Rattle.std.proofs.Common.{sym, ap, ◌∙◌, rules}
+use Rattle.std.proofs.Common.{sym, ap, ◌∙◌}
 use Rattle.zoom.specs.Zoom.{scale_of}
 use Rattle.zoom.proofs.Laws.{stop_refused}
 use Rattle.zoom.proofs.Lemmas.Wheels.{stop_shifted}

@@ -1,8 +1,7 @@
 -- `zoom::zoom_nearest`: the root is of 128ths, so its square times the denominator is at most 16384 times the numerator, and fits; the two
 -- ways of rounding are the definition's. Assumes nothing.
-use Rattle.std.proofs.Common.{sym, inl, inr, mul-le-mul, arith, rules, eqb-true}
-use borrow.Author.Tests.{eqb-false}
-use Rattle.zoom.specs.Printed.{nearest, nearest_from}
+use Rattle.std.proofs.Common.{sym, mul-le-mul, arith}
+use Rattle.zoom.specs.Printed.{nearest}
 use Rattle.zoom.proofs.Lemmas.Roots.{root_narrow}
 use Rattle.zoom.proofs.Lemmas.Rounding.{from_half, from_up, root_fits}
 use Rattle.zoom.proofs.zoom_nearest.Goals as goal
