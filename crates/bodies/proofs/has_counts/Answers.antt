@@ -38,7 +38,7 @@ is_counts-requires c =
         omega (arith, ap length c.find-2.ensures, good.marks.there),
         omega (arith, ap length c.find-3.ensures, long, good.counted),
       );
-      fact = rw (c.find-4.ensures, good.counted) (popups_enough popped);
+      popups_there = rw (c.find-4.ensures, good.counted) (popups_enough popped);
     }
 
 pub returns : goal.returns

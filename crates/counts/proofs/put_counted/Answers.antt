@@ -58,7 +58,7 @@ counts_of-counts-requires c =
     let k = (goal.at.counts_of-counts-requires c).Start in
     let ready =
     count_ready c.args.sheet.now c.requires.sheet_value.0 c.requires.parts_there.0 (part_is k 1 c.part-marks.ensures) (part_is k 2 c.part-schedule.ensures) (part_is k 5 c.part-popups.ensures) in
-    record { n_bound = ready.0; fact = ready.1 }
+    record { n_bound = ready.0; popups_there = ready.1 }
 
 -- ---- the contents
 

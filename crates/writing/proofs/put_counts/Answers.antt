@@ -31,7 +31,7 @@ counts_of-counts-requires c =
     let n = b.args.n in
     let first = slice_long b.args.out.now start (11 * n) (omega (arith, b.requires.1, b.requires.2, b.requires.3)) in
     let second = slice_long b.args.out.now (start + 11 * n) (14 * n) (omega (arith, b.requires.1, b.requires.2, b.requires.3)) in
-    record { n_bound = (b.requires.0, omega (arith, first), omega (arith, second)); fact = popups_enough b.requires.4 }
+    record { n_bound = (b.requires.0, omega (arith, first), omega (arith, second)); popups_there = popups_enough b.requires.4 }
 
 pub put-requires : goal.put-requires
 put-requires c =
