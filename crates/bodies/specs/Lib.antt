@@ -1,3 +1,4 @@
 -- The questions of the bodies; then what follows from them.
+-- Laws, lemmas and theorems stand in proofs/.
 pub mod Questions
 pub mod Fitting

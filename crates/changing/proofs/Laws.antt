@@ -11,7 +11,7 @@ use Rattle.marks.specs.declared.Mark.{Mark}
 use Rattle.marks.specs.Marks.{mark_size, kind_at, radius_at, is_radius, mark_bytes}
 use Rattle.marks.specs.Good.{GoodMark, GoodMarks}
 use Rattle.marks.specs.Pairs.{popup_size, popup_at}
-use Rattle.marks.proofs.Fields.{FieldsFit, HasFields}
+use Rattle.marks.specs.Fields.{FieldsFit, HasFields}
 use Rattle.marks.proofs.Laws.{used_bound}
 use Rattle.marks.proofs.FieldLaws.{mark_length, mark_bytes_lem, mark_reads}
 use Rattle.rows.specs.Rows.{row_at, without}
@@ -90,6 +90,7 @@ module _ (s : List ℕ) (n : ℕ) (long : length s ≡ mark_size * n) where
     taken_above = without_above 11 s n long m low
 
     pub taken_good : GoodMarks s n → GoodMarks (taken_out s m) (n - 1)
+    unfolding taken_out
     taken_good good =
         record {
           few = omega (arith, good.few);
@@ -97,7 +98,7 @@ module _ (s : List ℕ) (n : ℕ) (long : length s ≡ mark_size * n) where
           each = λ i h.
               elim (dec_lt i m) [
                 | yes l ↦ same_good (taken_out s m) s i i (taken_below i l) (good.each i (omega arith))
-                | no l ↦ same_good (taken_out s m) s i (suc i) (taken_above i (omega arith)) (good.each (suc i) (omega arith))
+                | no l ↦ same_good (taken_out s m) s i (suc i) (without_above 11 s n long m low i (omega arith)) (good.each (suc i) (omega arith))
               ];
         }
 

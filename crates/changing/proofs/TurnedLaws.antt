@@ -9,7 +9,7 @@ use Rattle.numbers.proofs.Laws.{le_bound}
 use Rattle.marks.specs.Marks.{mark_size, used_at, mark_bytes, touching_of, touching, rank_radius, rank_key}
 use Rattle.marks.specs.Pairs.{pair_value}
 use Rattle.marks.specs.Good.{GoodMarks}
-use Rattle.marks.proofs.Fields.{FieldsFit, HasFields}
+use Rattle.marks.specs.Fields.{FieldsFit, HasFields}
 use Rattle.marks.proofs.FieldLaws.{mark_length, mark_bytes_lem, mark_reads}
 use Rattle.turns.proofs.Laws.{turned_distance}
 use Rattle.rows.specs.Rows.{rows}

@@ -115,7 +115,7 @@ pub fn clashes_standing(
 ) -> bool
     requires asked { Asked (record { marks = marks.now; count = n; edition = edition; shape = q.shape; popups = popups.now }) schedule.now × Subjected marks.now n schedule.now q × (g < n) }
     requires w_value { (w ≡ limit_at schedule.now g) × (less w q.value ≡ false) }
-    ensures { result ≡ clash (record { marks = marks.entry.now; count = n; edition = edition; shape = q.shape; popups = popups.now }) schedule.now q.m g }
+    ensures { result ≡ clash (record { marks = marks.now; count = n; edition = edition; shape = q.shape; popups = popups.now }) schedule.now q.m g }
 {
     if g == q.m {
         return false;
@@ -148,7 +148,7 @@ pub fn clashes(
     g: usize,
 ) -> bool
     requires { Asked (record { marks = marks.now; count = n; edition = edition; shape = q.shape; popups = popups.now }) schedule.now × Subjected marks.now n schedule.now q × (g < n) }
-    ensures { result ≡ clash (record { marks = marks.entry.now; count = n; edition = edition; shape = q.shape; popups = popups.now }) schedule.now q.m g }
+    ensures { result ≡ clash (record { marks = marks.now; count = n; edition = edition; shape = q.shape; popups = popups.now }) schedule.now q.m g }
 {
     let w = limit_at(schedule, g);
     let v = q.value;

@@ -1,4 +1,5 @@
 -- What a sheet is, how questions are put, and those of the contents; then what follows from them.
+-- Laws, lemmas and theorems stand in proofs/.
 pub mod Contents
 pub mod Asking
 pub mod Questions

@@ -8,7 +8,7 @@ use Rattle.fractions.proofs.Laws.{later_equal, equal_sym}
 use Rattle.elimination.specs.Marks.{Marks, Proper}
 use Rattle.elimination.specs.Rules.{FirstRule, SecondRule, AllSound, Keeps}
 use Rattle.elimination.specs.Process.{Removal, gone, when, next, process}
-use Rattle.elimination.proofs.Settled.{Settled}
+use Rattle.elimination.specs.Settled.{Settled}
 use Rattle.elimination.proofs.Lemmas.Unique as Unique
 use Rattle.elimination.proofs.Lemmas.Settled.{settled_unique, settled_keeps}
 use Rattle.elimination.proofs.Lemmas.Runs.{ended, process_settled}

@@ -1,13 +1,13 @@
 -- 02, request 6: "Part 4, one byte, names edition 1 or 2; without it edition 1 holds." Request 13: "Part 7, one byte, names 1 disk or 2 square;
 -- without it disks are meant." So a sheet without such a part and the same sheet with one that names 1 are scheduled, viewed and checked alike,
 -- but for that part's own bytes. Assumes nothing.
-use Rattle.std.specs.Prelude.{ℕ, ◌≡◌, Bool, true, false, List, [], ◌∷◌, ◌++◌, ◌⊎◌, eqb}
+use Rattle.std.specs.Prelude.{ℕ, ◌≡◌, Bool, true, false, List, [], ◌∷◌, ◌++◌, eqb}
 use Rattle.std.proofs.Math.Path.{refl, sym}
 use Rattle.std.proofs.Common.{ap, ◌∙◌, inl, inr, arith}
 use borrow.Author.Tests.{eqb-true}
 use Rattle.lists.proofs.TestLaws.{by_cases}
 use Rattle.numbers.specs.Little.{Bytes}
-use Rattle.contents.specs.Contents.{Part, find, has, with_part, split, marks_part, edition_part, popups_part, shape_part}
+use Rattle.contents.specs.Contents.{Part, find, has, split, marks_part, edition_part, popups_part, shape_part}
 use Rattle.contents.specs.Asking.{Question, answer}
 use Rattle.contents.proofs.Laws.{find_none, with_found, with_there, with_other_found, with_other_there, asked_no, append_yes, append_no}
 use Rattle.parts.specs.Questions.{choice_in, is_choice}
@@ -20,14 +20,7 @@ use Rattle.reaching.specs.Questions.{view_questions}
 use Rattle.jobs.specs.Jobs.{part_if, kept_parts, new_parts, scheduled, shown_in, view_job}
 use Rattle.jobs.proofs.Theorems.{scheduled_parts}
 use Rattle.jobs.proofs.Laws.Outcomes.{outcome_same}
-
--- the parts that name 1 or 2
-abbrev pub IsChoiceCode : ℕ → Type 0
-IsChoiceCode code = (code ≡ 4) ⊎ (code ≡ 7)
-
--- the same parts, and one that names 1 where its code belongs
-abbrev pub with_first : ℕ → List Part → List Part
-with_first code parts = with_part code (1 ∷ []) parts
+use Rattle.jobs.specs.Choices.{IsChoiceCode, with_first}
 
 -- ---- its parts
 

@@ -16,7 +16,7 @@ use Rattle.numbers.specs.Little.{le_bytes, Bytes}
 use Rattle.marks.specs.declared.Mark.{Mark}
 use Rattle.marks.specs.Marks.{mark_bytes}
 use Rattle.marks.specs.Good.{GoodMarks}
-use Rattle.marks.proofs.Fields.{FieldsFit}
+use Rattle.marks.specs.Fields.{FieldsFit}
 use Rattle.marks.specs.Pairs.{popup_size, popup_at}
 use Rattle.marks.proofs.PairLaws.{popup_none}
 use Rattle.contents.specs.Contents.{Part, has, split, marks_part, edition_part, popups_part, shape_part}

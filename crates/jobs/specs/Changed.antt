@@ -2,7 +2,7 @@
 -- contract of adding cites it.
 use Rattle.std.specs.Prelude.{ℕ, ◌≤◌, ◌≡◌, List, length, take}
 use Rattle.marks.specs.declared.Mark.{Mark}
-use Rattle.marks.proofs.Fields.{HasFields}
+use Rattle.marks.specs.Fields.{HasFields}
 use Rattle.marks.specs.Pairs.{popup_at}
 use Rattle.scheduling.specs.Filling.{work_size}
 use Rattle.contents.specs.Contents.{split, marks_part, popups_part}

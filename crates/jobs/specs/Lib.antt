@@ -4,6 +4,7 @@
 -- Turns is of request 8: the guarantee on turned marks. Judged is of request 10: what the judge accepts is scheduled here. Counted is of request
 -- 12: what is claimed of counts and of counting.
 -- Steps is what the code's own steps give, and Laws how it answers: for `rollmap`.
+-- Laws, lemmas and theorems stand in proofs/.
 pub mod Jobs
 pub mod Answers
 pub mod Parts
@@ -17,3 +18,4 @@ pub mod Stops
 pub mod Turns
 pub mod Judged
 pub mod Steps
+pub mod Choices

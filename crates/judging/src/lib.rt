@@ -36,7 +36,7 @@ fn search(
     axis: bool,
 ) -> bool
     requires { Searchable (record { marks = marks.now; count = n; edition = edition; shape = q.shape; popups = popups.now }) schedule.now index.now splits.now q lo size axis }
-    ensures { Searched (record { marks = marks.entry.now; count = n; edition = edition; shape = q.shape; popups = popups.now }) schedule.now index.now q lo size result }
+    ensures { Searched (record { marks = marks.now; count = n; edition = edition; shape = q.shape; popups = popups.now }) schedule.now index.now q lo size result }
 {
     if size == 0 {
         return true;
@@ -224,7 +224,7 @@ fn large_clear(
     k: usize,
 ) -> bool
     requires { Asked (record { marks = marks.now; count = n; edition = edition; shape = q.shape; popups = popups.now }) schedule.now × Subjected marks.now n schedule.now q × AllListed large.now k n }
-    ensures { LargeClear (record { marks = marks.entry.now; count = n; edition = edition; shape = q.shape; popups = popups.now }) schedule.now q.m large.now k result }
+    ensures { LargeClear (record { marks = marks.now; count = n; edition = edition; shape = q.shape; popups = popups.now }) schedule.now q.m large.now k result }
 {
     let mut i = 0;
     while i < k {
@@ -254,7 +254,7 @@ fn is_clear(
     m: usize,
 ) -> bool
     requires { Ready (record { marks = marks.now; count = n; edition = edition; shape = shape; popups = popups.now }) schedule.now index.now splits.now large.now k bound × (m < n) }
-    ensures { result ≡ is_clear (record { marks = marks.entry.now; count = n; edition = edition; shape = shape; popups = popups.now }) schedule.now m }
+    ensures { result ≡ is_clear (record { marks = marks.now; count = n; edition = edition; shape = shape; popups = popups.now }) schedule.now m }
 {
     let q = clashing::subject_of(marks, shape, popups, schedule, bound, m);
     if !large_clear(marks, edition, popups, schedule, n, q, large, k) {
@@ -280,7 +280,7 @@ fn all_clear(
     bound: u16,
 ) -> bool
     requires { Ready (record { marks = marks.now; count = n; edition = edition; shape = shape; popups = popups.now }) schedule.now index.now splits.now large.now k bound }
-    ensures { result ≡ all_clear (record { marks = marks.entry.now; count = n; edition = edition; shape = shape; popups = popups.now }) schedule.now }
+    ensures { result ≡ all_clear (record { marks = marks.now; count = n; edition = edition; shape = shape; popups = popups.now }) schedule.now }
 {
     let mut m = 0;
     while m < n {
@@ -307,7 +307,7 @@ fn judge_by(
     n: usize,
 ) -> bool
     requires { Tabled (record { marks = marks.now; count = n; edition = edition; shape = shape; popups = popups.now }) schedule.now index.now splits.now × (length large.old ≡ most_large) }
-    ensures { result ≡ all_clear (record { marks = marks.entry.now; count = n; edition = edition; shape = shape; popups = popups.now }) schedule.now }
+    ensures { result ≡ all_clear (record { marks = marks.now; count = n; edition = edition; shape = shape; popups = popups.now }) schedule.now }
 {
     let bound = pick_bound(marks, n, large);
     let k = list_large(marks, n, bound, large);
@@ -343,7 +343,7 @@ pub fn judge(
     n: usize,
 ) -> bool
     requires { Judgeable (record { marks = marks.now; count = n; edition = edition; shape = shape; popups = popups.now }) schedule.now index.now }
-    ensures { result ≡ judge_schedule (record { marks = marks.entry.now; count = n; edition = edition; shape = shape; popups = popups.now }) schedule.now }
+    ensures { result ≡ judge_schedule (record { marks = marks.now; count = n; edition = edition; shape = shape; popups = popups.now }) schedule.now }
 {
     let mut splits = [0u16; 4096];
     let mut large = [0u16; MOST_LARGE];

@@ -9,7 +9,7 @@ use Rattle.numbers.specs.Little.{le_at, le_bytes, signed, Bytes}
 use Rattle.numbers.proofs.Laws.{le_after, le_bytes_lem, bytes_append}
 use Rattle.marks.specs.declared.Mark.{Mark}
 use Rattle.marks.specs.Marks.{mark_size, place_bits, mark_bytes}
-use Rattle.marks.proofs.Fields.{FieldsFit, HasFields}
+use Rattle.marks.specs.Fields.{FieldsFit, HasFields}
 
 -- ---- places
 

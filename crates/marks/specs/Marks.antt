@@ -144,7 +144,7 @@ larger a b = cond (leb a b) b a
 
 -- "The squared distance" of two places that lie so far apart on the axes. 02, request 13: "Part 7, one byte, names 1 disk or 2 square", and
 -- "for squares the distance is the larger of the x and y differences". By any shape but 2 it is that of disks. It grows with each of the
--- two differences: `distance_Grows` of Laws.
+-- two differences: `distance_grows` of Laws.
 unfoldable pub distance : ℕ → ℕ → ℕ → ℕ
 distance shape dx dy = cond (eqb shape 2) (larger dx dy * larger dx dy) (dx * dx + dy * dy)
 

@@ -93,7 +93,7 @@ fn names_right(
     m: usize,
 ) -> bool
     requires { GoodMarks marks.now n × GoodPopups popups.now n × (m < n) }
-    ensures { result ≡ names_right (record { marks = marks.entry.now; count = n; edition = edition; shape = shape; popups = popups.now }) d m }
+    ensures { result ≡ names_right (record { marks = marks.now; count = n; edition = edition; shape = shape; popups = popups.now }) d m }
 {
     let by = d.eliminator as usize;
     if n <= by {
@@ -119,7 +119,7 @@ fn record_right(
     m: usize,
 ) -> bool
     requires { GoodMarks marks.now n × GoodPopups popups.now n × (record_size * n ≤ length schedule.now) × (m < n) }
-    ensures { result ≡ record_right (record { marks = marks.entry.now; count = n; edition = edition; shape = shape; popups = popups.now }) schedule.now m }
+    ensures { result ≡ record_right (record { marks = marks.now; count = n; edition = edition; shape = shape; popups = popups.now }) schedule.now m }
 {
     let d = elimination::record_at(schedule, RECORD_SIZE * m);
     if elimination::is_never(d) {
@@ -145,7 +145,7 @@ pub fn is_schedule(
     n: usize,
 ) -> bool
     requires { GoodMarks marks.now n × GoodPopups popups.now n × (record_size * n ≤ length schedule.now) }
-    ensures { result ≡ is_schedule (record { marks = marks.entry.now; count = n; edition = edition; shape = shape; popups = popups.now }) schedule.now }
+    ensures { result ≡ is_schedule (record { marks = marks.now; count = n; edition = edition; shape = shape; popups = popups.now }) schedule.now }
 {
     let mut m = 0;
     while m < n {

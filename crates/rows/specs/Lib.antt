@@ -1,2 +1,3 @@
 -- Read Rows first. Laws proves what follows from it.
+-- Laws, lemmas and theorems stand in proofs/.
 pub mod Rows

@@ -25,7 +25,7 @@ use Rattle.elimination.specs.declared.Record.{Record}
 use Rattle.elimination.specs.Marks.{Marks}
 use Rattle.elimination.specs.Process.{Removal, stays, put}
 use Rattle.elimination.specs.Records.{record_size, num_offset, den_offset, record_bytes, fraction_of}
-use Rattle.elimination.proofs.Settled.{SettledAt}
+use Rattle.elimination.specs.Settled.{SettledAt}
 use Rattle.elimination.proofs.Laws.{visited, all_settled}
 use Rattle.elimination.proofs.Theorems.{settled_process}
 use Rattle.searching.specs.Rows.{row_size, row_x_offset, row_y_offset, row_radius_offset, row_popup_offset, row_record_offset, row_number, row_label, row_popup, row_value, rows_touch, rows_pair, row_record, Stored, StoredAt}

@@ -4,7 +4,7 @@ use Rattle.lists.specs.Stores.{Clear}
 use Rattle.numbers.specs.Little.{le_at}
 use Rattle.elimination.specs.Marks.{Marks, Proper}
 use Rattle.elimination.specs.Process.{process}
-use Rattle.elimination.proofs.RankOrder.{Ranking}
+use Rattle.elimination.specs.RankOrder.{Ranking}
 use Rattle.searching.specs.Rows.{row_size, row_radius_offset, row_record_offset, row_number, row_label, row_popup, rows_pair, row_record, StoredAt, Complete}
 use Rattle.searching.specs.Scan.{Scanned}
 

@@ -469,7 +469,7 @@ pub fn schedule(
     n: usize,
 )
     requires { Schedulable marks.now popups.now work.old out.old n }
-    ensures { out.new ≡ schedule_of (record { marks = marks.entry.now; count = n; edition = edition; shape = shape; popups = popups.now }) ++ drop (record_size * n) out.old }
+    ensures { out.new ≡ schedule_of (record { marks = marks.now; count = n; edition = edition; shape = shape; popups = popups.now }) ++ drop (record_size * n) out.old }
 {
     put_ranked(marks, edition, popups, work, n);
     schedule_rows(work, out, n, shape, 0 < popups.len());

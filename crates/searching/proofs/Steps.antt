@@ -19,7 +19,7 @@ use Rattle.marks.proofs.PairLaws.{popup_grows, pair_popup}
 use Rattle.elimination.specs.declared.Record.{Record}
 use Rattle.elimination.specs.Marks.{Marks, Proper}
 use Rattle.elimination.specs.Process.{Removal, stays, gone, when}
-use Rattle.elimination.proofs.RankOrder.{Stands, Found}
+use Rattle.elimination.specs.RankOrder.{Stands, Found}
 use Rattle.elimination.specs.Records.{fraction_of}
 use Rattle.searching.specs.declared.Leader.{Leader}
 use Rattle.searching.specs.Rows.{row_number, row_popup, row_record, row_value, rows_touch, rows_pair, never, row_never, Stored}

@@ -4,7 +4,7 @@ use Rattle.fractions.specs.Order.{Small}
 use Rattle.elimination.specs.declared.Record.{Record}
 use Rattle.elimination.specs.Marks.{Marks, Proper}
 use Rattle.elimination.specs.Process.{Removal}
-use Rattle.elimination.proofs.RankOrder.{Found}
+use Rattle.elimination.specs.RankOrder.{Found}
 use Rattle.elimination.specs.Records.{fraction_of}
 use Rattle.searching.specs.Rows.{row_number, row_value, rows_pair, Stored, StoredAt}
 

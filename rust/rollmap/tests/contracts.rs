@@ -2,6 +2,7 @@
 //! and no exported one asks anything of its caller. The proofs hold what a contract
 //! says; this test sees that none is lost.
 
+use std::collections::BTreeMap;
 use std::fs;
 use std::path::{Path, PathBuf};
 
@@ -88,6 +89,24 @@ fn no_exported_function_asks_anything() {
         assert!(!asks, "{} of {file} has a requires", function.name);
         assert!(header.contains(&format!(" {}(", function.name)));
     }
+}
+
+/// The clauses of each public function of a crate, by its name.
+fn clauses(of: &str) -> BTreeMap<String, Vec<String>> {
+    let source = fs::read_to_string(crates().join(of).join("src/lib.rt")).unwrap();
+    let functions = public_functions(&source).into_iter().map(|it| {
+        let lines = it.head.lines().map(str::trim);
+        let clauses = lines.filter(|it| it.starts_with("ensures ") || it.starts_with("requires "));
+        (it.name.clone(), clauses.map(str::to_owned).collect())
+    });
+    functions.collect()
+}
+
+#[test]
+fn each_export_has_the_clauses_of_its_call() {
+    let exported = clauses("rollmap_c");
+    assert!(!exported.is_empty());
+    assert_eq!(exported, clauses("rollmap"));
 }
 
 #[test]

@@ -11,7 +11,7 @@ use mir.Val.{to_z, of_z}
 use Rattle.numbers.specs.Little.{le_bytes, Bytes}
 use Rattle.marks.specs.declared.Mark.{Mark}
 use Rattle.marks.specs.Marks.{mark_bytes}
-use Rattle.marks.proofs.Fields.{FieldsFit}
+use Rattle.marks.specs.Fields.{FieldsFit}
 use Rattle.changing.specs.Changing.{added, added_popup}
 use Rattle.contents.specs.Contents.{has, find, split, marks_part, edition_part, popups_part, shape_part}
 use Rattle.contents.specs.Asking.{answer}

@@ -12,7 +12,7 @@ use Rattle.fractions.proofs.Laws.{order, at_most_trans}
 use Rattle.elimination.specs.Marks.{Marks, Proper}
 use Rattle.elimination.proofs.Lemmas.Least.{least_from, least_below}
 use Rattle.elimination.specs.Process.{Removal, stays, gone, lives, Pair, ◌over◌, worth, least, before, pair, next}
-use Rattle.elimination.proofs.Settled.{Ahead}
+use Rattle.elimination.specs.Settled.{Ahead}
 
 lives_stays : (r : Removal) → lives r ≡ true → r ≡ stays
 lives_stays stays e = refl

@@ -6,8 +6,8 @@ use Rattle.fractions.specs.declared.Fraction.{Fraction}
 use Rattle.fractions.specs.Order.{Less, Same}
 use Rattle.elimination.specs.Marks.{Marks}
 use Rattle.elimination.specs.Process.{Removal, stays, gone, ◌over◌}
-use Rattle.elimination.proofs.Settled.{Ahead, Candidate, Best, SettledAt, Settled}
-use Rattle.elimination.proofs.RankOrder.{Ranking, Stands, Found}
+use Rattle.elimination.specs.Settled.{Ahead, Candidate, Best, SettledAt, Settled}
+use Rattle.elimination.specs.RankOrder.{Ranking, Stands, Found}
 use Rattle.elimination.proofs.Lemmas.Settled.{settled_like}
 
 module _ (M : Marks) where

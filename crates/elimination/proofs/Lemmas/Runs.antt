@@ -10,7 +10,7 @@ use Rattle.fractions.specs.declared.Fraction.{Fraction}
 use Rattle.fractions.specs.Order.{Less, AtMost, Later}
 use Rattle.elimination.specs.Marks.{Marks, Proper}
 use Rattle.elimination.specs.Process.{Removal, stays, gone, when, lives, Pair, ◌over◌, worth, put, remove, next, run, process}
-use Rattle.elimination.proofs.Settled.{Ahead, Candidate, Best, Settled}
+use Rattle.elimination.specs.Settled.{Ahead, Candidate, Best, Settled}
 use Rattle.elimination.proofs.Lemmas.Ahead.{ahead_less, Living, next_living, next_ahead, next_none}
 
 stays≢gone : (h : ℕ) (f : Fraction) → stays ≢ gone h f

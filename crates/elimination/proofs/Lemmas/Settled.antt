@@ -6,7 +6,7 @@ use Rattle.fractions.specs.Order.{Less, Later, Sound}
 use Rattle.elimination.specs.Marks.{Marks, Proper}
 use Rattle.elimination.specs.Rules.{FirstRule, Cause, SecondRule, Keeps}
 use Rattle.elimination.specs.Process.{Removal, stays, gone, when}
-use Rattle.elimination.proofs.Settled.{Candidate, SettledAt, Settled}
+use Rattle.elimination.specs.Settled.{Candidate, SettledAt, Settled}
 
 module _ (M : Marks) where
   open M use {count as n, key, value}

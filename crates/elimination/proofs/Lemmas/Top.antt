@@ -5,7 +5,7 @@ use Rattle.fractions.specs.declared.Fraction.{Fraction}
 use Rattle.fractions.specs.Order.{Later}
 use Rattle.elimination.specs.Marks.{Marks, Proper}
 use Rattle.elimination.specs.Process.{Removal, stays, gone, when}
-use Rattle.elimination.proofs.Settled.{Candidate, Best, Settled}
+use Rattle.elimination.specs.Settled.{Candidate, Best, Settled}
 use Rattle.elimination.specs.Alike.{among, Top, renumber}
 
 -- the removal value knows no numbers

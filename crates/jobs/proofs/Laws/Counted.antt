@@ -200,10 +200,10 @@ module _ (s : List ℕ) (bytes : Bytes s) (ok : check s ≡ 0) (two : has (split
         → headed ≡ sets before 0 (contents_of (codes_from index edition popups true shape) (sizes_from n index edition popups true shape))
         → end ≡ start + length body → copied ≡ sets headed start body → last ≡ end + length own → counted ≡ sets copied end own → left ≡ sets counted last tail
         → left ≡ sets before 0 (with_own_counts s)
-    counted_written before {body = body} is-n is_IsBody is-own is-tail is-headed is-end is-copied is_last is-counted is-left =
+    counted_written before {body = body} is-n is_body is-own is-tail is-headed is-end is-copied is_last is-counted is-left =
         let from : start - 10 ≡ contents_size (count_at s) = omega (arith, start_is) in
         let size : length s - length (shape_part parts) - contents_size (count_at s) ≡ length s - contents_size (count_at s) - length (shape_part parts) = omega arith in
-        let is : body ≡ chain (bodies_of before7) = is_IsBody ∙ rw (from, size) bodies_before in
+        let is : body ≡ chain (bodies_of before7) = is_body ∙ rw (from, size) bodies_before in
         rw (is-left, is-counted, is-copied, is-headed, is-own, is-tail, is-n, is-index, is-edition, is-popups, is-shape)
         (counted_stores before start starts is is-end (rw is-own at is_last))
 

@@ -9,7 +9,7 @@ use Rattle.fractions.proofs.Laws.{order}
 use Rattle.elimination.specs.Marks.{Marks, Proper}
 use Rattle.elimination.specs.Rules.{FirstRule}
 use Rattle.elimination.specs.Process.{Removal, stays, gone, when, process, ◌over◌}
-use Rattle.elimination.proofs.Settled.{Ahead, Candidate, Best, SettledAt}
+use Rattle.elimination.specs.Settled.{Ahead, Candidate, Best, SettledAt}
 use Rattle.elimination.proofs.Theorems.{process_keeps, process_eliminator, settled_process}
 use Rattle.judging.proofs.Lemmas.Judged.{Highest, AllHighest}
 

@@ -10,7 +10,7 @@ use Rattle.bodies.specs.Questions.{body_questions}
 use Rattle.bodies.specs.Fitting.{Fitting}
 use Rattle.bodies.proofs.Laws.{bodies_numbered, fitting_iff}
 use Rattle.sheet.specs.Questions.{check_questions, check, question10, indexed_questions, parts_questions}
-use Rattle.sheet.proofs.Accepted.{Accepted}
+use Rattle.sheet.specs.Accepted.{Accepted}
 
 pub check_numbered : (s : List ℕ) → Numbered (check_questions s)
 unfolding check_questions
