@@ -4,11 +4,10 @@
 ghost use Rattle.std.specs.Prelude.{◌≡◌, ◌&&◌, map, leb, length};
 ghost use Rattle.contents.specs.Questions.{is_count};
 ghost use Rattle.jobs.specs.Jobs.{assemble_job};
-ghost use Rattle.jobs.specs.Answers.{Gives};
+ghost use Rattle.jobs.specs.Answers.{Gives, answer_to};
 ghost use Rattle.jobs.specs.Parts.{Joins};
 
-use jobs::Answer;
-use sheet::Assembled;
+use contents::Refusal;
 
 // 1, of the parts that are put together: is their number one that is taken, and is there a body for each code?
 fn are_counted(codes: usize, bodies: usize) -> bool
@@ -20,22 +19,16 @@ fn are_counted(codes: usize, bodies: usize) -> bool
 // Puts the bodies under these codes together into a sheet at the start of `out`: questions 1 (of the number of parts), 2 of the codes, 4 to 9
 // with 19, 21, 23 and 24, and 13. Bodies behind those that the codes name are ignored. The sheet has these parts and is accepted; an accepted sheet's own
 // parts give that sheet.
-pub fn assemble<'a>(codes: &[u16], bodies: &'a [&'a [u8]], out: &mut [u8]) -> Answer
-    ensures gives { Gives (assemble_job codes.now (map (λ x. x.now) bodies.now) (length out.old)) out.old result out.new }
-    ensures joins { Joins codes.now (map (λ x. x.now) bodies.now) out.old result out.new }
+pub fn assemble<'a>(codes: &[u16], bodies: &'a [&'a [u8]], out: &mut [u8]) -> Result<u32, Refusal>
+    ensures gives { Gives (assemble_job codes.now (map (λ x. x.now) bodies.now) (length out.old)) out.old (answer_to result) out.new }
+    ensures joins { Joins codes.now (map (λ x. x.now) bodies.now) out.old (answer_to result) out.new }
 {
     let count = codes.len();
     if !are_counted(count, bodies.len()) {
-        return steps::refused(1);
+        return Err(Refusal::Contents);
     }
     if !contents::codes_right(codes) {
-        return steps::refused(2);
+        return Err(Refusal::Codes);
     }
-    match sheet::assemble(codes, &bodies[..count], out) {
-        Assembled::Refused(number) => steps::refused(number),
-        Assembled::Written(size) => Answer {
-            number: 0,
-            value: size,
-        },
-    }
+    sheet::assemble(codes, &bodies[..count], out)
 }

@@ -1,5 +1,5 @@
 -- What the other crates cite of maps, the count and the walk. Their proofs are in Lemmas.
-use Prim.Native.Nat.{ℕ, suc, ◌+◌, ◌-◌, ◌*◌, ◌/◌, ◌%◌, ◌≤◌, ◌<◌}
+use Prim.Native.Nat.{ℕ, suc, ◌-◌, ◌*◌, ◌/◌, ◌%◌, ◌≤◌, ◌<◌}
 use Rattle.std.specs.Prelude.{◌≡◌, refl, Bool, true, false, List, ◌++◌, eqb, length, get_or, drop}
 use native.Mathlib.Omega.{arith}
 use Rattle.lists.specs.Tests.{bit}

@@ -119,12 +119,17 @@ module _ (n from : ℕ) (small : n < 2 ^ 64) (inside : from < 64) where
         found = λ h. absurd (lt_irrefl 64 h);
       }
 
-  pub is_next : n / 2 ^ from ≢ 0 → NextBit n from (from + count_trailing_zeros 64 (n / 2 ^ from))
-  is_next nz =
+  pub next_inside : n / 2 ^ from ≢ 0 → from + count_trailing_zeros 64 (n / 2 ^ from) < 64
+  next_inside nz =
       let w = n / 2 ^ from in
       let e : 64 - from + from ≡ 64 = omega arith in
       let small-w : w < 2 ^ (64 - from) = shr_lt (64 - from) from (rw e small) in
-      let few = zeros_few 64 (64 - from) w small-w (omega arith) in
+      omega (arith, zeros_few 64 (64 - from) w small-w (omega arith))
+
+  pub is_next : n / 2 ^ from ≢ 0 → NextBit n from (from + count_trailing_zeros 64 (n / 2 ^ from))
+  is_next nz =
+      let w = n / 2 ^ from in
+      let few = next_inside nz in
       record {
         after = omega arith;
         within = omega arith;

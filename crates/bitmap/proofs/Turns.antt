@@ -1,35 +1,17 @@
--- What the loops of `clear`, `count` and `walk` keep, where they begin, over one turn and where they end. Assumes nothing.
+-- What the loops of `count` and `walk` keep, where they begin, over one turn and where they end. Assumes nothing.
 use Prim.Native.Nat.{ℕ, ◌+◌, ◌-◌, ◌*◌, ◌/◌, ◌%◌, ◌≤◌, ◌<◌}
 use mathlib.Core.Path.{◌≡◌, refl, sym, ap, ◌∙◌}
 use mathlib.Core.List.{List}
 use mathlib.Core.Logic.{dite}
-use native.Mathlib.Decide.{dec_lt, ℕ_discrete}
+use native.Mathlib.Decide.{dec_lt}
 use native.Mathlib.Omega.{arith}
-use lib.ListN.{length, set, take, length-set}
-use lib.Seq.{get_or-set_same, get_or-set_other}
+use lib.ListN.{take}
 use Rattle.numbers.specs.Little.{le_at, Bytes}
 use Rattle.bitmap.specs.Map.{map_size, bit_at, walk}
-use Rattle.bitmap.specs.Facts.{bit_of, count_bits, MapCleared, NextBit}
+use Rattle.bitmap.specs.Facts.{bit_of, count_bits, NextBit}
 use Rattle.bitmap.proofs.Laws.{walked_is}
 use Rattle.bitmap.proofs.Lemmas.Counts.{count_bits_same, count_bits_add, count_bits_past, count_bits_le}
 use Rattle.bitmap.proofs.Words.{bit_inside, bit_outside, word_bit}
-
--- ---- `clear`: the first i bytes are cleared
-
-pub clear_none : (map : List ℕ) → MapCleared 0 map map
-clear_none map = record { zeros = λ i h. absurd (omega arith); rest = λ i h. refl; long = refl }
-
-pub clear_more : {i : ℕ} {before map : List ℕ} → MapCleared i before map → i < length before
-    → MapCleared (i + 1) before (set map i 0)
-clear_more {i} {before} {map} c h =
-    record {
-      zeros = λ k l.
-          dite (ℕ_discrete k i)
-          (λ e. rw e (get_or-set_same map i 0 0 (omega arith)))
-          (λ n. get_or-set_other map i k 0 0 n ∙ c.zeros k (omega arith));
-      rest = λ k l. get_or-set_other map i k 0 0 (omega arith) ∙ c.rest k (omega arith);
-      long = length-set map i 0 ∙ c.long;
-    }
 
 -- ---- `count`: the sum is the count of the bits before byte q, where the bytes from `size` on count as 0
 

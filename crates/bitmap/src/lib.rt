@@ -1,7 +1,8 @@
 // The map of one bit a mark: mark m is bit m mod 8 of byte m / 8.
 #![tactic(auto)]
 
-ghost use Rattle.std.specs.Prelude.{◌≡◌, ◌*◌, ◌/◌, ◌<◌, ◌≤◌, length, take};
+ghost use Rattle.std.specs.Prelude.{◌≡◌, ◌*◌, ◌/◌, ◌<◌, ◌≤◌, length, take, IfSome};
+ghost use Rattle.std.specs.Option.{unwrap_or};
 ghost use Rattle.numbers.specs.Little.{le_at};
 ghost use Rattle.bitmap.specs.Map.{map_size, bit_at, walk};
 ghost use Rattle.bitmap.specs.Facts.{bit_of, count_bits, BitSet, MapCleared, NextBit};
@@ -19,7 +20,7 @@ pub fn set_bit(map: &mut [u8], m: usize)
     requires { m / 8 < length map.old }
     ensures { BitSet map.old m map.new }
 {
-    map[m / 8] = map[m / 8] | (1u8 << (m % 8));
+    map[m / 8] |= 1u8 << (m % 8);
 }
 
 // The first `size` bytes become 0.
@@ -27,30 +28,27 @@ pub fn clear(map: &mut [u8], size: usize)
     requires { size ≤ length map.old }
     ensures { MapCleared size map.old map.new }
 {
-    let mut i = 0;
-    while i < size {
-        map[i] = 0;
-        i += 1;
-    }
+    map[..size].fill(0);
 }
 
-// The least set bit of `word` at or after `from`, else 64.
-fn next_in(word: u64, from: u32) -> u32
+// The least set bit of `word` at or after `from`, if there is one.
+fn next_in(word: u64, from: u32) -> Option<u32>
     requires { from < 64 }
-    ensures { NextBit word from result }
+    ensures next { NextBit word from (unwrap_or result 64) }
+    ensures inside { IfSome result (λ r. r < 64) }
 {
     let w = word >> from;
     if w == 0 {
-        return 64;
+        return None;
     }
-    from + u64::trailing_zeros(w)
+    Some(from + w.trailing_zeros())
 }
 
 // How many bits of `word` are set.
 fn ones_in(word: u64) -> u32
     ensures { result ≡ count_bits (bit_of word) 64 }
 {
-    u64::count_ones(word)
+    word.count_ones()
 }
 
 // The 8 bytes from q on as one number. Those from `end` on count as 0, so that the last word is like the others.
@@ -71,26 +69,24 @@ pub fn count(map: &[u8], size: usize) -> usize
     ensures { result ≡ count_bits (bit_at map.now) (8 * size) }
 {
     let mut sum: usize = 0;
-    let mut q = 0;
-    while q < size {
+    for q in (0..size).step_by(8) {
         sum += ones_in(word_at(map, q, size)) as usize;
-        q += 8;
     }
     sum
 }
 
 // The least number at or after `start` and below n whose bit is set, else 65,535. A turn looks at the 64 numbers of one
 // word; a set bit of the last word may belong to a number that is not below n.
+// Kept: 65,535 and no Option, since the definition `walk` gives that number; and `while`, since a turn goes on at the next word.
 pub fn walk(map: &[u8], n: usize, start: usize) -> usize
     requires { (n ≤ 4096) × (map_size n ≤ length map.now) }
     ensures { result ≡ walk map.now n start }
 {
-    let size = (n + 7) / 8;
+    let size = n.div_ceil(8);
     let mut i = start;
     while i < n {
         let q = i / 64 * 8;
-        let t = next_in(word_at(map, q, size), (i % 64) as u32);
-        if t < 64 {
+        if let Some(t) = next_in(word_at(map, q, size), (i % 64) as u32) {
             let r = q * 8 + t as usize;
             return if r < n { r } else { 65535 };
         }

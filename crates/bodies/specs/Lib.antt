@@ -2,3 +2,4 @@
 -- Laws, lemmas and theorems stand in proofs/.
 pub mod Questions
 pub mod Fitting
+pub mod Held

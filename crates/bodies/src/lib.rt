@@ -1,152 +1,168 @@
 // The bodies of a sheet: questions 4 to 9, with 19, 21 and 24 after 7, and 23.
 #![tactic(auto)]
 
-ghost use Rattle.std.specs.Prelude.{◌≡◌, true, map, ◌<◌, length};
-ghost use Rattle.contents.specs.Contents.{together};
+ghost use Rattle.std.specs.Prelude.{◌≡◌, true, map, ◌*◌, ◌<◌, ◌≤◌, is_some, IfSome, length};
+ghost use Rattle.contents.specs.Contents.{together, has, find};
 ghost use Rattle.contents.specs.Asking.{answer};
+ghost use Rattle.contents.specs.Refusals.{told};
 ghost use Rattle.contents.specs.Questions.{codes_right};
 ghost use Rattle.bodies.specs.Questions.{is_sized, is_chosen, question7, question21, question8, question9, question23, last_questions, body_questions};
-ghost use Rattle.bodies.specs.Fitting.{Marked};
+ghost use Rattle.bodies.specs.Held.{parts_of};
 
-use elimination::RECORD_SIZE;
+use contents::{COUNTS, EDITION, INDEX, MARKS, POPUPS, Refusal, SCHEDULE, SHAPE};
+use elimination::{RECORD_SIZE, Reel};
 use index::INDEX_ENTRY_SIZE;
 use marks::MARK_SIZE;
 
-// ---- questions 7 to 9, 19, 21, 23 and 24, and all from 4 on, of the bodies under these codes
+mod held;
 
-// Has a part that is there this size?
-fn is_sized(there: bool, size: usize, wanted: usize) -> bool
-    ensures { result ≡ is_sized there size wanted }
-{
-    if there {
-        return size == wanted;
+use held::Held;
+
+// ---- questions 7 to 9, 19, 21, 23 and 24
+
+impl<'c> Held<'_, '_, 'c> {
+    // The body under this code, where there is one.
+    fn find(&self, code: u16) -> Option<&'c [u8]>
+        ensures there { is_some result ≡ has (parts_of self.now) code }
+        ensures body { IfSome result (λ b. b.now ≡ find (parts_of self.now) code) }
+    {
+        contents::body_under(self.codes, self.bodies, code)
     }
-    true
+
+    // The same, where a part that is not there counts as empty.
+    fn part(&self, code: u16) -> &'c [u8]
+        ensures { result.now ≡ find (parts_of self.now) code }
+    {
+        contents::find(self.codes, self.bodies, code)
+    }
+
+    // Has a part that is there `size` bytes for each mark?
+    fn is_sized(&self, code: u16, size: usize) -> bool
+        requires { size ≤ 14 }
+        ensures { result ≡ is_sized (has (parts_of self.now) code) (length (find (parts_of self.now) code)) (size * self.now.count) }
+    {
+        let Some(body) = self.find(code) else {
+            return true;
+        };
+        body.len() == size * self.count
+    }
+
+    // 7. Are parts 2 and 3, if present, 14n and 2n bytes?
+    fn has_sizes(&self) -> bool
+        ensures { result ≡ question7 (parts_of self.now) }
+    {
+        self.is_sized(SCHEDULE, RECORD_SIZE) && self.is_sized(INDEX, INDEX_ENTRY_SIZE)
+    }
+
+    // 19 and 24. Is part 4 or 7, if present, one byte of 1 or 2?
+    fn has_choice(&self, code: u16) -> bool
+        ensures { result ≡ is_chosen (parts_of self.now) code }
+    {
+        let Some(choice) = self.find(code) else {
+            return true;
+        };
+        parts::is_choice(choice)
+    }
+
+    // 21. Does part 5, if present, have a popup for each mark, none above 65,536?
+    fn has_popups(&self) -> bool
+        ensures { result ≡ question21 (parts_of self.now) }
+    {
+        let Some(popups) = self.find(POPUPS) else {
+            return true;
+        };
+        parts::is_popups(popups, self.count)
+    }
+
+    // 8. Is each record of part 2 right?
+    fn has_schedule(&self) -> bool
+        requires { (question7 (parts_of self.now) ≡ true) × (question21 (parts_of self.now) ≡ true) }
+        ensures { result ≡ question8 (parts_of self.now) }
+    {
+        let Some(schedule) = self.find(SCHEDULE) else {
+            return true;
+        };
+        let marks = self.part(MARKS);
+        let popups = self.part(POPUPS);
+        let reel = Reel {
+            marks,
+            count: self.count,
+            edition: parts::choice_of(self.part(EDITION)),
+            shape: parts::choice_of(self.part(SHAPE)),
+            popups,
+        };
+        parts::is_schedule(&reel, schedule)
+    }
+
+    // 9. Is part 3 the tree that parts 1 and 2 give? It is there only with part 2.
+    fn has_index(&self) -> bool
+        requires { (question7 (parts_of self.now) ≡ true) × (codes_right self.now.codes.now ≡ true) }
+        ensures { result ≡ question9 (parts_of self.now) }
+    {
+        let Some(index) = self.find(INDEX) else {
+            return true;
+        };
+        index::is_index(self.part(MARKS), self.part(SCHEDULE), index, self.count)
+    }
+
+    // 23. Does part 6, if present, hold the counts of parts 1, 2 and 5? It is there only with part 2.
+    fn has_counts(&self) -> bool
+        requires { (question7 (parts_of self.now) ≡ true) × (question21 (parts_of self.now) ≡ true) × (codes_right self.now.codes.now ≡ true) }
+        ensures { result ≡ question23 (parts_of self.now) }
+    {
+        let Some(counts) = self.find(COUNTS) else {
+            return true;
+        };
+        counting::is_counts(
+            counts,
+            self.part(MARKS),
+            self.part(SCHEDULE),
+            self.part(POPUPS),
+            self.count,
+        )
+    }
+
+    // 7, 19, 21, 24, 8, 9 and 23: the first 'no'.
+    fn check(&self) -> Result<(), Refusal>
+        requires { codes_right self.now.codes.now ≡ true }
+        ensures { told result ≡ answer (last_questions (parts_of self.now)) }
+    {
+        if !self.has_sizes() {
+            return Err(Refusal::Sizes);
+        }
+        if !self.has_choice(EDITION) {
+            return Err(Refusal::Edition);
+        }
+        if !self.has_popups() {
+            return Err(Refusal::Popups);
+        }
+        if !self.has_choice(SHAPE) {
+            return Err(Refusal::Shape);
+        }
+        if !self.has_schedule() {
+            return Err(Refusal::Schedule);
+        }
+        if !self.has_index() {
+            return Err(Refusal::Index);
+        }
+        if !self.has_counts() {
+            return Err(Refusal::Counts);
+        }
+        Ok(())
+    }
 }
 
-// 7. Are parts 2 and 3, if present, 14n and 2n bytes?
-fn has_sizes(codes: &[u16], bodies: &[&[u8]], n: usize) -> bool
-    requires { (length codes.now ≡ length bodies.now) × (0 < length bodies.now) × Marked (together codes.now (map (λ x. x.now) bodies.now)) n }
-    ensures { result ≡ question7 (together codes.now (map (λ x. x.now) bodies.now)) }
-{
-    let schedule = contents::find(codes, bodies, 2).len();
-    let index = contents::find(codes, bodies, 3).len();
-    is_sized(contents::names(codes, 2), schedule, RECORD_SIZE * n)
-        & is_sized(contents::names(codes, 3), index, INDEX_ENTRY_SIZE * n)
-}
-
-// 19 and 24. Is part 4 or 7, if present, one byte of 1 or 2?
-fn has_choice(codes: &[u16], bodies: &[&[u8]], code: u16) -> bool
-    requires { (length codes.now ≡ length bodies.now) × (0 < length bodies.now) }
-    ensures { result ≡ is_chosen (together codes.now (map (λ x. x.now) bodies.now)) code }
-{
-    if !contents::names(codes, code) {
-        return true;
-    }
-    parts::is_choice(contents::find(codes, bodies, code))
-}
-
-// 21. Does part 5, if present, have a popup for each mark, none above 65,536?
-fn has_popups(codes: &[u16], bodies: &[&[u8]], n: usize) -> bool
-    requires { (length codes.now ≡ length bodies.now) × (0 < length bodies.now) × Marked (together codes.now (map (λ x. x.now) bodies.now)) n }
-    ensures { result ≡ question21 (together codes.now (map (λ x. x.now) bodies.now)) }
-{
-    if !contents::names(codes, 5) {
-        return true;
-    }
-    parts::is_popups(contents::find(codes, bodies, 5), n)
-}
-
-// 8. Is each record of part 2 right?
-fn has_schedule(codes: &[u16], bodies: &[&[u8]], n: usize) -> bool
-    requires codes_len { (length codes.now ≡ length bodies.now) × (0 < length bodies.now) × Marked (together codes.now (map (λ x. x.now) bodies.now)) n }
-    requires bodies_value { (question7 (together codes.now (map (λ x. x.now) bodies.now)) ≡ true) × (question21 (together codes.now (map (λ x. x.now) bodies.now)) ≡ true) }
-    ensures { result ≡ question8 (together codes.now (map (λ x. x.now) bodies.now)) }
-{
-    if !contents::names(codes, 2) {
-        return true;
-    }
-    parts::is_schedule(
-        contents::find(codes, bodies, 1),
-        parts::choice_of(contents::find(codes, bodies, 4)),
-        parts::choice_of(contents::find(codes, bodies, 7)),
-        contents::find(codes, bodies, 5),
-        contents::find(codes, bodies, 2),
-        n,
-    )
-}
-
-// 9. Is part 3 the tree that parts 1 and 2 give? It is there only with part 2.
-fn has_index(codes: &[u16], bodies: &[&[u8]], n: usize) -> bool
-    requires codes_len { (length codes.now ≡ length bodies.now) × (0 < length bodies.now) × Marked (together codes.now (map (λ x. x.now) bodies.now)) n }
-    requires bodies_value { (question7 (together codes.now (map (λ x. x.now) bodies.now)) ≡ true) × (codes_right codes.now ≡ true) }
-    ensures { result ≡ question9 (together codes.now (map (λ x. x.now) bodies.now)) }
-{
-    if !contents::names(codes, 3) {
-        return true;
-    }
-    index::is_index(
-        contents::find(codes, bodies, 1),
-        contents::find(codes, bodies, 2),
-        contents::find(codes, bodies, 3),
-        n,
-    )
-}
-
-// 23. Does part 6, if present, hold the counts of parts 1, 2 and 5? It is there only with part 2.
-fn has_counts(codes: &[u16], bodies: &[&[u8]], n: usize) -> bool
-    requires codes_len { (length codes.now ≡ length bodies.now) × (0 < length bodies.now) × Marked (together codes.now (map (λ x. x.now) bodies.now)) n }
-    requires bodies_value { (question7 (together codes.now (map (λ x. x.now) bodies.now)) ≡ true) × (question21 (together codes.now (map (λ x. x.now) bodies.now)) ≡ true) × (codes_right codes.now ≡ true) }
-    ensures { result ≡ question23 (together codes.now (map (λ x. x.now) bodies.now)) }
-{
-    if !contents::names(codes, 6) {
-        return true;
-    }
-    counting::is_counts(
-        contents::find(codes, bodies, 6),
-        contents::find(codes, bodies, 1),
-        contents::find(codes, bodies, 2),
-        contents::find(codes, bodies, 5),
-        n,
-    )
-}
-
-// 7, 19, 21, 24, 8, 9 and 23: the first 'no', or 0.
-fn last_answer(codes: &[u16], bodies: &[&[u8]], n: usize) -> u32
-    requires codes_len { (length codes.now ≡ length bodies.now) × (0 < length bodies.now) × Marked (together codes.now (map (λ x. x.now) bodies.now)) n }
-    requires codes_value { codes_right codes.now ≡ true }
-    ensures { result ≡ answer (last_questions (together codes.now (map (λ x. x.now) bodies.now))) }
-{
-    if !has_sizes(codes, bodies, n) {
-        return 7;
-    }
-    if !has_choice(codes, bodies, 4) {
-        return 19;
-    }
-    if !has_popups(codes, bodies, n) {
-        return 21;
-    }
-    if !has_choice(codes, bodies, 7) {
-        return 24;
-    }
-    if !has_schedule(codes, bodies, n) {
-        return 8;
-    }
-    if !has_index(codes, bodies, n) {
-        return 9;
-    }
-    if has_counts(codes, bodies, n) { 0 } else { 23 }
-}
-
-// 4 to 9, with 19, 21, 23 and 24: the first 'no', or 0. The codes are right.
-pub fn bodies_answer(codes: &[u16], bodies: &[&[u8]]) -> u32
+// 4 to 9, with 19, 21, 23 and 24, of the bodies under these codes: the first 'no'. The codes are right.
+pub fn check_bodies(codes: &[u16], bodies: &[&[u8]]) -> Result<(), Refusal>
     requires { (length codes.now ≡ length bodies.now) × (0 < length bodies.now) × (codes_right codes.now ≡ true) }
-    ensures { result ≡ answer (body_questions (together codes.now (map (λ x. x.now) bodies.now))) }
+    ensures { told result ≡ answer (body_questions (together codes.now (map (λ x. x.now) bodies.now))) }
 {
-    let marks = contents::find(codes, bodies, 1);
-    let number = parts::part1_answer(marks);
-    if number != 0 {
-        return number;
-    }
-    last_answer(codes, bodies, marks.len() / MARK_SIZE)
+    let marks = contents::find(codes, bodies, MARKS);
+    parts::check_marks(marks)?;
+    let held = Held {
+        codes,
+        bodies,
+        count: marks.len() / MARK_SIZE,
+    };
+    held.check()
 }

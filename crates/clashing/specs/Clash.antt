@@ -1,12 +1,12 @@
 -- Who clashes with the mark that is judged: the two break a rule, or it should have named the other. `r` is a reel and `p` part 2 of its
 -- sheet.
-use Rattle.std.specs.Prelude.{ℕ, ◌+◌, ◌*◌, ◌<◌, ◌≤◌, ◌≡◌, Bool, true, false, not, ◌&&◌, ◌||◌, List, length, eqb}
+use Rattle.std.specs.Prelude.{ℕ, ◌+◌, ◌*◌, ◌<◌, ◌≤◌, ◌≡◌, ◌≢◌, Bool, true, false, not, ◌&&◌, ◌||◌, List, length, eqb}
 use Rattle.fractions.specs.declared.Fraction.{Fraction}
 use Rattle.fractions.specs.declared.Value.{Value}
 use Rattle.fractions.specs.declared.Value.TheVariants.{Never, At}
 use Rattle.fractions.specs.Order.{less, Small}
 use Rattle.marks.specs.Marks.{mark_size, label_at, used_at, outranks}
-use Rattle.marks.specs.Pairs.{popup_at, popup_value, pair_value, GoodPopup, GoodPopups}
+use Rattle.marks.specs.Pairs.{popup_size, popup_at, popup_value, pair_value, GoodPopup, GoodPopups}
 use Rattle.marks.specs.Good.{GoodMarks}
 use Rattle.elimination.specs.Records.{record_size, eliminator_at, value_at}
 use Rattle.elimination.specs.Reel.{Reel}
@@ -45,14 +45,13 @@ abbrev pub is_tight : List ℕ → List ℕ → ℕ → Bool
 is_tight popups p m = not (less (popup_value (popup_at popups m)) (limit_at p m))
 
 -- mark m of the marks `s`, with what the search asks of it: the bound is one of the radii
-unfoldable pub subject_of : ℕ → List ℕ → List ℕ → List ℕ → ℕ → ℕ → Subject
-subject_of shape s popups p bound m =
+unfoldable pub subject_of : List ℕ → List ℕ → List ℕ → ℕ → ℕ → Subject
+subject_of s popups p bound m =
     record {
       m = m;
       label = label_at s m;
       value = limit_at p m;
       tight = is_tight popups p m;
-      shape = shape;
       x = coordinate s true m;
       y = coordinate s false m;
       reach = (used_at s m + bound) * (used_at s m + bound);
@@ -64,6 +63,13 @@ subject_of shape s popups p bound m =
 pub record Asked (r : Reel) (p : List ℕ) : Type 0 where
   pub marks : GoodMarks r.marks r.count
   pub popped : GoodPopups r.popups r.count
+  pub schedule_long : length p ≡ record_size * r.count
+  pub right : is_schedule r p ≡ true
+
+-- The same of parts 2 and 5 as a proposal carries it: a fact that holds in one way only.
+pub record Proposable (r : Reel) (p : List ℕ) : Type 0 where
+  pub popups_sized : length r.popups ≢ 0 → length r.popups ≡ popup_size * r.count
+  pub popups_small : (m : ℕ) → m < r.count → popup_at r.popups m ≤ 65536
   pub schedule_long : length p ≡ record_size * r.count
   pub right : is_schedule r p ≡ true
 
@@ -81,15 +87,6 @@ pub record Subjected (s : List ℕ) (n : ℕ) (p : List ℕ) (q : Subject) : Typ
   pub inside : q.m < n
   pub label_is : q.label ≡ label_at s q.m
   pub value_is : q.value ≡ limit_at p q.m
-
--- what the pair value with mark g is made from
-pub record Paired (s popups : List ℕ) (q : Subject) (g : ℕ) : Type 0 where
-  pub label_is : q.label ≡ label_at s q.m
-  pub marked : mark_size * g + mark_size ≤ length s
-  pub used : used_at s g ≤ widest_radius
-  pub own_used : used_at s q.m ≤ widest_radius
-  pub popup : GoodPopup popups g
-  pub own_popup : GoodPopup popups q.m
 
 -- what a subject's numbers must be for their products to fit
 pub record Fits (q : Subject) : Type 0 where

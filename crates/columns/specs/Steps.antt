@@ -4,6 +4,7 @@ use Rattle.std.proofs.lemmas.List.Edits.{sets}
 use Rattle.numbers.specs.Little.{le_bytes}
 use Rattle.rows.specs.Rows.{rows}
 use Rattle.marks.specs.Marks.{y_offset, radius_offset, priority_offset, kind_offset, tag_offset}
+use Rattle.columns.specs.declared.Fields.{Fields}
 use Rattle.columns.specs.Columns.{Values, mark, field, column, entry}
 
 -- the value of the mark before, and 0 for the first
@@ -11,9 +12,38 @@ abbrev pub before : (ℕ → ℕ) → ℕ → ℕ
 before value zero = 0
 before value (suc m) = value m
 
--- mark m's bytes by its columns, at a place that is worked out
-abbrev pub mark_at : List ℕ → ℕ → ℕ → ℕ → ℕ → List ℕ
-mark_at c n m x y = mark x y (entry 2 (radius_offset * n) c m) (entry 2 (priority_offset * n) c m) (entry 1 (kind_offset * n) c m) (entry 2 (tag_offset * n) c m)
+-- ---- the values of one mark
+
+-- those of mark m, and those that it has in the columns of n marks
+abbrev pub fields_at : List ℕ → ℕ → Fields
+fields_at s m =
+    record {
+      x = field 2 0 s m;
+      y = field 2 y_offset s m;
+      radius = field 2 radius_offset s m;
+      priority = field 2 priority_offset s m;
+      kind = field 1 kind_offset s m;
+      tag = field 2 tag_offset s m;
+    }
+
+abbrev pub entries_at : List ℕ → ℕ → ℕ → Fields
+entries_at c n m =
+    record {
+      x = entry 2 0 c m;
+      y = entry 2 (y_offset * n) c m;
+      radius = entry 2 (radius_offset * n) c m;
+      priority = entry 2 (priority_offset * n) c m;
+      kind = entry 1 (kind_offset * n) c m;
+      tag = entry 2 (tag_offset * n) c m;
+    }
+
+-- the bytes of a mark of these values
+abbrev pub mark_with : Fields → List ℕ
+mark_with f = mark f.x f.y f.radius f.priority f.kind f.tag
+
+-- these values, but another place
+abbrev pub placed : Fields → ℕ → ℕ → Fields
+placed f x y = record f { x = x; y = y }
 
 -- ---- columns that are filled side by side
 
@@ -43,14 +73,10 @@ unfoldable pub entered : List Column → ℕ → List ℕ → List ℕ
 entered [] m l = l
 entered (c ∷ cs) m l = entered cs m (sets l (c.start + c.width * m) (le_bytes c.width (c.value m)))
 
--- one value of each kind for every mark
-abbrev pub alike : ℕ → ℕ → ℕ → ℕ → ℕ → ℕ → Values
-alike x y radius priority kind tag =
-    record { x = λ m. x; y = λ m. y; radius = λ m. radius; priority = λ m. priority; kind = λ m. kind; tag = λ m. tag }
-
--- mark m's values in their columns, at a place that is worked out
-abbrev pub entered_at : List ℕ → ℕ → ℕ → ℕ → ℕ → List ℕ → List ℕ
-entered_at s n m x y l = entered (columns_of (alike x y (field 2 radius_offset s m) (field 2 priority_offset s m) (field 1 kind_offset s m) (field 2 tag_offset s m)) n) m l
+-- these values for every mark
+abbrev pub alike : Fields → Values
+alike f =
+    record { x = λ m. f.x; y = λ m. f.y; radius = λ m. f.radius; priority = λ m. f.priority; kind = λ m. f.kind; tag = λ m. f.tag }
 
 -- ---- marks that are written one by one
 

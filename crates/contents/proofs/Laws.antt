@@ -4,12 +4,19 @@ use mathlib.Core.List.{List, [], ◌∷◌, ◌++◌, Memᴰ}
 use Rattle.std.proofs.Common.{ltb-true, lt-ltb}
 use Rattle.lists.proofs.TestLaws.{same_test, both_iff}
 use Rattle.numbers.specs.Little.{Bytes}
+use Rattle.std.specs.Prelude.{map, Option, Some, None, is_some, IfSome}
+use Rattle.std.specs.Option.{unwrap_or}
+use Rattle.std.proofs.Common.{Bor, sym, ◌∙◌}
+use Rattle.std.proofs.lemmas.List.{length-map}
 use Rattle.contents.specs.Contents.{Part, codes_of, bodies_of, names, has, find, with_part, count_at, contents_size, split, contents_of, chain, join, Writable, together}
 use Rattle.contents.specs.Asking.{answer}
 use Rattle.contents.specs.Questions.{top_code, is_count, rising, codes_right, contents_questions}
 use Rattle.contents.specs.Laid.{Laid}
 use Rattle.contents.specs.Places.{layout_of, no_parts, place_of, is_there, cut_of, Located}
 use Rattle.contents.proofs.Lemmas.Asked.{Numbered}
+use Rattle.contents.proofs.Lemmas.Refused as Refused
+use Rattle.contents.specs.declared.Refusal.{Refusal}
+use Rattle.contents.specs.Refusals.{number}
 use Rattle.contents.proofs.Lemmas.Laid as Laying
 use Rattle.contents.proofs.Lemmas.Codes as Codes
 use Rattle.contents.proofs.Lemmas.Parts as Parts
@@ -199,3 +206,24 @@ contents_length = Entries.contents_length
 pub fill_turn : {A : Type 0} (d : A) (l v : List A) (i : ℕ) (a : A) → i < length l → i < length v → a ≡ get_or v i d → take i l ≡ take i v
     → take (i + 1) (set l i a) ≡ take (i + 1) v
 fill_turn = Filled.fill_turn
+
+-- ---- refusals
+
+-- No refusal has the number 0, which is success.
+pub numbered_from_one : (r : Refusal) → 0 < number r
+numbered_from_one r = Refused.numbered_from_one r
+
+-- ---- what is found under a code
+
+-- where there is no such part, nothing
+pub part_found : (parts : List Part) (code : ℕ) (o : Option (Bor (List ℕ))) (d : Bor (List ℕ)) → d.now ≡ [] → is_some o ≡ has parts code
+    → IfSome o (λ b. b.now ≡ find parts code) → (unwrap_or o d).now ≡ find parts code
+part_found parts code (Some b) d e there body = body
+part_found parts code None d e there body = e ∙ sym (find_none parts code (sym there))
+
+-- the codes of parts that are held apart
+pub has_named : (codes : List ℕ) (bodies : List (Bor (List ℕ))) → length codes ≡ length bodies → (code : ℕ)
+    → has (together codes (map (λ x. x.now) bodies)) code ≡ names codes code
+has_named codes bodies same code =
+    let long : length codes ≡ length (map (λ (x : Bor (List ℕ)). x.now) bodies) = rw length-map same in
+    rw (together_codes codes (map (λ (x : Bor (List ℕ)). x.now) bodies) long)

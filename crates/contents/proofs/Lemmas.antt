@@ -10,3 +10,4 @@ pub mod Places
 pub mod Written
 pub mod Filled
 pub mod With
+pub mod Refused

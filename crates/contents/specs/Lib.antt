@@ -2,6 +2,7 @@
 -- Laws, lemmas and theorems stand in proofs/.
 pub mod Contents
 pub mod Asking
+pub mod Refusals
 pub mod Questions
 pub mod Laid
 pub mod Places

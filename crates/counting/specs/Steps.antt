@@ -1,6 +1,6 @@
 -- How the code counts. A mark begins to live at one stop and is gone from another on, so it is entered twice: in the cell of the stop where it
 -- begins, and in the cell of the stop where it is gone. What lives at a stop is what began until then less what is gone.
-use Rattle.std.specs.Prelude.{ℕ, ◌+◌, ◌*◌, ◌<◌, ◌^◌, min, ◌≡◌, cond, List, leb, eqb, length, get_or}
+use Rattle.std.specs.Prelude.{ℕ, ◌+◌, ◌*◌, ◌<◌, ◌^◌, min, ◌≡◌, Bool, cond, List, ltb, leb, eqb, length, get_or}
 use Rattle.lists.specs.Tests.{how_many}
 use Rattle.fractions.specs.declared.Value.{Value}
 use Rattle.fractions.specs.declared.Value.TheVariants.{At}
@@ -13,6 +13,10 @@ use Rattle.counting.specs.Counts.{stops, groups}
 -- At how many stops a mark with this removal value lives. They are the first ones: `lives_first` of Lemmas.
 unfoldable pub stops_lived : Value → ℕ
 stops_lived v = how_many (λ t. lives_at (2 ^ t) v) stops
+
+-- a test that tells of each stop whether it is one of the first n
+abbrev pub TellsFirst : (ℕ → Bool → Type 0) → ℕ → Type 0
+TellsFirst tells n = (stop : ℕ) (b : Bool) → stop < stops → tells stop b → b ≡ ltb stop n
 
 -- one step of a search for it: as far as the step goes, if that is not too far
 abbrev pub step_to : ℕ → ℕ → ℕ → ℕ

@@ -6,6 +6,7 @@ pub mod Rules
 pub mod Process
 pub mod Records
 pub mod Reel
+pub mod Lent
 pub mod Alike
 pub mod Important
 pub mod RankOrder

@@ -7,6 +7,10 @@ ghost use Rattle.elimination.specs.Records.{record_size, record_at, record_bytes
 
 use fractions::{Fraction, Value};
 
+mod reel;
+
+pub use reel::Reel;
+
 // The bytes of a record, and where the fields behind the eliminator begin.
 pub const RECORD_SIZE: usize = 14;
 
@@ -16,12 +20,19 @@ const DEN_OFFSET: usize = 10;
 
 // A record: who removes the mark, and where. The eliminator is wider than its two bytes, so that the struct has no padding and stays in
 // registers.
-#[derive(Clone, Copy)]
+#[derive(Clone, Copy, Debug, PartialEq, Eq)]
 pub struct Record {
     pub num: u64,
     pub den: u32,
     pub eliminator: u32,
 }
+
+// 01: "Never removed: 65,535, 0, 0."
+pub const NEVER: Record = Record {
+    num: 0,
+    den: 0,
+    eliminator: 65535,
+};
 
 // The record that stands at `at`.
 pub fn record_at(s: &[u8], at: usize) -> Record
@@ -56,16 +67,11 @@ pub fn fraction_of(r: Record) -> Fraction
 }
 
 // Is it the 'never' record?
+#[tactic(auto, unfolding(crate::specs::Records::is_never))]
 pub fn is_never(r: Record) -> bool
     ensures { result ≡ is_never r }
 {
-    if r.eliminator != 65535 {
-        return false;
-    }
-    if r.num != 0 {
-        return false;
-    }
-    r.den == 0
+    r == NEVER
 }
 
 // The removal value that a record names.

@@ -13,10 +13,11 @@ use marks::{MARK_SIZE, PRIORITY_OFFSET, RADIUS_OFFSET};
 fn filled_radius(radius: u16, kind: u8) -> u16
     ensures { result ≡ filled_radius radius kind }
 {
-    if radius != 0 {
-        return radius;
+    if radius == 0 {
+        marks::old_radius(kind)
+    } else {
+        radius
     }
-    marks::old_radius(kind)
 }
 
 // Writes mark m at its place: what stands before its radius, the radius, and what stands behind it.
@@ -39,9 +40,7 @@ pub fn fill(out: &mut [u8], s: &[u8], n: usize)
     requires { (mark_size * n ≤ length s.now) × (mark_size * n ≤ length out.old) }
     ensures { out.new ≡ sets out.old 0 (rows (filled_mark s.now) n) }
 {
-    let mut m = 0;
-    while m < n {
+    for m in 0..n {
         put_mark(out, s, m);
-        m += 1;
     }
 }

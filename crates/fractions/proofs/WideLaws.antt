@@ -1,7 +1,9 @@
 -- A number of up to 96 bits in two parts, and that such numbers compare part by part. Assumes nothing.
-use Rattle.std.specs.Prelude.{ℕ, ◌+◌, ◌*◌, ◌/◌, ◌%◌, ◌<◌, ◌≤◌, ◌≡◌, ltb, eqb}
-use Rattle.std.proofs.Common.{ap, ◌∙◌, sym, arith, mul-le-mul_right, add-mul, mul_right_comm, div-add-mod', lt-ltb, le-ltb, eq-eqb, ne_eqb}
-use Rattle.std.proofs.Math.Decide.{dec_lt, ℕ_discrete}
+use Rattle.std.specs.Prelude.{ℕ, ◌+◌, ◌*◌, ◌/◌, ◌%◌, ◌<◌, ◌≡◌, ltb, eqb, ◌&&◌, Some}
+use Rattle.std.proofs.Common.{ap, ◌∙◌, sym, arith, mul-le-mul_right, add-mul, mul_right_comm, div-add-mod'}
+use Rattle.std.specs.Ordering.{is_lt, is_some_and, partial_ordering_then, nat_cmp}
+use Rattle.std.proofs.lemmas.Grind.{common_steps}
+use Rattle.std.proofs.lemmas.Bool.Decides.{nat_tests}
 use Rattle.fractions.specs.declared.Wide.{Wide}
 use Rattle.fractions.specs.Wide.{base, TwoDigits}
 
@@ -23,27 +25,10 @@ module _ (num den : ℕ) (wide : num < base * base) (narrow : den < base) where
 
 -- ---- comparing
 
--- two tests that decide the same are the same test
-pub ltb_same : {a b c d : ℕ} → (a < b → c < d) → (b ≤ a → d ≤ c) → ltb a b ≡ ltb c d
-ltb_same {a} {b} {c} {d} p q =
-    elim (dec_lt a b)
-    [ yes h ↦ lt-ltb a b h ∙ sym (lt-ltb c d (p h)) | no h ↦ le-ltb a b (omega arith) ∙ sym (le-ltb c d (q (omega arith))) ]
-
-pub eqb_same : {a b c d : ℕ} → (a ≡ b → c ≡ d) → (c ≡ d → a ≡ b) → eqb a b ≡ eqb c d
-eqb_same {a} {b} {c} {d} p q =
-    elim (ℕ_discrete a b)
-    [ yes h ↦ eq-eqb a b h ∙ sym (eq-eqb c d (p h)) | no h ↦ ne_eqb a b h ∙ sym (ne_eqb c d (λ e. h (q e))) ]
-
--- the high parts decide, and where they are equal the low parts do
+-- the code's order of two numbers: the high parts decide, and where they are equal the low parts do
 module _ {m n : ℕ} {v w : Wide} (a : TwoDigits m v) (b : TwoDigits n w) where
-  pub low_less : v.high ≡ w.high → ltb v.low w.low ≡ ltb m n
-  low_less e = ltb_same {a = v.low} {b = w.low} {c = m} {d = n} (λ h. omega arith) (λ h. omega arith)
+  pub less_wide : is_some_and is_lt (partial_ordering_then (Some (nat_cmp v.high w.high)) (Some (nat_cmp v.low w.low))) ≡ ltb m n
+  less_wide = grind (arith, nat_tests, common_steps)
 
-  pub high_less : (v.high ≡ w.high → ⊥) → ltb v.high w.high ≡ ltb m n
-  high_less e = ltb_same {a = v.high} {b = w.high} {c = m} {d = n} (λ h. omega arith) (λ h. omega arith)
-
-  pub low_same : v.high ≡ w.high → eqb v.low w.low ≡ eqb m n
-  low_same e = eqb_same {a = v.low} {b = w.low} {c = m} {d = n} (λ h. omega arith) (λ h. omega arith)
-
-  pub high_same : (v.high ≡ w.high → ⊥) → eqb v.high w.high ≡ eqb m n
-  high_same e = eqb_same {a = v.high} {b = w.high} {c = m} {d = n} (λ h. omega arith) (λ h. omega arith)
+  pub same_wide : eqb v.high w.high && eqb v.low w.low ≡ eqb m n
+  same_wide = grind (arith, nat_tests, common_steps)

@@ -9,13 +9,13 @@ use borrow.Author.Count.{below_more}
 use lib.ListN.{length}
 use lib.Seq.{sets}
 use Rattle.lists.specs.Stores.{Clear}
-use Rattle.lists.proofs.StoreLaws.{kept_none, kept_wide, kept_then}
+use Rattle.lists.proofs.StoreLaws.{kept_wide, kept_then}
 use Rattle.numbers.specs.Little.{le_bytes}
 use Rattle.numbers.proofs.Laws.{read_back_sets, kept_write, number_kept}
 use Rattle.fractions.specs.declared.Fraction.{Fraction}
 use Rattle.marks.specs.declared.Label.{Label}
 use Rattle.grid.specs.declared.Region.{Region}
-use Rattle.grid.specs.Table.{cell_count, region_count, region_size, table_size, group_region, region_at, empty_region, link_from, last_at}
+use Rattle.grid.specs.Table.{cell_count, region_count, region_size, group_region, region_at, empty_region, link_from, last_at}
 use Rattle.grid.specs.Boxes.{widened}
 use Rattle.grid.specs.Steps.{LinkPut, RegionPut, Cleared, Added}
 use Rattle.grid.specs.Laws.{region_kept}
@@ -36,9 +36,6 @@ link_is {w} at groups q x room h e =
     }
 
 -- ---- cleared
-
-pub cleared_none : (w : List ℕ) (at groups : ℕ) → Cleared w w at groups 0
-cleared_none w at groups = record { kept = kept_none w at (at + table_size groups); regions = λ j h. absurd (omega arith) }
 
 pub cleared_more : {w v u : List ℕ} {at groups i : ℕ} → i < region_count groups → Cleared w v at groups i → RegionPut v u at i empty_region
     → Cleared w u at groups (i + 1)

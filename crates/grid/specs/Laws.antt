@@ -1,7 +1,7 @@
 -- What a search uses of the table: it starts empty, a row more keeps what it tells, and it stays where other bytes of the buffer change. And what
 -- a region tells: nothing in it touches a label sooner than its bound. Assumes nothing.
-use Rattle.std.specs.Prelude.{ℕ, zero, suc, ◌+◌, ◌-◌, ◌*◌, ◌/◌, ◌<◌, ◌≤◌, ◌≡◌, refl, Bool, true, false, cond, List, ◌≢◌, ltb, ℤ, pos, negsuc, nat_abs, length}
-use Rattle.std.proofs.Common.{sym, ap, subst, ◌∙◌, inl, inr, arith, mul-le-mul, below_more, eq-eqb, ne_eqb, ltb-true, ltb-false}
+use Rattle.std.specs.Prelude.{ℕ, zero, suc, ◌+◌, ◌-◌, ◌*◌, ◌<◌, ◌≤◌, ◌≡◌, refl, Bool, true, false, cond, List, ◌≢◌, ltb, ℤ, pos, negsuc, nat_abs, length}
+use Rattle.std.proofs.Common.{sym, ap, ◌∙◌, inl, inr, arith, mul-le-mul, below_more, eq-eqb, ne_eqb, ltb-true, ltb-false}
 use Rattle.std.proofs.Math.Decide.{ℕ_discrete}
 use Rattle.std.proofs.Math.IntN.{sub_ℕ}
 use Rattle.lists.specs.Stores.{Clear, Kept}
@@ -10,11 +10,11 @@ use Rattle.fractions.specs.declared.Fraction.{Fraction}
 use Rattle.fractions.specs.Order.{less, Less, AtMost, Small}
 use Rattle.fractions.proofs.Laws.{less_iff, order, at_most_trans, less_positive}
 use Rattle.marks.specs.declared.Label.{Label}
-use Rattle.marks.specs.Marks.{shifted, apart, distance, touching_of}
+use Rattle.marks.specs.Marks.{shifted, apart, touching_of}
 use Rattle.marks.proofs.Laws.{distance_grows}
 use Rattle.grid.specs.declared.Region.{Region}
-use Rattle.grid.specs.Table.{cell_count, region_count, region_size, table_size, group_region, region_at, empty_region, link_from, link_at, last_at, EntriesLow, Chained, assign}
-use Rattle.grid.specs.Boxes.{Inside, Holds, later_of, widened, outside, bound_of}
+use Rattle.grid.specs.Table.{cell_count, region_count, region_size, table_size, group_region, region_at, link_from, link_at, last_at, EntriesLow, Chained, assign}
+use Rattle.grid.specs.Boxes.{Inside, Holds, widened, outside, bound_of}
 use Rattle.grid.specs.Steps.{LinkPut, Cleared, Added}
 
 -- ---- one row more in a region

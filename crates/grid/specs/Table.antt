@@ -1,7 +1,7 @@
 -- The table of regions. `w` is the lent buffer and `at` where the table begins in it. Of so many groups it has, one behind the other: a region of 24
 -- bytes for each of the 16 cells of each group; such a region for each group; and a link of 2 bytes for each row, to the row before it in its
 -- cell. A row is given by one more than its place, so that 0 means 'none'. Any row may be put into any cell, or into none.
-use Rattle.std.specs.Prelude.{ℕ, suc, ◌+◌, ◌*◌, ◌/◌, ◌<◌, ◌≤◌, ◌≡◌, cond, List, ◌++◌, eqb, length}
+use Rattle.std.specs.Prelude.{ℕ, suc, ◌+◌, ◌*◌, ◌/◌, ◌<◌, ◌≤◌, ◌≡◌, Option, Some, None, cond, List, ◌++◌, eqb, length}
 use Rattle.numbers.specs.Little.{le_at, le_bytes}
 use Rattle.fractions.specs.Order.{Small}
 use Rattle.grid.specs.declared.Region.{Region}
@@ -53,6 +53,11 @@ empty_region =
     record { west = 0; east = 0; south = 0; north = 0; radius = 0; last = 0; latest = record { num = 0; den = 1 } }
 
 -- ---- the chains
+
+-- an entry of the table: one more than a row's place, or 0 for none
+abbrev pub entry_of : Option ℕ → ℕ
+entry_of None = 0
+entry_of (Some q) = q + 1
 
 abbrev pub link_from : ℕ → ℕ → ℕ → ℕ
 link_from at groups q = at + table_size groups + 2 * q

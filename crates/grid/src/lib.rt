@@ -4,10 +4,10 @@
 // regions of the cells, those of the groups, and then a link for each row.
 #![tactic(auto)]
 
-ghost use Rattle.std.specs.Prelude.{◌≡◌, ◌+◌, ◌-◌, ◌*◌, ◌/◌, ◌<◌, ◌≤◌, max, pos, length};
+ghost use Rattle.std.specs.Prelude.{◌≡◌, ◌+◌, ◌*◌, ◌/◌, ◌<◌, ◌≤◌, pos, length};
 ghost use Rattle.std.proofs.lemmas.List.Edits.{sets};
 ghost use Rattle.fractions.specs.Order.{Small};
-ghost use Rattle.grid.specs.Table.{cell_count, region_count, region_size, table_size, region_at, side_bytes, link_from, link_at, last_at, empty_region};
+ghost use Rattle.grid.specs.Table.{cell_count, region_count, region_size, table_size, region_at, side_bytes, entry_of, link_from, link_at, last_at};
 ghost use Rattle.grid.specs.Boxes.{outside, bound_of, later_of, widened};
 ghost use Rattle.grid.specs.Steps.{LinkPut, RegionPut, Cleared, Added};
 
@@ -45,7 +45,8 @@ pub const GROUP_BYTES: usize = 408;
 // What is known of the rows of a region: the sides of a box around their places, which are shifted to be at least 0, their largest radius and
 // their latest removal value; and of a cell one more than its last row, or 0. The lower sides are kept as their distance from 65,535, so that every
 // side of an empty box is 0, and each grows.
-#[derive(Clone, Copy)]
+// Kept: `last` is an entry as the bytes have it, 0 where there is no row: the definition `region_at` reads it so.
+#[derive(Clone, Copy, Debug, PartialEq, Eq)]
 pub struct Region {
     pub west: u16,
     pub east: u16,
@@ -54,6 +55,68 @@ pub struct Region {
     pub radius: u16,
     pub last: u16,
     pub latest: Fraction,
+}
+
+impl Region {
+    // A region without a row. No row is removed later than its latest removal value, which is 0.
+    const EMPTY: Self = Region {
+        west: 0,
+        east: 0,
+        south: 0,
+        north: 0,
+        radius: 0,
+        last: 0,
+        latest: Fraction { num: 0, den: 1 },
+    };
+
+    // The region with one row more, of this label and removal value, and with this last row.
+    fn taking_in(self, label: Label, value: Fraction, last: u16) -> Self
+        requires { Small self.latest × Small value }
+        ensures { result ≡ widened self label value last }
+    {
+        let x = marks::shifted(label.x);
+        let y = marks::shifted(label.y);
+        Region {
+            west: self.west.max(65535 - x),
+            east: self.east.max(x),
+            south: self.south.max(65535 - y),
+            north: self.north.max(y),
+            radius: self.radius.max(label.radius),
+            last,
+            latest: later_of(self.latest, value),
+        }
+    }
+
+    // The touching value of a label and one at the nearest place of the region's box, with its largest radius.
+    pub fn bound(self, shape: u8, label: Label) -> Fraction
+        requires { (self.radius ≤ 16383) × (label.radius ≤ 16383) }
+        ensures { (result ≡ bound_of shape self label) × Small result }
+    {
+        let dx = gap(self.west, self.east, marks::shifted(label.x));
+        let dy = gap(self.south, self.north, marks::shifted(label.y));
+        let radii = self.radius as u32 + label.radius as u32;
+        Fraction {
+            num: marks::distance(shape, dx, dy),
+            den: radii * radii,
+        }
+    }
+}
+
+// The later of two removal values.
+fn later_of(f: Fraction, g: Fraction) -> Fraction
+    requires { Small f × Small g }
+    ensures { result ≡ later_of f g }
+{
+    if fractions::less_small(f, g) { g } else { f }
+}
+
+// How far a lies from the numbers from 65,535 - low to high: 0 among them. One of the two differences is 0 where there is one.
+fn gap(low: u16, high: u16, a: u16) -> i32
+    ensures { (result ≡ pos (outside low high a)) × (outside low high a ≤ 65535) }
+{
+    let below = (65535 - low).saturating_sub(a);
+    let above = a.saturating_sub(high);
+    (below as u32 + above as u32) as i32
 }
 
 // Region i of the table at `at`.
@@ -93,28 +156,11 @@ fn put_region(w: &mut [u8], at: usize, i: usize, r: Region)
     ensures { RegionPut w.old w.new at i r }
 {
     let from = at + REGION_SIZE * i;
-    let latest = r.latest;
     put_sides(w, from, r);
     numbers::write(w, from + RADIUS, 2, r.radius as u64);
     numbers::write(w, from + LAST, 2, r.last as u64);
-    numbers::write(w, from + LATEST_NUM, 8, latest.num);
-    numbers::write(w, from + LATEST_DEN, 4, latest.den as u64);
-}
-
-// A region without a row. No row is removed later than its latest removal value, which is 0.
-fn empty() -> Region
-    ensures { result ≡ empty_region }
-{
-    let latest = Fraction { num: 0, den: 1 };
-    Region {
-        west: 0,
-        east: 0,
-        south: 0,
-        north: 0,
-        radius: 0,
-        last: 0,
-        latest: latest,
-    }
+    numbers::write(w, from + LATEST_NUM, 8, r.latest.num);
+    numbers::write(w, from + LATEST_DEN, 4, r.latest.den as u64);
 }
 
 // No row is in any cell.
@@ -122,33 +168,38 @@ pub fn clear(w: &mut [u8], at: usize, groups: usize)
     requires { at + table_size groups ≤ length w.old }
     ensures { Cleared w.old w.new at groups (region_count groups) }
 {
-    let count = GROUP_REGIONS * groups;
-    let mut i = 0;
-    while i < count {
-        put_region(w, at, i, empty());
-        i += 1;
+    for i in 0..GROUP_REGIONS * groups {
+        put_region(w, at, i, Region::EMPTY);
     }
 }
 
 // ---- chains
 
-// One more than the last row of cell c, or 0.
-pub fn last_row(w: &[u8], at: usize, c: usize) -> usize
-    requires { at + region_size * c + region_size ≤ length w.now }
-    ensures { result ≡ last_at w.now at c }
+// The row of an entry, which is one more than its place, or 0 for none.
+fn row_of(entry: u16) -> Option<usize>
+    ensures { entry_of result ≡ entry }
 {
-    numbers::read_u16(w, at + REGION_SIZE * c + LAST) as usize
+    (entry as usize).checked_sub(1)
 }
 
-// One more than the row before row q in its cell, or 0.
-pub fn previous_row(w: &[u8], at: usize, groups: usize, q: usize) -> usize
-    requires { link_from at groups q + 2 ≤ length w.now }
-    ensures { result ≡ link_at w.now at groups q }
+// The last row of cell c.
+pub fn last_row(w: &[u8], at: usize, c: usize) -> Option<usize>
+    requires { at + region_size * c + region_size ≤ length w.now }
+    ensures { entry_of result ≡ last_at w.now at c }
 {
-    numbers::read_u16(w, at + GROUP_BYTES * groups + 2 * q) as usize
+    row_of(numbers::read_u16(w, at + REGION_SIZE * c + LAST))
+}
+
+// The row before row q in its cell.
+pub fn previous_row(w: &[u8], at: usize, groups: usize, q: usize) -> Option<usize>
+    requires { link_from at groups q + 2 ≤ length w.now }
+    ensures { entry_of result ≡ link_at w.now at groups q }
+{
+    row_of(numbers::read_u16(w, at + GROUP_BYTES * groups + 2 * q))
 }
 
 // Makes `before` the link of row q: one more than the row before it in its cell, or 0, also for a row that is in no cell.
+// Kept: `before` is the entry itself, as the bytes have it (the definition `LinkPut`).
 pub fn put_link(w: &mut [u8], at: usize, groups: usize, q: usize, before: u16)
     requires { link_from at groups q + 2 ≤ length w.old }
     ensures { LinkPut w.old w.new at groups q before }
@@ -156,45 +207,8 @@ pub fn put_link(w: &mut [u8], at: usize, groups: usize, q: usize, before: u16)
     numbers::write(w, at + GROUP_BYTES * groups + 2 * q, 2, before as u64);
 }
 
-// ---- boxes
-
-fn larger(a: u16, b: u16) -> u16
-    ensures { result ≡ max a b }
-{
-    if a < b { b } else { a }
-}
-
-// The later of two removal values.
-fn later_of(f: Fraction, g: Fraction) -> Fraction
-    requires { Small f × Small g }
-    ensures { result ≡ later_of f g }
-{
-    if fractions::less_small(f, g) {
-        return g;
-    }
-    f
-}
-
-// A region with one row more, of this label and removal value, and with this last row.
-fn taking_in(r: Region, label: Label, value: Fraction, last: u16) -> Region
-    requires { Small r.latest × Small value }
-    ensures { result ≡ widened r label value last }
-{
-    let x = marks::shifted(label.x);
-    let y = marks::shifted(label.y);
-    let latest = r.latest;
-    Region {
-        west: larger(r.west, 65535 - x),
-        east: larger(r.east, x),
-        south: larger(r.south, 65535 - y),
-        north: larger(r.north, y),
-        radius: larger(r.radius, label.radius),
-        last: last,
-        latest: later_of(latest, value),
-    }
-}
-
 // Row p, with this label and removal value, goes into cell c and its group.
+// Kept: `at` and `groups` stay two parameters, since each clause here bounds another index of `w`, which is lent for writing.
 pub fn add(
     w: &mut [u8],
     at: usize,
@@ -212,36 +226,6 @@ pub fn add(
     let own = region_at(w, at, c);
     let group = region_at(w, at, g);
     put_link(w, at, groups, p, own.last);
-    put_region(w, at, c, taking_in(own, label, value, p as u16 + 1));
-    put_region(w, at, g, taking_in(group, label, value, 0));
-}
-
-// ---- bounds
-
-// How far a lies above b: 0 where it does not.
-fn above(a: u16, b: u16) -> u32
-    ensures { result ≡ a - b }
-{
-    if b < a { (a - b) as u32 } else { 0 }
-}
-
-// How far a lies from the numbers from 65,535 - low to high: 0 among them. One of the two differences is 0 where there is one.
-fn gap(low: u16, high: u16, a: u16) -> i32
-    ensures { (result ≡ pos (outside low high a)) × (outside low high a ≤ 65535) }
-{
-    (above(65535 - low, a) + above(a, high)) as i32
-}
-
-// The touching value of a label and one at the nearest place of a region's box, with its largest radius.
-pub fn bound(r: Region, shape: u8, label: Label) -> Fraction
-    requires { (r.radius ≤ 16383) × (label.radius ≤ 16383) }
-    ensures { (result ≡ bound_of shape r label) × Small result }
-{
-    let dx = gap(r.west, r.east, marks::shifted(label.x));
-    let dy = gap(r.south, r.north, marks::shifted(label.y));
-    let radii = r.radius as u32 + label.radius as u32;
-    Fraction {
-        num: marks::distance(shape, dx, dy),
-        den: radii * radii,
-    }
+    put_region(w, at, c, own.taking_in(label, value, p as u16 + 1));
+    put_region(w, at, g, group.taking_in(label, value, 0));
 }

@@ -1,12 +1,12 @@
 -- What the contracts of the check cite. `s` is part 1, `p` part 2 and `t` part 3, whose n numbers are counted from 0.
-use Rattle.std.specs.Prelude.{ℕ, suc, ◌+◌, ◌*◌, ◌<◌, ◌≤◌, max, min, ◌≡◌, Bool, true, false, cond, ◌&&◌, List, length, leb}
+use Rattle.std.specs.Prelude.{ℕ, suc, ◌+◌, ◌*◌, ◌<◌, ◌≤◌, max, min, ◌≡◌, Bool, true, false, cond, List, length, Option, Some, None}
 use Rattle.marks.specs.Marks.{mark_size}
 use Rattle.elimination.specs.Records.{record_size}
 use Rattle.index.specs.Index.{beats, axis_key, index_entry_size}
 use Rattle.index.specs.Valid.{top, low, is_tree}
 use Rattle.index.specs.Blocks.{entry_at}
 use Rattle.index.specs.declared.Span.{Span}
-use Rattle.index.specs.declared.Finding.{Finding}
+use Rattle.index.specs.declared.Keys.{Keys}
 
 -- ---- what the check finds of a block
 
@@ -18,31 +18,25 @@ key_bound = 4294967296
 unfoldable pub span_of : (ℕ → ℕ) → List ℕ → Span
 span_of k l = record { low = low k key_bound l; high = top k l }
 
--- whether a list is a tree, and its keys by x and by y
-unfoldable pub finding_of : List ℕ → List ℕ → Bool → List ℕ → Finding
-finding_of s p axis l =
-    record {
-      ok = is_tree (beats p) (axis_key s) axis l;
-      x = span_of (axis_key s true) l;
-      y = span_of (axis_key s false) l;
-    }
+-- its keys by x and by y
+unfoldable pub keys_of : List ℕ → List ℕ → Keys
+keys_of s l = record { x = span_of (axis_key s true) l; y = span_of (axis_key s false) l }
+
+-- these, where it is a tree
+unfoldable pub keys_found : List ℕ → List ℕ → Bool → List ℕ → Option Keys
+keys_found s p axis l = cond (is_tree (beats p) (axis_key s) axis l) (Some (keys_of s l)) None
 
 -- the span of two halves and a root with the key k
 unfoldable pub join_spans : ℕ → Span → Span → Span
 join_spans k a b = record { low = min k (min a.low b.low); high = max (suc k) (max a.high b.high) }
 
 -- the keys by one axis
-abbrev pub side : Bool → Finding → Span
-side axis f = cond axis f.x f.y
+abbrev pub side : Bool → Keys → Span
+side axis k = cond axis k.x k.y
 
--- two halves and their root, with the keys kx and ky; `heads` says whether the root beats the heads of both
-unfoldable pub join_findings : Bool → Bool → ℕ → ℕ → Finding → Finding → Finding
-join_findings axis heads kx ky a b =
-    record {
-      ok = heads && leb (side axis a).high (side axis b).low && (a.ok && b.ok);
-      x = join_spans kx a.x b.x;
-      y = join_spans ky a.y b.y;
-    }
+-- the keys of two halves and a root with the keys kx and ky
+unfoldable pub join_keys : ℕ → ℕ → Keys → Keys → Keys
+join_keys kx ky a b = record { x = join_spans kx a.x b.x; y = join_spans ky a.y b.y }
 
 -- ---- what the functions need
 

@@ -1,14 +1,14 @@
 // Part 3 of a sheet, the index: its check. `marks`, `schedule` and `index` are the bytes of parts 1, 2 and 3; an `axis` is true for x.
 #![tactic(auto)]
 
-ghost use Rattle.std.specs.Prelude.{◌≡◌, true, ◌↔◌, ◌+◌, ◌*◌, ◌<◌, ◌≤◌, min, max, length};
+ghost use Rattle.std.specs.Prelude.{◌≡◌, true, ◌↔◌, ◌+◌, ◌*◌, ◌<◌, ◌≤◌, length};
 ghost use Rattle.lists.specs.Blocks.{block};
 ghost use Rattle.marks.specs.Marks.{mark_size};
 ghost use Rattle.elimination.specs.Records.{record_size};
 ghost use Rattle.index.specs.Index.{outlasts, beats, coordinate, axis_key, index_entry_size, is_index};
 ghost use Rattle.index.specs.Valid.{heads};
 ghost use Rattle.index.specs.Blocks.{entry_at};
-ghost use Rattle.index.specs.Check.{key_bound, finding_of, join_spans, side, join_findings, HeadCheckable, BlockCheckable, Checkable, AllBelow};
+ghost use Rattle.index.specs.Check.{key_bound, keys_found, join_spans, side, join_keys, HeadCheckable, BlockCheckable, Checkable, AllBelow};
 
 use fractions::Value;
 
@@ -18,13 +18,7 @@ use fractions::Value;
 pub fn outlasts(v: Value, a: usize, w: Value, b: usize) -> bool
     ensures { result ≡ outlasts v a w b }
 {
-    if fractions::later(v, w) {
-        return true;
-    }
-    if fractions::level(v, w) {
-        return a < b;
-    }
-    false
+    fractions::later(v, w) || (fractions::level(v, w) && a < b)
 }
 
 // The same of the values that their records name.
@@ -44,10 +38,12 @@ pub fn coordinate(marks: &[u8], axis: bool, m: usize) -> u64
     requires { mark_size * m + mark_size ≤ length marks.now }
     ensures { (result ≡ coordinate marks.now axis m) × (result < 65536) }
 {
-    if axis {
-        return marks::shifted(marks::place_x(marks, m)) as u64;
-    }
-    marks::shifted(marks::place_y(marks, m)) as u64
+    let place = if axis {
+        marks::place_x(marks, m)
+    } else {
+        marks::place_y(marks, m)
+    };
+    marks::shifted(place) as u64
 }
 
 // A mark's coordinate and number, as one number: equal coordinates are ordered by number.
@@ -81,55 +77,54 @@ struct Span {
     high: u64,
 }
 
-// What the check finds of a block: whether it is a tree, and its keys by x and by y. A block is tested by the findings of its
-// two halves alone, so the whole check takes time in proportion to n.
+impl Span {
+    // Without keys the least is past every key, and none is below `high`.
+    const EMPTY: Self = Span {
+        low: KEY_BOUND,
+        high: 0,
+    };
+
+    // The span of two halves and a root with this key.
+    fn join(self, other: Self, key: u64) -> Self
+        requires { key < key_bound }
+        ensures { result ≡ join_spans key self other }
+    {
+        Span {
+            low: key.min(self.low.min(other.low)),
+            high: (key + 1).max(self.high.max(other.high)),
+        }
+    }
+}
+
+// The keys of a block by x and by y.
 #[derive(Clone, Copy)]
-struct Finding {
-    ok: bool,
+struct Keys {
     x: Span,
     y: Span,
 }
 
-fn least(a: u64, b: u64) -> u64
-    ensures { result ≡ min a b }
-{
-    if a <= b { a } else { b }
-}
+impl Keys {
+    const EMPTY: Self = Keys {
+        x: Span::EMPTY,
+        y: Span::EMPTY,
+    };
 
-fn greatest(a: u64, b: u64) -> u64
-    ensures { result ≡ max a b }
-{
-    if a <= b { b } else { a }
-}
-
-// The span of two halves and a root with this key.
-fn join_spans(key: u64, a: Span, b: Span) -> Span
-    requires { key < key_bound }
-    ensures { result ≡ join_spans key a b }
-{
-    Span {
-        low: least(key, least(a.low, b.low)),
-        high: greatest(key + 1, greatest(a.high, b.high)),
+    // The keys by one axis.
+    fn side(self, axis: bool) -> Span
+        ensures { result ≡ side axis self }
+    {
+        if axis { self.x } else { self.y }
     }
-}
 
-fn side(axis: bool, f: Finding) -> Span
-    ensures { result ≡ side axis f }
-{
-    if axis { f.x } else { f.y }
-}
-
-// Two halves and their root, with the keys kx and ky; `heads` says whether the root beats the heads of both.
-fn join_findings(axis: bool, heads: bool, kx: u64, ky: u64, a: Finding, b: Finding) -> Finding
-    requires { (kx < key_bound) × (ky < key_bound) }
-    ensures { result ≡ join_findings axis heads kx ky a b }
-{
-    let left = side(axis, a);
-    let right = side(axis, b);
-    Finding {
-        ok: heads & (left.high <= right.low) & (a.ok & b.ok),
-        x: join_spans(kx, a.x, b.x),
-        y: join_spans(ky, a.y, b.y),
+    // The keys of two halves and of their root, which has the keys kx and ky.
+    fn join(self, other: Self, kx: u64, ky: u64) -> Self
+        requires { (kx < key_bound) × (ky < key_bound) }
+        ensures { result ≡ join_keys kx ky self other }
+    {
+        Keys {
+            x: self.x.join(other.x, kx),
+            y: self.y.join(other.y, ky),
+        }
     }
 }
 
@@ -138,13 +133,11 @@ fn beats_head(schedule: &[u8], index: &[u8], root: usize, lo: usize, size: usize
     requires { HeadCheckable schedule.now index.now root lo size }
     ensures { result ≡ heads (beats schedule.now) root (block (entry_at index.now) lo size) }
 {
-    if size == 0 {
-        return true;
-    }
-    beats(schedule, root, entry(index, lo))
+    size == 0 || beats(schedule, root, entry(index, lo))
 }
 
-// What the check finds of the `size` numbers of the index from number `lo` on.
+// The keys of the `size` numbers of the index from number `lo` on, where these are a tree. A block is tested by its root and the keys of its
+// two halves alone, so the whole check takes time in proportion to n.
 fn check_block(
     marks: &[u8],
     schedule: &[u8],
@@ -152,21 +145,12 @@ fn check_block(
     lo: usize,
     size: usize,
     axis: bool,
-) -> Finding
+) -> Option<Keys>
     requires { BlockCheckable marks.now schedule.now index.now lo size }
-    ensures { result ≡ finding_of marks.now schedule.now axis (block (entry_at index.now) lo size) }
+    ensures { result ≡ keys_found marks.now schedule.now axis (block (entry_at index.now) lo size) }
 {
     if size == 0 {
-        // Without keys the least is past every key, and none is below `high`.
-        let none = Span {
-            low: KEY_BOUND,
-            high: 0,
-        };
-        return Finding {
-            ok: true,
-            x: none,
-            y: none,
-        };
+        return Some(Keys::EMPTY);
     }
     let root = entry(index, lo);
     // Of the others the first half is the larger: half of `size`, rounded down, since `size` counts the root too.
@@ -174,13 +158,17 @@ fn check_block(
     let second = size - 1 - first;
     let p = lo + 1;
     let q = p + first;
-    let left = check_block(marks, schedule, index, p, first, !axis);
-    let right = check_block(marks, schedule, index, q, second, !axis);
     let beats_left = beats_head(schedule, index, root, p, first);
     let beats_right = beats_head(schedule, index, root, q, second);
+    if !(beats_left & beats_right) {
+        return None;
+    }
+    let left = check_block(marks, schedule, index, p, first, !axis)?;
+    let right = check_block(marks, schedule, index, q, second, !axis)?;
     let kx = axis_key(marks, true, root);
     let ky = axis_key(marks, false, root);
-    join_findings(axis, beats_left & beats_right, kx, ky, left, right)
+    let keys = left.join(right, kx, ky);
+    (left.side(axis).high <= right.side(axis).low).then_some(keys)
 }
 
 // ---- question 9
@@ -190,14 +178,7 @@ fn all_below(index: &[u8], n: usize) -> bool
     requires { index_entry_size * n ≤ length index.now }
     ensures { (result ≡ true) ↔ AllBelow index.now n }
 {
-    let mut i = 0;
-    while i < n {
-        if n <= entry(index, i) {
-            return false;
-        }
-        i += 1;
-    }
-    true
+    (0..n).all(|i| entry(index, i) < n)
 }
 
 // Is the index the tree that the n marks and their schedule give?
@@ -205,9 +186,5 @@ pub fn is_index(marks: &[u8], schedule: &[u8], index: &[u8], n: usize) -> bool
     requires { Checkable marks.now schedule.now index.now n }
     ensures { result ≡ is_index marks.now schedule.now index.now n }
 {
-    if all_below(index, n) {
-        let found = check_block(marks, schedule, index, 0, n, true);
-        return found.ok;
-    }
-    false
+    all_below(index, n) && check_block(marks, schedule, index, 0, n, true).is_some()
 }

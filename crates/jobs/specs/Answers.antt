@@ -1,5 +1,7 @@
 -- What the answers of the interface stand for.
-use Rattle.std.specs.Prelude.{ℕ, ◌<◌, ◌≡◌, List, ℤ, length}
+use Rattle.std.specs.Prelude.{ℕ, ◌<◌, ◌≡◌, List, ℤ, Result, Ok, Err, length}
+use Rattle.contents.specs.declared.Refusal.{Refusal}
+use Rattle.contents.specs.Refusals.{number}
 use Rattle.marks.specs.declared.Mark.{Mark}
 use Rattle.reaching.specs.declared.Window.{Window}
 use Rattle.jobs.specs.declared.Answer.{Answer}
@@ -12,6 +14,11 @@ answer_of o = record { number = o.number; value = o.value }
 -- "The first 'no' gives its number, with 0 for every length and count"
 abbrev pub refusal : ℕ → Answer
 refusal number = record { number = number; value = 0 }
+
+-- what a call answers of what it came to: a value, or a refusal
+abbrev pub answer_to : Result ℕ Refusal → Answer
+answer_to (Ok value) = record { number = 0; value = value }
+answer_to (Err r) = refusal (number r)
 
 -- the window of these edges, turned by so many quarter turns
 abbrev pub window : ℤ → ℤ → ℤ → ℤ → ℕ → Window

@@ -1,11 +1,12 @@
 // Sheets written: the contents, and the bodies one behind the other.
 #![tactic(auto)]
 
-ghost use Rattle.std.specs.Prelude.{◌≡◌, map, ℕ, ◌+◌, ◌<◌, ◌≤◌, leb, length, get_or, take};
+ghost use Rattle.std.specs.Prelude.{◌≡◌, map, ℕ, ◌+◌, ◌<◌, ◌≤◌, leb, length, get_or};
 ghost use Rattle.std.proofs.lemmas.List.Edits.{sets};
-ghost use Rattle.contents.specs.Contents.{contents_size, sizes_of, entry, contents_of, chain, join, together};
+ghost use Rattle.contents.specs.Contents.{contents_size, entry_size, sizes_of, entry, contents_of, chain, join, together};
 ghost use Rattle.contents.specs.Questions.{top_code};
 
+use arrayvec::ArrayVec;
 use contents::{COUNT_SIZE, ENTRY_SIZE, LENGTH, OFFSET, TOP};
 
 // Copies a body to `at`, and answers where it ends.
@@ -13,21 +14,17 @@ pub fn put(out: &mut [u8], at: usize, body: &[u8]) -> usize
     requires { at + length body.now ≤ length out.old }
     ensures { (result ≡ at + length body.now) × (out.new ≡ sets out.old at body.now) }
 {
-    let mut j = 0;
-    while j < body.len() {
-        out[at + j] = body[j];
-        j += 1;
-    }
-    at + body.len()
+    let end = at + body.len();
+    out[at..end].copy_from_slice(body);
+    end
 }
 
-// Writes entry i of the contents.
-fn put_entry(out: &mut [u8], i: usize, code: u16, offset: usize, size: usize)
-    requires { contents_size (i + 1) ≤ length out.old }
-    ensures { out.new ≡ sets out.old (contents_size i) (entry code offset size) }
+// Writes an entry of the contents at `at`.
+fn put_entry(out: &mut [u8], at: usize, code: u16, offset: usize, size: usize)
+    requires { at + entry_size ≤ length out.old }
+    ensures { out.new ≡ sets out.old at (entry code offset size) }
 {
-    let at = ENTRY_SIZE * i + COUNT_SIZE;
-    numbers::write(out, at, 2, code as u64);
+    numbers::write(out, at, 2, u64::from(code));
     numbers::write(out, at + OFFSET, 4, offset as u64);
     numbers::write(out, at + LENGTH, 4, size as u64);
 }
@@ -41,27 +38,24 @@ pub fn put_contents(out: &mut [u8], codes: &[u16], sizes: &[usize]) -> usize
     let count = codes.len();
     numbers::write(out, 0, 2, count as u64);
     let start = ENTRY_SIZE * count + COUNT_SIZE;
+    let mut at = COUNT_SIZE;
     let mut offset = start;
-    let mut i = 0;
-    while i < count {
-        let size = sizes[i];
-        put_entry(out, i, codes[i], offset, size);
+    for (&code, &size) in codes.iter().zip(sizes) {
+        put_entry(out, at, code, offset, size);
+        at += ENTRY_SIZE;
         offset += size;
-        i += 1;
     }
     start
 }
 
-// The sizes of at most as many bodies as there are codes; 0 behind the last.
-fn sizes_of(bodies: &[&[u8]]) -> [usize; TOP]
+// The sizes of at most as many bodies as there are codes.
+fn sizes_of(bodies: &[&[u8]]) -> ArrayVec<usize, TOP>
     requires { length bodies.now ≤ top_code }
-    ensures { (length result ≡ top_code) × (take (length bodies.now) result ≡ sizes_of (map (λ x. x.now) bodies.now)) }
+    ensures { result.items ≡ sizes_of (map (λ x. x.now) bodies.now) }
 {
-    let mut sizes = [0usize; TOP];
-    let mut i = 0;
-    while i < bodies.len() {
-        sizes[i] = contents::body_of(bodies, i).len();
-        i += 1;
+    let mut sizes = ArrayVec::new();
+    for body in bodies {
+        sizes.push(body.len());
     }
     sizes
 }
@@ -72,10 +66,8 @@ fn put_bodies(out: &mut [u8], start: usize, bodies: &[&[u8]]) -> usize
     ensures { (result ≡ start + length (chain (map (λ x. x.now) bodies.now))) × (out.new ≡ sets out.old start (chain (map (λ x. x.now) bodies.now))) }
 {
     let mut at = start;
-    let mut i = 0;
-    while i < bodies.len() {
-        at = put(out, at, contents::body_of(bodies, i));
-        i += 1;
+    for body in bodies {
+        at = put(out, at, body);
     }
     at
 }
@@ -85,14 +77,12 @@ fn fits(bodies: &[&[u8]], room: usize) -> bool
     ensures { result ≡ leb (length (chain (map (λ x. x.now) bodies.now))) room }
 {
     let mut left = room;
-    let mut i = 0;
-    while i < bodies.len() {
-        let size = contents::body_of(bodies, i).len();
+    for body in bodies {
+        let size = body.len();
         if left < size {
             return false;
         }
         left -= size;
-        i += 1;
     }
     true
 }
@@ -103,10 +93,7 @@ pub fn has_room(codes: &[u16], bodies: &[&[u8]], room: usize) -> bool
     ensures { result ≡ leb (length (join (together codes.now (map (λ x. x.now) bodies.now)))) room }
 {
     let head = ENTRY_SIZE * codes.len() + COUNT_SIZE;
-    if room < head {
-        return false;
-    }
-    fits(bodies, room - head)
+    head <= room && fits(bodies, room - head)
 }
 
 // Writes the sheet of the bodies under these codes at the start of `out`, and answers its length.
@@ -115,8 +102,7 @@ pub fn put_parts(out: &mut [u8], codes: &[u16], bodies: &[&[u8]]) -> usize
     requires bodies_in_bounds { (length (join (together codes.now (map (λ x. x.now) bodies.now))) ≤ length out.old) × (length (join (together codes.now (map (λ x. x.now) bodies.now))) < 4294967296) }
     ensures { (result ≡ length (join (together codes.now (map (λ x. x.now) bodies.now)))) × (out.new ≡ sets out.old 0 (join (together codes.now (map (λ x. x.now) bodies.now)))) }
 {
-    let count = bodies.len();
     let sizes = sizes_of(bodies);
-    let start = put_contents(out, codes, &sizes[..count]);
+    let start = put_contents(out, codes, sizes.as_slice());
     put_bodies(out, start, bodies)
 }

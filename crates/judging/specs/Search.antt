@@ -1,7 +1,8 @@
 -- What the contracts of the judge's search cite. `r` is a reel, `p` part 2 of its sheet and `t` part 3; an axis is true for x.
-use Rattle.std.specs.Prelude.{ℕ, suc, ◌+◌, ◌-◌, ◌*◌, ◌/◌, ◌<◌, ◌≤◌, ◌≡◌, Bool, true, false, not, cond, List, ◌≢◌, length, get_or}
+use Rattle.std.specs.Prelude.{ℕ, ◌+◌, ◌-◌, ◌*◌, ◌/◌, ◌<◌, ◌≤◌, ◌≡◌, Bool, true, false, not, cond, List, ◌≢◌, length, get_or}
 use Rattle.lists.specs.Tests.{every}
 use Rattle.lists.specs.Blocks.{block}
+use Rattle.numbers.specs.Little.{Bytes}
 use Rattle.marks.specs.Marks.{mark_size, used_at}
 use Rattle.elimination.specs.Reel.{Reel}
 use Rattle.index.specs.Index.{beats, coordinate, axis_key, index_entry_size, is_index}
@@ -50,62 +51,45 @@ pub record Judgeable (r : Reel) (p t : List ℕ) : Type 0 where
   pub index_long : length t ≡ index_entry_size * r.count
   pub index_right : is_index r.marks p t r.count ≡ true
 
--- the block is in the index, and the table holds its splits
+-- the block is among the places, and the table holds its splits
 pub record Searchable (r : Reel) (p t z : List ℕ) (q : Subject) (lo size : ℕ) (axis : Bool) : Type 0 where
-  pub indexed : Indexed r p t
   pub subject : Subjected r.marks r.count p q
   pub fits : Fits q
   pub tight_is : q.tight ≡ is_tight r.popups p q.m
   pub there : lo + size ≤ r.count
-  pub room : r.count ≤ length z
   pub splits : Table r.marks p t z lo size axis
 
 -- What a search of the places from lo on answers: if true, none of the marks there whose radius is within the bound clashes.
 pub record Searched (r : Reel) (p t : List ℕ) (q : Subject) (lo size : ℕ) (b : Bool) : Type 0 where
-  pub clear : b ≡ true → (bound : ℕ) → q ≡ subject_of r.shape r.marks r.popups p bound q.m
+  pub clear : b ≡ true → (bound : ℕ) → q ≡ subject_of r.marks r.popups p bound q.m
       → (i : ℕ) → lo ≤ i → i < lo + size → used_at r.marks (entry_at t i) ≤ bound → clash r p q.m (entry_at t i) ≡ false
   pub found : b ≡ false → (i : ℕ) × (lo ≤ i) × (i < lo + size) × (clash r p q.m (entry_at t i) ≡ true)
 
 -- ---- the marks whose radius is above the bound
 
--- as many as the list has room for
-abbrev pub most_large : ℕ
-most_large = 128
-
-abbrev pub advanced : ℕ → Bool → ℕ
-advanced k more = cond more (suc k) k
-
--- the first k of the list are marks
-abbrev pub AllListed : List ℕ → ℕ → ℕ → Type 0
-AllListed l k n = (k ≤ length l) × ((i : ℕ) → i < k → get_or l i 0 < n)
+-- all that are listed are marks
+abbrev pub AllListed : List ℕ → ℕ → Type 0
+AllListed l n = (i : ℕ) → i < length l → get_or l i 0 < n
 
 -- of the first m marks each that is above the bound is among the first k of the list
 pub record Listed (s : List ℕ) (n m bound : ℕ) (l : List ℕ) (k : ℕ) : Type 0 where
   pub marks : (i : ℕ) → i < k → get_or l i 0 < n
   pub all : (g : ℕ) → g < m → bound < used_at s g → (i : ℕ) × (i < k) × (get_or l i 0 ≡ g)
 
--- the list is whole, or the answer says that it is not
-pub record ListedOr (s : List ℕ) (n bound : ℕ) (l : List ℕ) (answer : ℕ) : Type 0 where
-  pub listed : answer ≤ most_large → Listed s n n bound l answer
-  pub long : length l ≡ most_large
-
-pub record LargeClear (r : Reel) (p : List ℕ) (m : ℕ) (l : List ℕ) (k : ℕ) (b : Bool) : Type 0 where
-  pub clear : b ≡ true → (i : ℕ) → i < k → clash r p m (get_or l i 0) ≡ false
-  pub found : b ≡ false → (i : ℕ) × (i < k) × (clash r p m (get_or l i 0) ≡ true)
-
--- the whole table of splits
-pub record Tabled (r : Reel) (p t z : List ℕ) : Type 0 where
-  pub indexed : Indexed r p t
-  pub index_right : is_index r.marks p t r.count ≡ true
-  pub room : r.count ≤ length z
-  pub splits : Table r.marks p t z 0 r.count true
-
--- and the list
-pub record Ready (r : Reel) (p t z l : List ℕ) (k bound : ℕ) : Type 0 where
-  pub tabled : Tabled r p t z
-  pub small : bound ≤ widest_radius
+-- the first k of the list are all of these, and there is room for them
+pub record ListedIn (s : List ℕ) (n bound : ℕ) (l : List ℕ) (k : ℕ) : Type 0 where
   pub fits : k ≤ length l
-  pub listed : Listed r.marks r.count r.count bound l k
+  pub listed : Listed s n n bound l k
+
+pub record LargeClear (r : Reel) (p : List ℕ) (m : ℕ) (l : List ℕ) (b : Bool) : Type 0 where
+  pub clear : b ≡ true → (i : ℕ) → i < length l → clash r p m (get_or l i 0) ≡ false
+  pub found : b ≡ false → (i : ℕ) × (i < length l) × (clash r p m (get_or l i 0) ≡ true)
+
+-- the table holds the splits of all places, and each mark that is above the bound is listed
+pub record Ready (r : Reel) (p t z l : List ℕ) (bound : ℕ) : Type 0 where
+  pub splits : Table r.marks p t z 0 r.count true
+  pub small : bound ≤ widest_radius
+  pub listed : Listed r.marks r.count r.count bound l (length l)
 
 -- ---- filling the table; `s` are the marks
 
@@ -123,7 +107,7 @@ pub record Fillable (s t z : List ℕ) (lo size : ℕ) : Type 0 where
   pub there : lo + size ≤ n
   pub room : n ≤ length z
 
--- The table is filled for a block, whatever schedule it is a tree by; c has the greatest coordinates of the block.
+-- The table is filled for a block, whatever schedule it is a tree by; c has the greatest coordinates of the block. What was read are bytes.
 pub record Filled (s t before after : List ℕ) (lo size : ℕ) (axis : Bool) (c : Corner) : Type 0 where
   pub splits : (p : List ℕ) → is_tree (beats p) (axis_key s) axis (block (entry_at t) lo size) ≡ true → Table s p t after lo size axis
   pub long : length after ≡ length before
@@ -133,6 +117,7 @@ pub record Filled (s t before after : List ℕ) (lo size : ℕ) (axis : Bool) (c
   pub y_is : Greatest (coordinate s false) (entry_at t) lo size c.y
   pub x_small : c.x < 65536
   pub y_small : c.y < 65536
+  pub bytes : Bytes s
 
 -- the greatest coordinate on an axis
 abbrev pub corner_on : Bool → Corner → ℕ

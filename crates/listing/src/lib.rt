@@ -65,10 +65,8 @@ fn put_marks(schedule: &[u8], out: &mut [u8], at: usize, n: usize) -> usize
     ensures { Wrote out.old out.new at (mark_lines (removal_at schedule.now) n) result }
 {
     let mut next = at;
-    let mut m = 0;
-    while m < n {
+    for m in 0..n {
         next = put_mark(schedule, out, next, m);
-        m += 1;
     }
     next
 }

@@ -1,10 +1,11 @@
 // Logs from the winder: what is asked of a log, the marks of a log, and the log of marks. `s` is a log or the marks' bytes.
 #![tactic(auto)]
 
-ghost use Rattle.std.specs.Prelude.{◌≡◌, true, ◌+◌, ◌*◌, ◌<◌, ◌≤◌, length};
+ghost use Rattle.std.specs.Prelude.{◌≡◌, true, [], ◌∷◌, ◌+◌, ◌*◌, ◌<◌, ◌≤◌, length, get_or};
 ghost use Rattle.std.proofs.lemmas.List.Edits.{sets};
 ghost use Rattle.marks.specs.Marks.{mark_size, place_bits};
 ghost use Rattle.contents.specs.Asking.{answer, in_turn};
+ghost use Rattle.contents.specs.Refusals.{told};
 ghost use Rattle.rows.specs.Rows.{rows};
 ghost use Rattle.packed.specs.Packed.{is_place, coordinate_at};
 ghost use Rattle.parts.specs.Questions.{field_questions};
@@ -12,6 +13,7 @@ ghost use Rattle.logs.specs.Log.{log_record_size, radius_of, kind_of, mark_of_re
 ghost use Rattle.logs.specs.Questions.{log_size, place_questions, record_questions, log_checks};
 ghost use Rattle.logs.specs.Right.{LogRight};
 
+use contents::Refusal;
 use marks::{MARK_SIZE, RADIUS_OFFSET, Y_OFFSET};
 
 // The bytes of a log's record, and where y, radius and kind begin.
@@ -29,76 +31,71 @@ const LOG_KIND_OFFSET: usize = 10;
 fn is_log(s: &[u8]) -> bool
     ensures { result ≡ log_size s.now }
 {
-    (s.len() % LOG_RECORD_SIZE == 0) & (s.len() / LOG_RECORD_SIZE <= 4096)
+    s.len() % LOG_RECORD_SIZE == 0 && s.len() / LOG_RECORD_SIZE <= 4096
+}
+
+// The three bytes of the coordinate at `at`.
+fn coordinate(s: &[u8], at: usize) -> [u8; 3]
+    requires { at + 3 ≤ length s.now }
+    ensures { result ≡ get_or s.now at 0 ∷ get_or s.now (at + 1) 0 ∷ get_or s.now (at + 2) 0 ∷ [] }
+{
+    [s[at], s[at + 1], s[at + 2]]
 }
 
 // 15 and 16, of the coordinate at `at`.
-fn place_answer(s: &[u8], at: usize) -> u32
+fn check_place(s: &[u8], at: usize) -> Result<(), Refusal>
     requires { at + 3 ≤ length s.now }
-    ensures { result ≡ answer (place_questions s.now at) }
+    ensures { told result ≡ answer (place_questions s.now at) }
 {
-    let a = s[at];
-    let b = s[at + 1];
-    let c = s[at + 2];
+    let [a, b, c] = coordinate(s, at);
     if !packed::is_packed(a, b, c) {
-        return 15;
+        return Err(Refusal::Packed);
     }
-    if packed::is_place(packed::is_minus(c), packed::magnitude(a, b, c)) {
-        return 0;
+    if !packed::is_place(packed::is_minus(c), packed::magnitude(a, b, c)) {
+        return Err(Refusal::Place);
     }
-    16
+    Ok(())
 }
 
 // 5 and 6, of record r.
-fn field_answer(s: &[u8], r: usize) -> u32
+fn check_fields(s: &[u8], r: usize) -> Result<(), Refusal>
     requires { log_record_size * r + log_record_size ≤ length s.now }
-    ensures { result ≡ answer (field_questions (kind_of s.now r) (radius_of s.now r)) }
+    ensures { told result ≡ answer (field_questions (kind_of s.now r) (radius_of s.now r)) }
 {
     let kind = numbers::read(s, LOG_RECORD_SIZE * r + LOG_KIND_OFFSET, 1) as u8;
     let radius = numbers::read_u16(s, LOG_RECORD_SIZE * r + LOG_RADIUS_OFFSET);
-    parts::fields_answer(kind, radius)
+    parts::check_fields(kind, radius)
 }
 
 // All questions of record r: x, y, and then the fields.
-fn record_answer(s: &[u8], r: usize) -> u32
+fn check_record(s: &[u8], r: usize) -> Result<(), Refusal>
     requires { log_record_size * r + log_record_size ≤ length s.now }
-    ensures { result ≡ answer (record_questions s.now r) }
+    ensures { told result ≡ answer (record_questions s.now r) }
 {
-    let x = place_answer(s, LOG_RECORD_SIZE * r);
-    if x != 0 {
-        return x;
-    }
-    let y = place_answer(s, LOG_RECORD_SIZE * r + LOG_Y_OFFSET);
-    if y != 0 {
-        return y;
-    }
-    field_answer(s, r)
+    check_place(s, LOG_RECORD_SIZE * r)?;
+    check_place(s, LOG_RECORD_SIZE * r + LOG_Y_OFFSET)?;
+    check_fields(s, r)
 }
 
-// Record by record: the first 'no' of the first n, or 0.
-fn records_answer(s: &[u8], n: usize) -> u32
+// Record by record, of the first n.
+fn check_records(s: &[u8], n: usize) -> Result<(), Refusal>
     requires { log_record_size * n ≤ length s.now }
-    ensures { result ≡ answer (in_turn (record_questions s.now) n) }
+    ensures { told result ≡ answer (in_turn (record_questions s.now) n) }
 {
-    let mut r = 0;
-    while r < n {
-        let number = record_answer(s, r);
-        if number != 0 {
-            return number;
-        }
-        r += 1;
+    for r in 0..n {
+        check_record(s, r)?;
     }
-    0
+    Ok(())
 }
 
-// All questions of a log but 13: the first 'no', or 0.
-pub fn log_answer(s: &[u8]) -> u32
-    ensures { result ≡ answer (log_checks s.now) }
+// All questions of a log but 13.
+pub fn check_log(s: &[u8]) -> Result<(), Refusal>
+    ensures { told result ≡ answer (log_checks s.now) }
 {
     if !is_log(s) {
-        return 4;
+        return Err(Refusal::MarksSize);
     }
-    records_answer(s, s.len() / LOG_RECORD_SIZE)
+    check_records(s, s.len() / LOG_RECORD_SIZE)
 }
 
 // ---- logs into marks
@@ -108,9 +105,7 @@ fn place_bits(s: &[u8], at: usize) -> u32
     requires { (at + 3 ≤ length s.now) × (is_place (coordinate_at s.now at) ≡ true) }
     ensures { result ≡ place_bits (coordinate_at s.now at) }
 {
-    let a = s[at];
-    let b = s[at + 1];
-    let c = s[at + 2];
+    let [a, b, c] = coordinate(s, at);
     packed::bits_of(packed::is_minus(c), packed::magnitude(a, b, c))
 }
 
@@ -135,10 +130,8 @@ pub fn put_marks(out: &mut [u8], s: &[u8], n: usize)
     requires { LogRight s.now n × (mark_size * n ≤ length out.old) }
     ensures { out.new ≡ sets out.old 0 (rows (mark_of_record s.now) n) }
 {
-    let mut r = 0;
-    while r < n {
+    for r in 0..n {
         put_mark(out, s, n, r);
-        r += 1;
     }
 }
 
@@ -167,9 +160,7 @@ pub fn put_records(out: &mut [u8], s: &[u8], n: usize)
     requires { (mark_size * n ≤ length s.now) × (log_record_size * n ≤ length out.old) }
     ensures { out.new ≡ sets out.old 0 (rows (record_of_mark s.now) n) }
 {
-    let mut m = 0;
-    while m < n {
+    for m in 0..n {
         put_record(out, s, m);
-        m += 1;
     }
 }

@@ -13,7 +13,7 @@ use Rattle.numbers.specs.Little.{le_at, signed, Bytes}
 use Rattle.numbers.proofs.Laws.{le_bound, signed_fits}
 use Rattle.fractions.specs.Order.{Small}
 use Rattle.marks.specs.Marks.{mark_size, y_offset, priority_offset, radius_at, kind_at, priority_at, used_at, house_of, is_kind, is_radius, used_radius}
-use Rattle.marks.specs.declared.House.TheVariants.{Radius, Refused}
+use Rattle.std.specs.Prelude.{Some, None}
 use Rattle.marks.specs.declared.Label.{Label}
 use Rattle.marks.specs.Marks.{Group, note, spot, streak, patch, break, kind_group, group_number, group_radius, house_radius, old_group_radius, old_radius}
 use Rattle.marks.specs.Marks.{label_at, apart, larger, distance, touching_of, touching, rank_radius, outranks, rank_key}
@@ -21,11 +21,11 @@ use Rattle.marks.specs.Marks.{label_at, apart, larger, distance, touching_of, to
 -- ---- kinds
 
 -- the kinds that have a house radius are those below 200, and that is theirs
-pub house_there : (kind : ℕ) → kind < 200 → house_of kind ≡ Radius (house_radius kind)
+pub house_there : (kind : ℕ) → kind < 200 → house_of kind ≡ Some (house_radius kind)
 unfolding house_of
 house_there kind h = rw (lt-ltb kind 200 h)
 
-pub house_none : (kind : ℕ) → 200 ≤ kind → house_of kind ≡ Refused
+pub house_none : (kind : ℕ) → 200 ≤ kind → house_of kind ≡ None
 unfolding house_of
 house_none kind h = rw (le-ltb kind 200 h)
 

@@ -1,11 +1,9 @@
 -- 01, "A mark" and "Touching, rank, removal" up to the process, with the house radii of 02, request 2, the rank by editions of request 6 and the shapes of request 13. `s` is part 1 of a sheet, the marks' bytes, and `m` a mark's number.
-use Rattle.std.specs.Prelude.{ℕ, suc, ◌+◌, ◌-◌, ◌*◌, Bool, cond, ◌&&◌, ◌||◌, List, ◌++◌, ltb, leb, eqb, ℤ, pos, negsuc, ◌-ℤ◌, nat_abs}
+use Rattle.std.specs.Prelude.{ℕ, suc, ◌+◌, ◌-◌, ◌*◌, Bool, cond, ◌&&◌, ◌||◌, List, ◌++◌, ltb, leb, eqb, ℤ, pos, negsuc, ◌-ℤ◌, nat_abs, Option, Some, None}
 use Rattle.numbers.specs.Little.{le_at, le_bytes, signed}
 use Rattle.fractions.specs.declared.Fraction.{Fraction}
 use Rattle.marks.specs.declared.Mark.{Mark}
-use Rattle.marks.specs.declared.House.{House}
 use Rattle.marks.specs.declared.Label.{Label}
-use Rattle.marks.specs.declared.House.TheVariants.{Radius, Refused}
 
 -- ---- "A mark takes 11 bytes: place x and y (signed, 2 bytes each, map units), radius (2, screen pixels),
 -- priority (2, higher is more important), kind (1), tag (2, not interpreted)."
@@ -107,13 +105,13 @@ unfoldable pub old_radius : ℕ → ℕ
 old_radius kind = old_group_radius (kind_group kind)
 
 -- "Kinds 200 to 255 don't exist." The house radius of a kind, or refusal 5.
-unfoldable pub house_of : ℕ → House
-house_of kind = cond (ltb kind 200) (Radius (house_radius kind)) Refused
+unfoldable pub house_of : ℕ → Option ℕ
+house_of kind = cond (ltb kind 200) (Some (house_radius kind)) None
 
 -- what each answer stands for: its number, "5. .. is the kind below 200?"
-abbrev pub house_number : House → ℕ
-house_number (Radius radius) = 0
-house_number Refused = 5
+abbrev pub house_number : Option ℕ → ℕ
+house_number (Some radius) = 0
+house_number None = 5
 
 -- 5. "is the kind below 200?": `kind_iff` of Laws
 unfoldable pub is_kind : ℕ → Bool

@@ -1,7 +1,7 @@
 // The fields of a mark, its used radius, touching and rank. `s` is part 1 of a sheet and `m` a mark's number.
 #![tactic(auto)]
 
-ghost use Rattle.std.specs.Prelude.{◌≡◌, ◌⊎◌, ◌+◌, ◌*◌, ◌/◌, ◌%◌, ◌<◌, ◌≤◌, length, ◌-ℤ◌, nat_abs};
+ghost use Rattle.std.specs.Prelude.{◌≡◌, ◌⊎◌, ◌+◌, ◌*◌, ◌<◌, ◌≤◌, length, ◌-ℤ◌, nat_abs};
 ghost use Rattle.numbers.specs.Little.{le_bytes};
 ghost use Rattle.fractions.specs.Order.{Small};
 ghost use Rattle.marks.specs.Pairs.{popup_size, popup_at, pair_of, pair_value, GoodPopup};
@@ -25,6 +25,7 @@ pub const KIND_OFFSET: usize = 8;
 pub const TAG_OFFSET: usize = 9;
 
 // The shape of part 7 that is a square; any other is a disk.
+// Kept: shapes, editions and kinds are the sheet's bytes and no enums, since the definitions `distance`, `rank_radius` and `kind_group` take any.
 pub const SQUARE: u8 = 2;
 
 // The bytes of a popup.
@@ -77,7 +78,7 @@ pub fn kind_at(s: &[u8], m: usize) -> u8
 
 // ---- a mark by its fields
 
-#[derive(Clone, Copy)]
+#[derive(Clone, Copy, Debug, PartialEq, Eq)]
 pub struct Mark {
     pub x: i16,
     pub y: i16,
@@ -87,73 +88,45 @@ pub struct Mark {
     pub tag: u16,
 }
 
-// The 16 bits of a place. A cast must not lose the sign, so the shifted place is shifted back, and one below 0 stands in the upper half.
+// The 16 bits of a place: one below 0 stands in the upper half.
 fn place_bits(v: i16) -> u16
     ensures { result ≡ place_bits v }
 {
-    let s = shifted(v);
-    if s < 32768 {
-        return s + 32768;
-    }
-    s - 32768
-}
-
-fn low_byte(v: u16) -> u8
-    ensures { result ≡ v % 256 }
-{
-    (v % 256) as u8
-}
-
-fn high_byte(v: u16) -> u8
-    ensures { result ≡ v / 256 % 256 }
-{
-    (v / 256) as u8
+    v.cast_unsigned()
 }
 
 // The bytes of a mark, as a sheet has them.
-pub fn mark_bytes(a: Mark) -> [u8; 11]
+pub fn mark_bytes(a: Mark) -> [u8; MARK_SIZE]
     ensures { result ≡ mark_bytes a }
 {
-    let x = place_bits(a.x);
-    let y = place_bits(a.y);
-    [
-        low_byte(x),
-        high_byte(x),
-        low_byte(y),
-        high_byte(y),
-        low_byte(a.radius),
-        high_byte(a.radius),
-        low_byte(a.priority),
-        high_byte(a.priority),
-        a.kind,
-        low_byte(a.tag),
-        high_byte(a.tag),
-    ]
+    let [x0, x1] = place_bits(a.x).to_le_bytes();
+    let [y0, y1] = place_bits(a.y).to_le_bytes();
+    let [r0, r1] = a.radius.to_le_bytes();
+    let [p0, p1] = a.priority.to_le_bytes();
+    let [t0, t1] = a.tag.to_le_bytes();
+    [x0, x1, y0, y1, r0, r1, p0, p1, a.kind, t0, t1]
 }
 
 // ---- the kind and the radius
 
-// The house radius of a kind, or refusal 5.
-#[derive(Clone, Copy)]
-pub enum House {
-    Radius(u16),
-    Refused,
-}
-
-pub fn house_radius(kind: u8) -> House
+// The house radius of a kind, and none where 5 refuses it.
+#[tactic(auto, using(std::proofs::lemmas::Bool::Decides::nat_tests), unfolding(crate::specs::Marks::house_of, crate::specs::Marks::house_radius, crate::specs::Marks::kind_group))]
+pub fn house_radius(kind: u8) -> Option<u16>
     ensures { result ≡ house_of kind }
 {
     match kind {
-        0..=9 => House::Radius(40),
-        10..=49 => House::Radius(60),
-        50..=99 => House::Radius(90),
-        100..=149 => House::Radius(150),
-        150..=199 => House::Radius(200),
-        _ => House::Refused,
+        0..=9 => Some(40),
+        10..=49 => Some(60),
+        50..=99 => Some(90),
+        100..=149 => Some(150),
+        150..=199 => Some(200),
+        _ => None,
     }
 }
 
 // The number of a kind's group. Kinds above 199 do not exist; the definition counts them with the last group.
+// Kept: a number and no enum, since 02, request 12, and the definition `group_number` name the groups by it.
+#[tactic(auto, using(std::proofs::lemmas::Bool::Decides::nat_tests), unfolding(crate::specs::Marks::kind_group))]
 pub fn group_of(kind: u8) -> u8
     ensures { result ≡ group_number (kind_group kind) }
 {
@@ -167,6 +140,8 @@ pub fn group_of(kind: u8) -> u8
 }
 
 // The number in 01's old table, in which a moisture patch has 120: filling goes by it.
+// Kept: a table beside that of the house radii, since a reader compares each with its own in 01 and 02, row by row.
+#[tactic(auto, using(std::proofs::lemmas::Bool::Decides::nat_tests), unfolding(crate::specs::Marks::old_radius, crate::specs::Marks::kind_group))]
 pub fn old_radius(kind: u8) -> u16
     ensures { result ≡ old_radius kind }
 {
@@ -187,10 +162,7 @@ pub fn used_radius(radius: u16, kind: u8) -> u16
     if radius != 0 {
         return radius;
     }
-    match house_radius(kind) {
-        House::Radius(house) => house,
-        House::Refused => 200,
-    }
+    house_radius(kind).unwrap_or(200)
 }
 
 pub fn radius_at(s: &[u8], m: usize) -> u16
@@ -226,11 +198,11 @@ pub fn distance(shape: u8, dx: i32, dy: i32) -> u64
     if shape != SQUARE {
         return x + y;
     }
-    if x <= y { y } else { x }
+    x.max(y)
 }
 
 // What is drawn of a mark: its place and its used radius.
-#[derive(Clone, Copy)]
+#[derive(Clone, Copy, Debug, PartialEq, Eq)]
 pub struct Label {
     pub x: i16,
     pub y: i16,
@@ -256,7 +228,7 @@ pub fn touching_of(shape: u8, a: Label, b: Label) -> Fraction
     let radii = a.radius as u32 + b.radius as u32;
     let num = distance(shape, difference(a.x, b.x), difference(a.y, b.y));
     let den = radii * radii;
-    Fraction { num: num, den: den }
+    Fraction { num, den }
 }
 
 // The same of marks a and b of a sheet.
@@ -275,26 +247,24 @@ pub fn popup_at(popups: &[u8], m: usize) -> u32
     requires { (length popups.now ≡ 0) ⊎ (popup_size * m + popup_size ≤ length popups.now) }
     ensures { result ≡ popup_at popups.now m }
 {
-    if popups.len() == 0 {
+    if popups.is_empty() {
         return 0;
     }
     numbers::read_u32(popups, POPUP_SIZE * m)
 }
 
 // The bytes of a popup, as part 5 has them.
-pub fn popup_bytes(k: u32) -> [u8; 4]
+pub fn popup_bytes(k: u32) -> [u8; POPUP_SIZE]
     ensures { result ≡ le_bytes popup_size k }
 {
-    let mut row = [0u8; POPUP_SIZE];
-    numbers::write(&mut row, 0, POPUP_SIZE, k as u64);
-    row
+    k.to_le_bytes()
 }
 
-// The larger of two popups.
+// The larger of two popups. Kept: the definition of the pair value names it.
 pub fn larger(a: u32, b: u32) -> u32
     ensures { result ≡ larger a b }
 {
-    if a <= b { b } else { a }
+    a.max(b)
 }
 
 // The pair value, from a touching value and the larger k of the two: the popup's value where it exceeds the touching value.
@@ -318,7 +288,7 @@ pub fn pair(s: &[u8], shape: u8, popups: &[u8], a: usize, b: usize) -> Fraction
     ensures { result ≡ pair_value shape s.now popups.now a b }
 {
     let touch = touching(s, shape, a, b);
-    if popups.len() == 0 {
+    if popups.is_empty() {
         return touch;
     }
     pair_of(touch, larger(popup_at(popups, a), popup_at(popups, b)))
@@ -338,6 +308,7 @@ fn rank_radius(s: &[u8], edition: u8, m: usize) -> u16
 }
 
 // Does mark a rank higher than mark b? The radii are read only where the priorities are equal.
+// Kept: two tests and no chain of `cmp` and `then_with`, which would take a closure for each step; a comparison of triples would read both radii.
 pub fn outranks(s: &[u8], edition: u8, a: usize, b: usize) -> bool
     requires { (mark_size * a + mark_size ≤ length s.now) × (mark_size * b + mark_size ≤ length s.now) }
     ensures { result ≡ outranks edition s.now a b }
@@ -349,10 +320,7 @@ pub fn outranks(s: &[u8], edition: u8, a: usize, b: usize) -> bool
     }
     let u = rank_radius(s, edition, a);
     let v = rank_radius(s, edition, b);
-    if u != v {
-        return v < u;
-    }
-    a < b
+    (v, a) < (u, b)
 }
 
 // The rank as one number, the smaller the higher.

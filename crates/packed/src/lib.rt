@@ -7,6 +7,11 @@ ghost use Rattle.numbers.specs.Little.{signed};
 ghost use Rattle.marks.specs.Marks.{place_bits};
 ghost use Rattle.packed.specs.Packed.{magnitude, is_minus, with_sign, are_digits, is_last, is_packed, is_place, packed, packed_of};
 
+// The last half: plus or minus.
+const PLUS: u8 = 12;
+
+const MINUS: u8 = 13;
+
 // The half of a byte that comes first.
 fn upper(b: u8) -> u32
     ensures { result ≡ b / 16 }
@@ -30,7 +35,7 @@ pub fn magnitude(a: u8, b: u8, c: u8) -> u32
 pub fn is_minus(c: u8) -> bool
     ensures { result ≡ is_minus c }
 {
-    c % 16 == 13
+    c % 16 == MINUS
 }
 
 // Are both halves digits?
@@ -44,7 +49,7 @@ fn are_digits(b: u8) -> bool
 fn is_last(c: u8) -> bool
     ensures { result ≡ is_last c }
 {
-    (c / 16 <= 9) & ((c % 16 == 12) | (c % 16 == 13))
+    (c / 16 <= 9) & ((c % 16 == PLUS) | (c % 16 == MINUS))
 }
 
 // 15. Five digits and a sign, and not minus zero?
@@ -90,9 +95,7 @@ pub fn put_place(out: &mut [u8], at: usize, u: u16)
     requires { at + 3 ≤ length out.old }
     ensures { out.new ≡ sets out.old at (packed (signed 2 u)) }
 {
-    if u < 32768 {
-        put_packed(out, at, u as u32, 12);
-        return;
-    }
-    put_packed(out, at, 65536 - u as u32, 13);
+    let v = numbers::signed_u16(u);
+    let sign = if v < 0 { MINUS } else { PLUS };
+    put_packed(out, at, u32::from(v.unsigned_abs()), sign);
 }

@@ -6,14 +6,16 @@ use Rattle.elimination.specs.Reel.{Reel, GoodReel}
 use Rattle.marks.specs.Marks.{mark_size, house_of, house_number, is_kind}
 use Rattle.marks.specs.Pairs.{popup_size, popup_at, GoodPopups}
 use Rattle.marks.specs.Good.{GoodMarks}
-use Rattle.marks.specs.declared.House.{House}
-use Rattle.marks.specs.declared.House.TheVariants.{Radius, Refused}
+use Rattle.std.specs.Prelude.{Option}
+use Rattle.std.specs.Prelude.{Some, None}
 use Rattle.contents.specs.Asking.{◌asks◌, answer}
 use Rattle.contents.proofs.Laws.{Numbered}
 use Rattle.parts.specs.Questions.{mark_count, field_questions, part1_questions, is_choice, is_popups, is_schedule}
 use Rattle.parts.proofs.Lemmas.Numbered as Numbering
 use Rattle.parts.proofs.Lemmas.Deciding as Deciding
 use Rattle.parts.proofs.Lemmas.Records as Records
+-- what `all` answers over a range that begins at 0
+pub use Rattle.parts.proofs.Lemmas.Ranges.{every_from_all}
 
 -- No question of the marks bears the number 0.
 pub part1_numbered : (s : List ℕ) → Numbered (part1_questions s)
@@ -24,9 +26,9 @@ pub kind_answer : (kind : ℕ) → answer ((5 asks is_kind kind) ∷ []) ≡ hou
 unfolding answer is_kind
 kind_answer kind = go (house_of kind)
   where
-    go : (r : House) → answer ((5 asks eqb (house_number r) 0) ∷ []) ≡ house_number r
-    go (Radius radius) = refl
-    go Refused = refl
+    go : (r : Option ℕ) → answer ((5 asks eqb (house_number r) 0) ∷ []) ≡ house_number r
+    go (Some radius) = refl
+    go None = refl
 
 -- what the answer 0 to questions 5 and 6 says
 pub field_iff : (kind radius : ℕ) → (answer (field_questions kind radius) ≡ 0) ↔ ((kind < 200) × (radius ≤ 16383))

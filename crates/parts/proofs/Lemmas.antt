@@ -2,3 +2,4 @@
 pub mod Numbered
 pub mod Deciding
 pub mod Records
+pub mod Ranges

@@ -6,8 +6,8 @@ use Rattle.std.specs.Int.Signed.{le_z}
 use borrow.Author.Tests.{leb-true, le-leb, ne_eqb}
 use Rattle.zoom.specs.declared.Zoom.{Zoom}
 use Rattle.zoom.specs.Zoom.{scale_of}
-use Rattle.zoom.specs.declared.Scale.{Scale}
-use Rattle.zoom.specs.declared.Scale.TheVariants.{Taken, Refused}
+use Rattle.std.specs.Prelude.{Option}
+use Rattle.std.specs.Prelude.{Some, None}
 use Rattle.marks.specs.Marks.{used_at}
 use Rattle.marks.proofs.Laws.{distance_grows}
 use Rattle.lists.proofs.TestLaws.{and_left, and_right}
@@ -96,7 +96,7 @@ module _ (s : List ℕ) (w : Window) (zoom : Zoom) (room : ℕ) (ok : answer (in
 -- ---- the zoom
 
 -- Asking question 12 of a zoom answers its number.
-pub zoom_answer : (r : Scale) → answer ((12 asks is_taken r) ∷ []) ≡ scale_number r
+pub zoom_answer : (r : Option ℕ) → answer ((12 asks is_taken r) ∷ []) ≡ scale_number r
 unfolding answer
-zoom_answer (Taken k) = refl
-zoom_answer Refused = refl
+zoom_answer (Some k) = refl
+zoom_answer None = refl

@@ -1,9 +1,7 @@
 -- Questions 20 and 11 to 13, and the jobs that ask them: viewing and walking.
-use Rattle.std.specs.Prelude.{ℕ, ◌≡◌, Bool, true, ◌&&◌, List, [], ◌∷◌, ◌++◌, length, leb, eqb, ℤ, pos, negsuc}
+use Rattle.std.specs.Prelude.{ℕ, ◌≡◌, Bool, true, ◌&&◌, List, [], ◌∷◌, ◌++◌, length, leb, eqb, ℤ, pos, negsuc, Option, Some, None}
 use Rattle.std.specs.Int.Signed.{le_z}
 use Rattle.zoom.specs.declared.Zoom.{Zoom}
-use Rattle.zoom.specs.declared.Scale.{Scale}
-use Rattle.zoom.specs.declared.Scale.TheVariants.{Taken, Refused}
 use Rattle.zoom.specs.Zoom.{scale_of}
 use Rattle.contents.specs.Asking.{Question, ◌asks◌, if_there}
 use Rattle.sheet.specs.Questions.{indexed_questions, sheet_count, sheet_shape}
@@ -30,11 +28,11 @@ unfoldable pub question11 : Window → Bool
 question11 w = le_z w.x0 w.x1 && le_z w.y0 w.y1
 
 -- 12. "Is the zoom taken?"
-abbrev pub scale_number : Scale → ℕ
-scale_number (Taken k) = 0
-scale_number Refused = 12
+abbrev pub scale_number : Option ℕ → ℕ
+scale_number (Some k) = 0
+scale_number None = 12
 
-abbrev pub is_taken : Scale → Bool
+abbrev pub is_taken : Option ℕ → Bool
 is_taken r = eqb (scale_number r) 0
 
 -- "viewing 1 to 13", with 20 "between 10 and 11". `room` is the length of the lent map.

@@ -2,19 +2,19 @@
 // of parts 1 and 5 of a sheet, the latter empty where it is not there; `shape` is that of the labels.
 #![tactic(auto)]
 
-ghost use Rattle.std.specs.Prelude.{◌≡◌, true, ◌+◌, ◌-◌, ◌*◌, ◌≤◌, length, pos};
+ghost use Rattle.std.specs.Prelude.{◌≡◌, true, ◌+◌, ◌*◌, ◌≤◌, length, pos};
 ghost use Rattle.zoom.specs.Zoom.{largest_scale};
 ghost use Rattle.marks.specs.Marks.{mark_size, shifted};
 ghost use Rattle.marks.specs.Pairs.{GoodPopup};
 ghost use Rattle.reaching.specs.Questions.{is_edge, IsEdge, is_window, question20, question11};
-ghost use Rattle.reaching.specs.Turning.{corner_of, lower, higher, turned_back, Edged, gap_here, reaches_here, visible_here};
+ghost use Rattle.reaching.specs.Turning.{corner_of, turned_back, Edged, gap_here, reaches_here, visible_here};
 
 use turns::Place;
 
 // ---- windows
 
 // What a view asks for: the edges, in places that are turned by so many quarter turns.
-#[derive(Clone, Copy)]
+#[derive(Clone, Copy, Debug, PartialEq, Eq)]
 pub struct Window {
     pub x0: i32,
     pub x1: i32,
@@ -26,7 +26,7 @@ pub struct Window {
 fn is_edge(v: i32) -> bool
     ensures { result ≡ is_edge v }
 {
-    (-32768 <= v) & (v <= 32768)
+    (-32768..=32768).contains(&v)
 }
 
 // Is the turn one of 0 to 3, and does each edge lie in the range of turned places?
@@ -39,16 +39,11 @@ fn is_window(window: Window) -> bool
 }
 
 // 20. Is this a window, and not turned where the labels are squares?
+#[tactic(auto, using(std::proofs::lemmas::Bool::Decides::nat_tests), unfolding(crate::specs::Questions::question20))]
 pub fn is_taken(shape: u8, window: Window) -> bool
     ensures { result ≡ question20 shape window }
 {
-    if !is_window(window) {
-        return false;
-    }
-    if shape != marks::SQUARE {
-        return true;
-    }
-    window.turn == 0
+    is_window(window) && (shape != marks::SQUARE || window.turn == 0)
 }
 
 // 11. Is x0 ≤ x1 and y0 ≤ y1?
@@ -60,7 +55,7 @@ pub fn is_ordered(window: Window) -> bool
 
 // Edges as the index orders places, shifted to be at least 0: those of a window, which decide who is shown, or those widened on each side, so
 // that the point of every shown mark lies in them, which decide which halves are searched.
-#[derive(Clone, Copy)]
+#[derive(Clone, Copy, Debug, PartialEq, Eq)]
 pub struct Bounds {
     pub x0: u32,
     pub x1: u32,
@@ -69,7 +64,7 @@ pub struct Bounds {
 }
 
 // A corner of a window, shifted likewise.
-#[derive(Clone, Copy)]
+#[derive(Clone, Copy, Debug, PartialEq, Eq)]
 struct Corner {
     x: u32,
     y: u32,
@@ -94,18 +89,6 @@ fn turned_corner(quarters: u8, x: i32, y: i32) -> Corner
     }
 }
 
-fn lower(a: u32, b: u32) -> u32
-    ensures { result ≡ lower a b }
-{
-    if a <= b { a } else { b }
-}
-
-fn higher(a: u32, b: u32) -> u32
-    ensures { result ≡ higher a b }
-{
-    if a <= b { b } else { a }
-}
-
 // The window in the sheet's own places: two corners are turned on until all four quarter turns are made, which change no place. So the marks
 // need not be turned, nor the index.
 pub fn turned_back(window: Window) -> Bounds
@@ -116,31 +99,21 @@ pub fn turned_back(window: Window) -> Bounds
     let a = turned_corner(quarters, window.x0, window.y0);
     let b = turned_corner(quarters, window.x1, window.y1);
     Bounds {
-        x0: lower(a.x, b.x),
-        x1: higher(a.x, b.x),
-        y0: lower(a.y, b.y),
-        y1: higher(a.y, b.y),
+        x0: a.x.min(b.x),
+        x1: a.x.max(b.x),
+        y0: a.y.min(b.y),
+        y1: a.y.max(b.y),
     }
 }
 
 // ---- who is shown
-
-// How far a lies above b: 0 where it does not.
-pub fn above(a: u32, b: u32) -> u32
-    ensures { result ≡ a - b }
-{
-    if b < a {
-        return a - b;
-    }
-    0
-}
 
 // How far, on an axis, a coordinate lies from the interval from `low` to `high`: 0 in it. One of the two differences is 0 where low ≤ high.
 fn gap(low: u32, high: u32, coordinate: u32) -> i32
     requires { (low ≤ 65536) × (coordinate ≤ 65536) }
     ensures { (result ≡ pos (gap_here low high coordinate)) × (gap_here low high coordinate ≤ 131072) }
 {
-    (above(low, coordinate) + above(coordinate, high)) as i32
+    (low.saturating_sub(coordinate) + coordinate.saturating_sub(high)) as i32
 }
 
 // Does mark m's label at z = k/64 reach the window, touching included? Both products fit 64 bits. Where the point lies inside the radius

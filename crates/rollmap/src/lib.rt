@@ -5,10 +5,11 @@ ghost use Rattle.std.specs.Prelude.{◌≡◌, map, length};
 ghost use Rattle.changing.specs.Changing.{added, taken_out, added_popup, taken_out_popup};
 ghost use Rattle.contents.specs.Contents.{has, split, marks_part};
 ghost use Rattle.contents.specs.Places.{place_of, Located};
+ghost use Rattle.contents.specs.Refusals.{told};
 ghost use Rattle.sheet.specs.Opened.{opened, open_parts};
 ghost use Rattle.zoom.specs.declared.Zoom.TheVariants.{Stop, Wheel};
 ghost use Rattle.jobs.specs.Jobs.{check_job, carried, kept_parts, schedule_job, add_job, take_out_job, judge_job, count_job, assemble_job, fill_job, log_to_marks_job, marks_to_log_job, to_columns_job, from_columns_job, view_job, walk_job, is_shown_job};
-ghost use Rattle.jobs.specs.Answers.{answer_of, window, fields, Gives, Lent};
+ghost use Rattle.jobs.specs.Answers.{answer_of, refusal, window, fields, Gives, Lent};
 ghost use Rattle.jobs.specs.Parts.{Joins};
 ghost use Rattle.jobs.specs.Demand3.{Meets, MeetsView};
 ghost use Rattle.jobs.specs.Changed.{MeetsAdding};
@@ -20,10 +21,21 @@ ghost use Rattle.jobs.specs.Turns.{MeetsTurn};
 ghost use Rattle.jobs.specs.Judged.{MeetsJudging};
 ghost use Rattle.jobs.specs.Counted.{MeetsCounting};
 
-use contents::Extent;
+use contents::{Extent, Refusal};
 use jobs::Answer;
 use reaching::Window;
 use zoom::Zoom;
+
+// What a walk answers where no mark is left, and where it is refused.
+// Kept: the C interface has no Option.
+const NONE_LEFT: u32 = 65535;
+
+// What a call answers that is asked for no length and no count.
+fn verdict(outcome: Result<(), Refusal>) -> Answer
+    ensures { result ≡ refusal (told outcome) }
+{
+    Answer::from(outcome.map(|()| 0))
+}
 
 // ---- sheets
 
@@ -31,10 +43,7 @@ use zoom::Zoom;
 pub fn rollmap_check(sheet: &[u8]) -> Answer
     ensures { result ≡ answer_of (check_job sheet.now) }
 {
-    Answer {
-        number: sheet::check(sheet),
-        value: 0,
-    }
+    verdict(sheet::check(sheet))
 }
 
 // Where the part of this code lies in an accepted sheet: above 0 where it is there, be it empty or not, and 0 where it is not.
@@ -51,7 +60,7 @@ pub fn rollmap_assemble<'a>(codes: &[u16], bodies: &'a [&'a [u8]], out: &mut [u8
     ensures gives { Gives (assemble_job codes.now (map (λ x. x.now) bodies.now) (length out.old)) out.old result out.new }
     ensures joins { Joins codes.now (map (λ x. x.now) bodies.now) out.old result out.new }
 {
-    assembly::assemble(codes, bodies, out)
+    Answer::from(assembly::assemble(codes, bodies, out))
 }
 
 // ---- scheduling
@@ -63,7 +72,7 @@ pub fn rollmap_schedule(sheet: &[u8], work: &mut [u8], out: &mut [u8]) -> Answer
     ensures gives { Gives (schedule_job sheet.now (length work.old) (length out.old)) out.old result out.new }
     ensures lent { Lent result work.old work.new × Meets (marks_part (split sheet.now)) (kept_parts (split sheet.now)) (has (split sheet.now) 6) result out.new }
 {
-    changes::schedule(sheet, work, out)
+    Answer::from(changes::schedule(sheet, work, out))
 }
 
 // ---- marks that come and go
@@ -86,7 +95,7 @@ pub fn rollmap_add(
     ensures lent { Lent result work.old work.new × Meets (added (marks_part (split sheet.now)) (fields x y radius priority kind tag)) (carried (split sheet.now) (λ q. added_popup q popup)) (has (split sheet.now) 6) result out.new }
     ensures meets_adding { MeetsAdding sheet.now (fields x y radius priority kind tag) popup result out.new }
 {
-    changes::add(sheet, x, y, radius, priority, kind, tag, popup, work, out)
+    Answer::from(changes::add(sheet, x, y, radius, priority, kind, tag, popup, work, out))
 }
 
 // Schedules a sheet's marks without mark m, whereupon higher numbers drop by one, keeps parts 4 and 7, and part 5 without m's row, and renews part 6:
@@ -95,7 +104,7 @@ pub fn rollmap_take_out(sheet: &[u8], m: u32, work: &mut [u8], out: &mut [u8]) -
     ensures gives { Gives (take_out_job sheet.now m (length work.old) (length out.old)) out.old result out.new }
     ensures lent { Lent result work.old work.new × Meets (taken_out (marks_part (split sheet.now)) m) (carried (split sheet.now) (λ q. taken_out_popup q m)) (has (split sheet.now) 6) result out.new }
 {
-    changes::take_out(sheet, m, work, out)
+    Answer::from(changes::take_out(sheet, m, work, out))
 }
 
 // ---- judging
@@ -105,7 +114,7 @@ pub fn rollmap_take_out(sheet: &[u8], m: u32, work: &mut [u8], out: &mut [u8]) -
 pub fn rollmap_judge(sheet: &[u8]) -> Answer
     ensures { (result ≡ answer_of (judge_job sheet.now)) × MeetsJudging sheet.now result }
 {
-    judgement::judge(sheet)
+    verdict(judgement::judge(sheet))
 }
 
 // ---- counting
@@ -116,7 +125,7 @@ pub fn rollmap_count(sheet: &[u8], out: &mut [u8]) -> Answer
     ensures gives { Gives (count_job sheet.now (length out.old)) out.old result out.new }
     ensures meets_counting { MeetsCounting sheet.now result out.new }
 {
-    counts::count(sheet, out)
+    Answer::from(counts::count(sheet, out))
 }
 
 // ---- filling
@@ -127,7 +136,7 @@ pub fn rollmap_fill(marks: &[u8], out: &mut [u8]) -> Answer
     ensures gives { Gives (fill_job marks.now (length out.old)) out.old result out.new }
     ensures meets_filling { MeetsFilling marks.now result out.new }
 {
-    conversions::fill(marks, out)
+    Answer::from(conversions::fill(marks, out))
 }
 
 // ---- logs
@@ -138,7 +147,7 @@ pub fn rollmap_log_to_marks(log: &[u8], out: &mut [u8]) -> Answer
     ensures gives { Gives (log_to_marks_job log.now (length out.old)) out.old result out.new }
     ensures meets_log { MeetsLog log.now result out.new }
 {
-    conversions::log_to_marks(log, out)
+    Answer::from(conversions::log_to_marks(log, out))
 }
 
 // Turns marks into a log at the start of `out`, and answers how many bytes it has: questions 4, then 5 and 6 mark by mark, and 13. Turned
@@ -147,7 +156,7 @@ pub fn rollmap_marks_to_log(marks: &[u8], out: &mut [u8]) -> Answer
     ensures gives { Gives (marks_to_log_job marks.now (length out.old)) out.old result out.new }
     ensures meets_marks { MeetsMarks marks.now result out.new }
 {
-    conversions::marks_to_log(marks, out)
+    Answer::from(conversions::marks_to_log(marks, out))
 }
 
 // ---- columns
@@ -158,7 +167,7 @@ pub fn rollmap_to_columns(marks: &[u8], out: &mut [u8]) -> Answer
     ensures gives { Gives (to_columns_job marks.now (length out.old)) out.old result out.new }
     ensures meets_columns { MeetsColumns marks.now result out.new }
 {
-    conversions::to_columns(marks, out)
+    Answer::from(conversions::to_columns(marks, out))
 }
 
 // Rearranges columns into marks at the start of `out`, and answers how many bytes these are: questions 4 and 13. Rearranged by columns again they
@@ -167,10 +176,12 @@ pub fn rollmap_from_columns(columns: &[u8], out: &mut [u8]) -> Answer
     ensures gives { Gives (from_columns_job columns.now (length out.old)) out.old result out.new }
     ensures meets_rows { MeetsRows columns.now result out.new }
 {
-    conversions::from_columns(columns, out)
+    Answer::from(conversions::from_columns(columns, out))
 }
 
 // ---- viewing
+
+// Kept: the C interface has a call for each kind of zoom, and takes the edges one by one.
 
 // The view at a stop; of a sheet scheduled here it meets demand 3, it is that at the wheel value of the same zoom, and that of the turned marks
 // without a turn.
@@ -195,7 +206,7 @@ pub fn rollmap_view_stop(
         y1,
         turn,
     };
-    viewing::view(sheet, window, Zoom::Stop(stop), map)
+    Answer::from(viewing::view(sheet, window, Zoom::Stop(stop), map))
 }
 
 // The view at a wheel value; of a sheet scheduled here it meets demand 3, and it is that of the turned marks without a turn.
@@ -219,7 +230,7 @@ pub fn rollmap_view_wheel(
         y1,
         turn,
     };
-    viewing::view(sheet, window, Zoom::Wheel(wheel), map)
+    Answer::from(viewing::view(sheet, window, Zoom::Wheel(wheel), map))
 }
 
 // ---- reading a map
@@ -228,12 +239,16 @@ pub fn rollmap_view_wheel(
 pub fn rollmap_walk(map: &[u8], n: u32, start: u32) -> Answer
     ensures { result ≡ answer_of (walk_job map.now n start) }
 {
-    viewing::walk(map, n, start)
+    let mark = viewing::walk(map, n, start);
+    Answer {
+        value: mark.unwrap_or(NONE_LEFT),
+        ..Answer::from(mark)
+    }
 }
 
 // Whether the map of n marks shows mark m: 1 or 0, and 0 where m is not below n. It asks 13 as the walk does.
 pub fn rollmap_is_shown(map: &[u8], n: u32, m: u32) -> Answer
     ensures { result ≡ answer_of (is_shown_job map.now n m) }
 {
-    viewing::is_shown(map, n, m)
+    Answer::from(viewing::is_shown(map, n, m))
 }

@@ -9,11 +9,7 @@ pub fn before<'a>(s: &'a [u8], width: usize, m: usize) -> &'a [u8]
     requires { width * m < 18446744073709551616 }
     ensures { result.now ≡ take (width * m) s.now }
 {
-    let end = width * m;
-    if end <= s.len() {
-        return &s[..end];
-    }
-    s
+    s.get(..width * m).unwrap_or(s)
 }
 
 // The rows behind row m; none where there are fewer.
@@ -21,9 +17,5 @@ pub fn behind<'a>(s: &'a [u8], width: usize, m: usize) -> &'a [u8]
     requires { width * m + width < 18446744073709551616 }
     ensures { result.now ≡ drop (width * m + width) s.now }
 {
-    let start = width * m + width;
-    if start <= s.len() {
-        return &s[start..];
-    }
-    &s[..0]
+    s.get(width * m + width..).unwrap_or(&[])
 }

@@ -5,9 +5,9 @@
 ghost use Rattle.std.specs.Prelude.{◌<◌, ◌≤◌, length};
 ghost use Rattle.report.specs.Text.{longest_input};
 ghost use Rattle.report.specs.Printing.{Room};
-ghost use Rattle.schedule.specs.Reading.{InRoom, Told, Reported};
+ghost use Rattle.schedule.specs.Reading.{Told, Reported};
 
-use std::io::{Print, Read};
+use std::io::{self, Print, Read};
 
 // The buffers of `MARKS` marks: 32 bytes of work each and 1,024, 14 bytes a record, 105 bytes a line and 29 for the first line.
 const MARKS: usize = 2000;
@@ -18,61 +18,42 @@ const SCHEDULE: usize = 14 * MARKS;
 
 const TEXT: usize = 105 * MARKS + 29;
 
-// What reading came to: so many bytes at the start of the room for them, or a read that failed.
-#[derive(Clone, Copy)]
-enum Reading {
-    Read(usize),
-    Failed,
-}
-
-// Reads once: Read(0) says that the input has ended.
-fn read_some<R: Read>(from: &mut R, room: &mut [u8]) -> Reading
-    ensures { InRoom result room.new }
-{
-    match from.read(room) {
-        Ok(got) => Reading::Read(got),
-        Err(_) => Reading::Failed,
-    }
-}
-
 // Reads until the input ends or the room is full. The room has a byte more than an input may have, so that a longer one is seen to be longer.
-fn read_input<R: Read>(from: &mut R, room: &mut [u8]) -> Reading
+fn read_input<R: Read>(from: &mut R, room: &mut [u8]) -> io::Result<usize>
     requires { longest_input < length room.old }
     ensures { Told result room.new }
 {
     let mut size = 0;
     while size < room.len() {
-        let Reading::Read(more) = read_some(from, &mut room[size..]) else {
-            return Reading::Failed;
-        };
+        let more = from.read(&mut room[size..])?;
         if more == 0 {
-            return Reading::Read(size);
+            break;
         }
         size += more;
     }
-    Reading::Read(size)
+    Ok(size)
 }
 
 // The text for what was read, at the start of `out`; gives its length. Where a read failed, there is none: what came before is not the input.
 fn print_read(
-    reading: Reading,
+    reading: &io::Result<usize>,
     input: &[u8],
     work: &mut [u8],
     schedule: &mut [u8],
     out: &mut [u8],
 ) -> usize
-    requires { Told reading input.now × Room work.old schedule.old out.old }
-    ensures { Reported reading input.now work.old schedule.old out.old result work.new schedule.new out.new }
+    requires { Told reading.now input.now × Room work.old schedule.old out.old }
+    ensures { Reported reading.now input.now work.old schedule.old out.old result work.new schedule.new out.new }
 {
-    let Reading::Read(size) = reading else {
-        return 0;
-    };
-    report::print(&input[..size], work, schedule, out)
+    match reading {
+        Ok(size) => report::print(&input[..*size], work, schedule, out),
+        Err(_) => 0,
+    }
 }
 
 // Says on standard error what failed, where something did.
-fn complain(rt: &HostRuntime, reading: Reading, is_written: bool) {
-    if let Reading::Failed = reading {
+fn complain(rt: &HostRuntime, is_read: bool, is_written: bool) {
+    if !is_read {
         let _ = rt.stderr().write_all(
             b"schedule: standard input cannot be read; nothing is printed\n",
         );
@@ -91,7 +72,7 @@ fn main(rt: HostRuntime) {
     let mut work = [0u8; WORK];
     let mut schedule = [0u8; SCHEDULE];
     let mut out = [0u8; TEXT];
-    let length = print_read(reading, &input, &mut work, &mut schedule, &mut out);
+    let length = print_read(&reading, &input, &mut work, &mut schedule, &mut out);
     let is_written = rt.stdout().write_all(&out[..length]).is_ok();
-    complain(&rt, reading, is_written);
+    complain(&rt, reading.is_ok(), is_written);
 }

@@ -8,8 +8,8 @@ use lib.ListN.{length, take, drop, length-append, length-take, length-drop}
 use lib.Seq.{sets, sets-eq, length-sets, length-take-le, take_at, drop_at, ext_get_or, get_or-take, get_or-drop}
 use Rattle.lists.specs.Stores.{Clear, Kept}
 use Rattle.lists.proofs.StoreLaws.{kept_sets}
-use Rattle.numbers.specs.Little.{le_at, le_bytes, Bytes}
-use Rattle.numbers.proofs.Laws.{le_length, le_bound, read_back_sets, number_kept, write_then, write_joined}
+use Rattle.numbers.specs.Little.{le_at, le_bytes}
+use Rattle.numbers.proofs.Laws.{le_length, read_back_sets, number_kept, write_then, write_joined}
 use Rattle.marks.specs.Marks.{mark_size, y_offset, used_at}
 use Rattle.marks.specs.Pairs.{popup_at}
 use Rattle.elimination.specs.declared.Record.{Record}
@@ -54,17 +54,17 @@ record_back s at r room he hn hd =
           (λ t l. read_rest 8 r.num t second third _ 4 third (omega arith) (λ u m. read_back_sets 4 u third r.den (omega arith) hd)),
     )
 
-pub row_back : (s p : List ℕ) (m : ℕ) (w : List ℕ) (at : ℕ) → Bytes s → at + row_record_offset ≤ length w → m < 65536 → used_at s m < 65536
-    → popup_at p m < 16777216 → RowAt s p (sets w at (row_bytes s p m)) at m
-row_back s p m w at b room hm hr hp =
+pub row_back : (s p : List ℕ) (m : ℕ) (w : List ℕ) (at : ℕ) → le_at 2 s (mark_size * m) < 65536 → le_at 2 s (mark_size * m + y_offset) < 65536
+    → at + row_record_offset ≤ length w → m < 65536 → used_at s m < 65536 → popup_at p m < 16777216 → RowAt s p (sets w at (row_bytes s p m)) at m
+row_back s p m w at hx hy room hm hr hp =
     let x : ℕ = le_at 2 s (mark_size * m) in
     let y : ℕ = le_at 2 s (mark_size * m + y_offset) in
     record {
       number = read_first 2 m w at _ (omega arith) hm;
-      x_is = read_rest 2 m w at (at + row_x_offset) _ 2 (at + row_x_offset) refl (λ t l. read_first 2 x t (at + row_x_offset) _ (omega arith) (le_bound 2 s _ b));
+      x_is = read_rest 2 m w at (at + row_x_offset) _ 2 (at + row_x_offset) refl (λ t l. read_first 2 x t (at + row_x_offset) _ (omega arith) hx);
       y_is = read_rest 2 m w at (at + row_x_offset) _ 2 (at + row_y_offset) refl
           (λ t l. read_rest 2 x t (at + row_x_offset) (at + row_y_offset) _ 2 (at + row_y_offset) (omega arith)
-          (λ u k. read_first 2 y u (at + row_y_offset) _ (omega arith) (le_bound 2 s _ b)));
+          (λ u k. read_first 2 y u (at + row_y_offset) _ (omega arith) hy));
       radius_is = read_rest 2 m w at (at + row_x_offset) _ 2 (at + row_radius_offset) refl
           (λ t l. read_rest 2 x t (at + row_x_offset) (at + row_y_offset) _ 2 (at + row_radius_offset) (omega arith)
           (λ u k. read_rest 2 y u (at + row_y_offset) (at + row_radius_offset) _ 2 (at + row_radius_offset) (omega arith)

@@ -6,11 +6,8 @@ use mathlib.Core.List.{List, [], ◌∷◌}
 use native.Mathlib.Omega.{arith}
 use borrow.Author.Count.{below_more}
 use lib.ListN.{length}
-use lib.Seq.{sets}
 use Rattle.lists.specs.Stores.{Kept}
-use Rattle.lists.proofs.StoreLaws.{kept_sets}
 use Rattle.lists.specs.Sorting.{Ranks}
-use Rattle.numbers.specs.Little.{Bytes}
 use Rattle.numbers.proofs.Laws.{number_kept}
 use Rattle.sorting.specs.Laws.{sorted_ranks}
 use Rattle.marks.specs.Marks.{radius_at, kind_at, used_at, larger, touching, rank_key, touching_of}
@@ -24,13 +21,9 @@ use Rattle.elimination.proofs.Sheet.{sheet_proper}
 use Rattle.searching.specs.Rows.{row_size, row_x_offset, row_y_offset, row_radius_offset, row_popup_offset, row_record_offset, row_number}
 use Rattle.scheduling.specs.Settling.{RowsSmall, Ordered}
 use Rattle.scheduling.specs.Sending.{RowsNumbered}
-use Rattle.scheduling.specs.Filling.{work_size, keys_from, row_bytes, Keyed, number_at, RowAt, RowsPut, InRank}
-use Rattle.scheduling.proofs.Bytes.{row_length, row_back}
+use Rattle.scheduling.specs.Filling.{keys_from, Keyed, number_at, RowAt, RowsPut, InRank}
 
 -- ---- keys
-
-pub keyed_none : (edition : ℕ) (s : List ℕ) (n : ℕ) (w : List ℕ) → Keyed edition s n 0 w w
-keyed_none edition s n w = record { long = refl; keys = λ i h. absurd (omega arith) }
 
 pub keyed_more : {edition : ℕ} {s w₀ w w' : List ℕ} {n p key : ℕ} → Keyed edition s n p w₀ w → key ≡ rank_key edition s p → KeyPut w w' (keys_from n + 8 * p) key
     → Keyed edition s n (p + 1) w₀ w'
@@ -51,9 +44,6 @@ ranks edition s few keys w = sorted_ranks w (rank_key edition s) 4096 keys (λ m
 
 -- ---- rows
 
-pub rows_none : (s u : List ℕ) (n : ℕ) (w : List ℕ) → RowsPut s u n 0 w w
-rows_none s u n w = record { long = refl; keys = λ k l h. refl; rows = λ q h. absurd (omega arith) }
-
 row_kept : {s u v w : List ℕ} {a b : ℕ} → Kept v w a b → (at m : ℕ) → at + row_record_offset ≤ a → RowAt s u v at m → RowAt s u w at m
 row_kept k at m h r =
     record {
@@ -64,12 +54,9 @@ row_kept k at m h r =
       popup_is = number_kept k 3 (at + row_popup_offset) (omega arith) ∙ r.popup_is;
     }
 
-pub rows_more : {s u : List ℕ} {n p : ℕ} {w₀ w w' : List ℕ} {m : ℕ} → Bytes s → p < n → work_size n ≤ length w₀ → m < 65536 → used_at s m < 65536
-    → popup_at u m ≤ 65536 → m ≡ number_at n w p → RowsPut s u n p w₀ w → w' ≡ sets w (row_size * p) (row_bytes s u m) → RowsPut s u n (p + 1) w₀ w'
-rows_more {s} {u} {n} {p} {w₀} {w} {w'} {m} b h room hm hr hp e g f =
-    let at : ℕ = row_size * p in
-    let k : Kept w w' at (at + row_record_offset) = rw (row_length s u m, ← f) at (kept_sets (row_bytes s u m) w at) in
-    let here : RowAt s u w' at m = rw f (row_back s u m w at b (omega (arith, g.long)) hm hr (omega arith)) in
+pub rows_more : {s u : List ℕ} {n p : ℕ} {w₀ w w' : List ℕ} {m : ℕ} → p < n → m ≡ number_at n w p → RowsPut s u n p w₀ w
+    → Kept w w' (row_size * p) (row_size * p + row_record_offset) → RowAt s u w' (row_size * p) m → RowsPut s u n (p + 1) w₀ w'
+rows_more {n = n} {p} {w₀} h e g k here =
     record {
       long = k.long ∙ g.long;
       keys = λ i l b. number_kept k 8 (keys_from n + 8 * i) (omega arith) ∙ g.keys i (omega arith) b;

@@ -10,7 +10,7 @@ use borrow.Author.Tests.{eq-eqb, ne_eqb}
 use lib.ListN.{length, take, take-append-drop}
 use lib.Seq.{sets, take-add}
 use Rattle.lists.specs.Stores.{Clear, Kept}
-use Rattle.lists.proofs.StoreLaws.{kept_none, kept_wide, kept_then, kept_sets}
+use Rattle.lists.proofs.StoreLaws.{kept_wide, kept_then, kept_sets}
 use Rattle.elimination.specs.declared.Record.{Record}
 use Rattle.elimination.specs.Process.{Removal, stays, gone, process}
 use Rattle.elimination.proofs.Schedule.{record_length}
@@ -22,9 +22,6 @@ use Rattle.scheduling.proofs.Bytes.{part_sets, part_kept, rest_kept}
 use Rattle.scheduling.proofs.Progress.{number_same}
 
 -- ---- one record more
-
-pub spread_none : (w : List ℕ) (n : ℕ) (out : List ℕ) → Spread w n 0 out out
-spread_none w n out = record { kept = kept_none out 0 (record_size * n); slots = λ q h. absurd (omega arith) }
 
 -- the slots of two numbers do not meet
 slots_apart : (i j : ℕ) → i ≢ j → Clear (record_size * i) record_size (record_size * j) (record_size * j + record_size)

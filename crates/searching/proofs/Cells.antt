@@ -14,7 +14,7 @@ use Rattle.marks.specs.declared.Label.{Label}
 use Rattle.marks.specs.Marks.{larger, touching_of}
 use Rattle.marks.proofs.PairLaws.{positive_pair, pair_least}
 use Rattle.grid.specs.declared.Region.{Region}
-use Rattle.grid.specs.Table.{cell_count, region_at, last_at, link_at, EntriesLow}
+use Rattle.grid.specs.Table.{cell_count, region_at, link_at, EntriesLow}
 use Rattle.grid.specs.Boxes.{bound_of}
 use Rattle.grid.specs.Laws.{bound_least, bound_positive}
 use Rattle.searching.specs.declared.Leader.{Leader}
@@ -23,46 +23,28 @@ use Rattle.searching.specs.Search.{leader_value, StandsAt, Before, SearchFor, Ad
 use Rattle.searching.specs.Cells.{HoldsRow, InGrid, Gridded, may_lead, Tail, Walked, CellAdded, Own, InGroup, counted_down, own_first, InTurn, FirstCells, FirstGroups}
 use Rattle.searching.proofs.Steps.{at_most_lem, adds_before, adds_like, adds_then}
 
--- ---- a chain, from row h - 1 down
+-- ---- a chain, from its last row down
 
-pub walk_start : {shape : ℕ} {w : List ℕ} {at groups p c : ℕ} (from : Leader) → c < cell_count groups
-    → Walked shape w at groups p c (last_at w at c) from from
-walk_start {w = w} {at = at} {groups = groups} {c = c} from hc =
-    record {
-      next = λ cell g. g.chained.last_in c hc;
-      adds = λ cell g.
-          adds_before (Tail cell c (last_at w at c)) from
-          (λ pos q h x.
-          absurd
-          (let l : cell q < cell_count groups = rw x.0 hc in
-          let z : q < last_at w at c = rw x.0 at (g.chained.last_all q h l) in
-          omega (arith, x.1)));
-    }
-
-pub walk_next : {shape : ℕ} {w : List ℕ} {at groups p c h : ℕ} {from best better : Leader} → c < cell_count groups → 0 < h → h ≤ p
-    → Walked shape w at groups p c h from best → Adds shape w p (Only (h - 1)) best better
-    → Walked shape w at groups p c (link_at w at groups (h - 1)) from better
-walk_next {shape} {w} {at} {groups} {p} {c} {h} {from} {best} {better} hc z l x y =
-    record { next = λ cell g i e. g.chained.link_in (h - 1) b (inside cell g) i e ∙ here cell g; adds = λ cell g. more cell g }
+pub walk_next : {shape : ℕ} {w : List ℕ} {at groups p c j : ℕ} {from best better : Leader} → c < cell_count groups → j < p
+    → Walked shape w at groups p c (j + 1) from best → Adds shape w p (Only j) best better → Walked shape w at groups p c (link_at w at groups j) from better
+walk_next {shape} {w} {at} {groups} {p} {c} {j} {from} {best} {better} hc b x y =
+    record { next = λ cell g i e. g.chained.link_in j b (inside cell g) i e ∙ here cell g; adds = λ cell g. more cell g }
   where
-    b : h - 1 < p
-    b = omega arith
+    here : (cell : ℕ → ℕ) → InGrid w at groups p cell → cell j ≡ c
+    here cell g = x.next cell g j (omega arith)
 
-    here : (cell : ℕ → ℕ) → InGrid w at groups p cell → cell (h - 1) ≡ c
-    here cell g = x.next cell g (h - 1) (omega arith)
-
-    inside : (cell : ℕ → ℕ) → InGrid w at groups p cell → cell (h - 1) < cell_count groups
+    inside : (cell : ℕ → ℕ) → InGrid w at groups p cell → cell j < cell_count groups
     inside cell g = rw (here cell g) hc
 
-    more : (cell : ℕ → ℕ) → InGrid w at groups p cell → Adds shape w p (Tail cell c (link_at w at groups (h - 1))) from better
+    more : (cell : ℕ → ℕ) → InGrid w at groups p cell → Adds shape w p (Tail cell c (link_at w at groups j)) from better
     more cell g =
-        adds_then (Tail cell c h) (Only (h - 1)) (Tail cell c (link_at w at groups (h - 1)))
+        adds_then (Tail cell c (j + 1)) (Only j) (Tail cell c (link_at w at groups j))
         (λ q hq (e, k).
-        elim (ℕ_discrete q (h - 1)) [
+        elim (ℕ_discrete q j) [
           | yes i ↦ inr i
           | no i ↦
-              elim (dec_lt q (h - 1)) [
-                | yes m ↦ absurd (let u = g.chained.link_all (h - 1) b (inside cell g) q m (e ∙ sym (here cell g)) in omega arith)
+              elim (dec_lt q j) [
+                | yes m ↦ absurd (let u = g.chained.link_all j b (inside cell g) q m (e ∙ sym (here cell g)) in omega arith)
                 | no m ↦ inl (e, omega arith)
               ]
         ])
@@ -176,12 +158,6 @@ own_all size own d hs hd =
     ]
 
 module _ {shape : ℕ} {w : List ℕ} {at groups p : ℕ} where
-  pub cells_none : (g start : ℕ) (from : Leader) → CellAdded shape w at groups p (FirstCells g start 0) from from
-  cells_none g start from =
-      record {
-        adds = λ cell i. adds_before (λ q. FirstCells g start 0 (cell q)) from (λ pos q h (e, (j, l, f)). absurd (omega arith));
-      }
-
   pub cells_more : (g start i : ℕ) {from best better : Leader} → counted_down 16 start i < 16 → CellAdded shape w at groups p (FirstCells g start i) from best
       → CellAdded shape w at groups p (Own (16 * g + counted_down 16 start i)) best better → CellAdded shape w at groups p (FirstCells g start (i + 1)) from better
   cells_more g start i low x y =
@@ -203,12 +179,6 @@ module _ {shape : ℕ} {w : List ℕ} {at groups p : ℕ} where
         adds = λ cell k.
             adds_like (λ q. FirstCells g start 16 (cell q)) (λ q. InGroup g (cell q)) (λ q b e. (e, counted_all 16 start (cell q % 16) h (omega arith)))
             (x.adds cell k);
-      }
-
-  pub groups_none : (start : ℕ) (from : Leader) → CellAdded shape w at groups p (FirstGroups groups start 0) from from
-  groups_none start from =
-      record {
-        adds = λ cell i. adds_before (λ q. FirstGroups groups start 0 (cell q)) from (λ pos q h (j, l, f). absurd (omega arith));
       }
 
   pub groups_more : (start i : ℕ) {from best better : Leader} → CellAdded shape w at groups p (FirstGroups groups start i) from best

@@ -86,9 +86,6 @@ module _ {shape : ℕ} {w : List ℕ} {p : ℕ} where
             );
       }
 
-  pub higher_none : (c : Leader) → Adds shape w p (Higher 0) c c
-  higher_none c = adds_before (Higher 0) c (λ pos q h x. absurd (omega arith))
-
   pub higher_more : {k : ℕ} {c d e : Leader} → Adds shape w p (Higher k) c d → Adds shape w p (Only k) d e → Adds shape w p (Higher (k + 1)) c e
   higher_more {k} =
       adds_then (Higher k) (Only k) (Higher (k + 1)) (λ q h l. elim (ℕ_discrete q k) [ yes e ↦ inr e | no e ↦ inl (omega arith) ])

@@ -43,13 +43,6 @@ pub record Admitted (p : ℕ) (c : Leader) : Type 0 where
 unfoldable pub precedes : Fraction → Fraction → Bool → Bool
 precedes f g tie = cond (less f g) true (cond (less g f) false tie)
 
--- v can be compared with what was found for row q
-pub record Comparable (w : List ℕ) (p q : ℕ) (v : Fraction) : Type 0 where
-  pub room : row_size * q + row_size ≤ length w
-  pub few : p < 4096
-  pub small : Small v
-  pub removal_small : Small (row_value w q)
-
 -- ---- what a step of the search adds
 
 -- row q is removed later than its value with row p
@@ -93,10 +86,6 @@ pub record BestOfFirst (shape : ℕ) (w : List ℕ) (p k : ℕ) (c : Leader) : T
 -- its value is at most row p's popup value, which no pair value of row p is below
 unfoldable pub is_least : List ℕ → ℕ → Leader → Bool
 is_least w p c = cond (less (popup_value (row_popup w p)) (leader_value c)) false true
-
--- from c to d with row q, by any shape by which v is its pair value with row p
-pub record AddsBy (w : List ℕ) (p q : ℕ) (v : Fraction) (c d : Leader) : Type 0 where
-  pub adds : (shape : ℕ) → v ≡ rows_pair shape w q p → Adds shape w p (Only q) c d
 
 -- d names row q, or the row that c names
 abbrev pub OneOf : ℕ → Leader → Leader → Type 0

@@ -3,24 +3,27 @@
 // rows are searched in any order: all of them, or cell by cell of a grid, which leaves out those that are too far to matter.
 #![tactic(auto)]
 
-ghost use Rattle.std.specs.Prelude.{◌≡◌, ◌+◌, ◌-◌, ◌*◌, ◌<◌, ◌≤◌, ltb, length};
+ghost use Rattle.std.specs.Prelude.{◌≡◌, ◌+◌, ◌*◌, ◌<◌, ◌≤◌, ltb, length};
 ghost use Rattle.fractions.specs.Order.{Small};
-ghost use Rattle.marks.specs.Marks.{touching_of};
-ghost use Rattle.grid.specs.Table.{cell_count, EntriesLow};
+ghost use Rattle.grid.specs.Table.{cell_count, region_count, region_at};
 ghost use Rattle.searching.specs.Rows.{row_size, row_label, row_popup, row_record, row_value, rows_pair};
 ghost use Rattle.searching.specs.Scan.{Scanned};
-ghost use Rattle.searching.specs.Search.{leader_value, none, precedes, is_least, Comparable, Admitted, SearchFor, Zeroed, Adds, AddsBy, BestOfFirst, FoundBy, Only, Higher, OneOf};
+ghost use Rattle.searching.specs.Search.{leader_value, none, precedes, is_least, Admitted, SearchFor, Zeroed, Adds, BestOfFirst, FoundBy, Only, Higher, OneOf};
 ghost use Rattle.searching.specs.Cells.{Gridded, CellAdded, Own, InGroup, may_lead, counted_down, own_first};
+
+mod search;
 
 use elimination::Record;
 use fractions::Fraction;
-use grid::{GROUP_SIZE, Region};
+use grid::GROUP_SIZE;
 use marks::Label;
+use search::{CellSearch, Search};
 
 // Among so few rows a scan of all is as fast as a search by cells.
 const FEW: usize = 32;
 
 // What a record has for an eliminator where nobody removes the mark.
+// Kept: the bytes of a row have this number (the definition `row_never`).
 const NOBODY: u32 = 65535;
 
 // The bytes of a row, and where the fields behind its number begin.
@@ -76,18 +79,11 @@ fn row_value(w: &[u8], q: usize) -> Fraction
     elimination::fraction_of(row_record(w, q))
 }
 
-// The touching value of row q and a label, by the shape of the labels.
-fn touching_row(w: &[u8], q: usize, shape: u8, label: Label) -> Fraction
-    requires { (row_size * q + row_size ≤ length w.now) × ((row_label w.now q).radius ≤ 16383) × (label.radius ≤ 16383) }
-    ensures { (result ≡ touching_of shape (row_label w.now q) label) × Small result }
-{
-    marks::touching_of(shape, row_label(w, q), label)
-}
-
 // ---- one row against the best so far
 
 // The best row found so far and its value, which is 1/0 where there is none. The row is as wide as the denominator, so that the struct has no
 // padding: with padding the inner loop would keep it in memory.
+// Kept: an `Option` of it would have padding, and 1/0, which the definition `none` gives it, is above every fraction: no test asks for a row first.
 #[derive(Clone, Copy)]
 struct Leader {
     num: u64,
@@ -95,12 +91,20 @@ struct Leader {
     row: u32,
 }
 
-fn leader_value(c: Leader) -> Fraction
-    ensures { result ≡ leader_value c }
-{
-    Fraction {
-        num: c.num,
-        den: c.den,
+impl Leader {
+    const NONE: Self = Leader {
+        num: 1,
+        den: 0,
+        row: 0,
+    };
+
+    fn value(self) -> Fraction
+        ensures { result ≡ leader_value self }
+    {
+        Fraction {
+            num: self.num,
+            den: self.den,
+        }
     }
 }
 
@@ -116,204 +120,121 @@ fn precedes(f: Fraction, g: Fraction, tie: bool) -> bool
     left < bound
 }
 
-// The pair value of row q and row p, whose label is given. Where no row has a popup, which `popped` tells, it is the touching value; that `popped`
-// changes in no loop keeps the reading of popups out of the inner one.
-fn pair_at(w: &[u8], q: usize, p: usize, shape: u8, label: Label, popped: bool) -> Fraction
-    requires { SearchFor popped w.now p label × (q < p) }
-    ensures { (result ≡ rows_pair shape w.now q p) × Comparable w.now p q result }
-{
-    let touch = touching_row(w, q, shape, label);
-    if popped {
-        let k = marks::larger(row_popup(w, q), row_popup(w, p));
-        return marks::pair_of(touch, k);
+impl Search<'_> {
+    // The pair value of row q and row p. Where no row has a popup, which `popped` tells, it is the touching value; that `popped` changes in no loop keeps
+    // the reading of popups out of the inner one.
+    fn pair_with(&self, q: usize) -> Fraction
+        requires { q < self.now.p }
+        ensures { (result ≡ rows_pair self.now.shape self.now.w.now q self.now.p) × Small result }
+    {
+        let touch = marks::touching_of(self.shape, row_label(self.w, q), self.label);
+        if self.popped {
+            let k = row_popup(self.w, q).max(self.popup);
+            marks::pair_of(touch, k)
+        } else {
+            touch
+        }
     }
-    touch
-}
 
-// Row q, whose pair value with row p is v, against the best found so far: it takes its place if v goes before its value and row q is removed
-// later. A tie goes to the higher-ranked row, which `tie` says is row q.
-fn better_pair(w: &[u8], q: usize, p: usize, v: Fraction, best: Leader, tie: bool) -> Leader
-    requires { Comparable w.now p q v × (q < p) × Admitted p best × (tie ≡ ltb q best.row) }
-    ensures { Admitted p result × AddsBy w.now p q v best result × OneOf q best result }
-{
-    if precedes(v, leader_value(best), tie) {
-        if fractions::less_small(v, row_value(w, q)) {
-            let taken = q as u32;
+    // Row q against the best found so far: it takes its place if its pair value goes before the value of that and row q is removed later. A tie goes to
+    // the higher-ranked row, which `tie` says is row q. With `BRANCHES` what was found for a row is read only if its value goes before: that is fast
+    // where it is mostly foreseen that it does not.
+    fn better<const BRANCHES: bool>(&self, q: usize, best: Leader, tie: bool) -> Leader
+        requires { (q < self.now.p) × Admitted self.now.p best × (tie ≡ ltb q best.row) }
+        ensures { Admitted self.now.p result × Adds self.now.shape self.now.w.now self.now.p (Only q) best result × OneOf q best result }
+    {
+        let v = self.pair_with(q);
+        let sooner = precedes(v, best.value(), tie);
+        if BRANCHES && !sooner {
+            return best;
+        }
+        let stands = fractions::less_small(v, row_value(self.w, q));
+        if sooner & stands {
             return Leader {
                 num: v.num,
                 den: v.den,
-                row: taken,
+                row: q as u32,
             };
         }
+        best
     }
-    best
-}
 
-// The same without a branch. In the chains of the cells around a mark it is less often foreseen whether a row goes before the best.
-fn better_chosen(w: &[u8], q: usize, p: usize, v: Fraction, best: Leader, tie: bool) -> Leader
-    requires { Comparable w.now p q v × (q < p) × Admitted p best × (tie ≡ ltb q best.row) }
-    ensures { Admitted p result × AddsBy w.now p q v best result × OneOf q best result }
-{
-    let sooner = precedes(v, leader_value(best), tie);
-    let stands = fractions::less_small(v, row_value(w, q));
-    if sooner & stands {
-        let taken = q as u32;
-        return Leader {
-            num: v.num,
-            den: v.den,
-            row: taken,
+    // ---- rows in the order of rank
+
+    // Has a value been found that no pair value of row p is below? Its popup value is such a one.
+    fn is_least(&self, best: Leader) -> bool
+        requires { Admitted self.now.p best }
+        ensures { result ≡ is_least self.now.w.now self.now.p best }
+    {
+        let k = self.popup as u64;
+        let floor = Fraction {
+            num: k * k,
+            den: 4096,
         };
+        !fractions::less_small(floor, best.value())
     }
-    best
-}
 
-// ---- rows in the order of rank
-
-// Row q, which ranks below all that were met, against the best of these: so no tie goes to it.
-fn better_next(
-    w: &[u8],
-    q: usize,
-    p: usize,
-    shape: u8,
-    label: Label,
-    best: Leader,
-    popped: bool,
-) -> Leader
-    requires { SearchFor popped w.now p label × (q < p) × Admitted p best × (best.row ≤ q) }
-    ensures { Admitted p result × Adds shape w.now p (Only q) best result × OneOf q best result }
-{
-    let v = pair_at(w, q, p, shape, label, popped);
-    better_pair(w, q, p, v, best, false)
-}
-
-// Has a value been found that no pair value of row p is below? Its popup value is such a one.
-fn is_least(w: &[u8], p: usize, best: Leader) -> bool
-    requires { (row_size * p + row_size ≤ length w.now) × (row_popup w.now p ≤ 65536) × Admitted p best }
-    ensures { result ≡ is_least w.now p best }
-{
-    let k = row_popup(w, p) as u64;
-    let floor = Fraction {
-        num: k * k,
-        den: 4096,
-    };
-    if fractions::less_small(floor, leader_value(best)) {
-        return false;
-    }
-    true
-}
-
-// The best of the first `end` rows above p. They are met from the highest rank down, two a turn, so that the inner loop counts half as often. With
-// popups it ends at a value that no pair value of row p is below: what ranks lower goes before no such value.
-fn scan_rows(w: &[u8], p: usize, end: usize, shape: u8, label: Label, popped: bool) -> Leader
-    requires { SearchFor popped w.now p label × (end ≤ p) }
-    ensures { BestOfFirst shape w.now p end result }
-{
-    let mut best = Leader {
-        num: 1,
-        den: 0,
-        row: 0,
-    };
-    let mut q = 0;
-    while q + 1 < end {
-        best = better_next(w, q, p, shape, label, best, popped);
-        best = better_next(w, q + 1, p, shape, label, best, popped);
-        q += 2;
-        if popped {
-            if is_least(w, p, best) {
+    // The best of the first `end` rows above p. They are met from the highest rank down, so that no tie goes to a later one, and two a turn, so that the
+    // inner loop counts half as often. With popups it ends at a value that no pair value of row p is below: what ranks lower goes before no such value.
+    fn scan_rows(&self, end: usize) -> Leader
+        requires { end ≤ self.now.p }
+        ensures { BestOfFirst self.now.shape self.now.w.now self.now.p end result }
+    {
+        let mut best = Leader::NONE;
+        for pair in 0..end / 2 {
+            best = self.better::<true>(2 * pair, best, false);
+            best = self.better::<true>(2 * pair + 1, best, false);
+            if self.popped && self.is_least(best) {
                 return best;
             }
         }
+        if end % 2 == 1 {
+            self.better::<true>(end - 1, best, false)
+        } else {
+            best
+        }
     }
-    if q < end {
-        return better_next(w, q, p, shape, label, best, popped);
+
+    // ---- rows in any order
+
+    // Row q against the best so far, of equal ones the higher-ranked. With popups many rows have one value, and it is foreseen that few go before the
+    // best. Without them that is less often foreseen in the chains of the cells around a mark.
+    fn better_in_chain(&self, q: usize, best: Leader) -> Leader
+        requires { (q < self.now.p) × Admitted self.now.p best }
+        ensures { Admitted self.now.p result × Adds self.now.shape self.now.w.now self.now.p (Only q) best result × OneOf q best result }
+    {
+        let tie = q < best.row as usize;
+        if self.popped {
+            self.better::<true>(q, best, tie)
+        } else {
+            self.better::<false>(q, best, tie)
+        }
     }
-    best
+
+    // ---- what was found
+
+    // What was found for row p, as its record. Where nobody was found, 1/0 stands for 'never' among the rows.
+    fn found(&self, best: Leader) -> Record
+        requires { Admitted self.now.p best }
+        ensures { FoundBy self.now.w.now self.now.p best result }
+    {
+        if best.den == 0 {
+            return Record {
+                num: 1,
+                den: 0,
+                eliminator: NOBODY,
+            };
+        }
+        let number = numbers::read_u16(self.w, ROW_SIZE * best.row as usize) as u32;
+        Record {
+            num: best.num,
+            den: best.den,
+            eliminator: number,
+        }
+    }
 }
 
-// ---- the best row by cells, of the grid at `at`
-
-// Row q against the best so far of rows in any order: a tie goes to row q where `tie` says that it ranks higher. With popups many rows have one value,
-// and few go before the best.
-fn better(
-    w: &[u8],
-    q: usize,
-    p: usize,
-    shape: u8,
-    label: Label,
-    best: Leader,
-    tie: bool,
-    popped: bool,
-) -> Leader
-    requires { SearchFor popped w.now p label × (q < p) × Admitted p best × (tie ≡ ltb q best.row) }
-    ensures { Admitted p result × Adds shape w.now p (Only q) best result × OneOf q best result }
-{
-    let v = pair_at(w, q, p, shape, label, popped);
-    if popped {
-        return better_pair(w, q, p, v, best, tie);
-    }
-    better_chosen(w, q, p, v, best, tie)
-}
-
-// The rows of cell c against the best so far.
-fn scan_cell(
-    w: &[u8],
-    at: usize,
-    groups: usize,
-    p: usize,
-    c: usize,
-    shape: u8,
-    label: Label,
-    from: Leader,
-    popped: bool,
-) -> Leader
-    requires { SearchFor popped w.now p label × EntriesLow w.now at groups p × (c < cell_count groups) × Admitted p from }
-    ensures { Admitted p result × CellAdded shape w.now at groups p (Own c) from result }
-{
-    let mut best = from;
-    let mut h = grid::last_row(w, at, c);
-    while 0 < h {
-        let q = h - 1;
-        let row = best.row as usize;
-        best = better(w, q, p, shape, label, best, q < row, popped);
-        h = grid::previous_row(w, at, groups, q);
-    }
-    best
-}
-
-// May a region hold a row that goes before the best so far? Not where nothing in it touches as soon, nor where all in it are gone when they would
-// touch.
-fn may_lead(r: Region, shape: u8, label: Label, best: Leader) -> bool
-    requires { Small (leader_value best) × (r.radius ≤ 16383) × Small r.latest × (label.radius ≤ 16383) }
-    ensures { result ≡ may_lead shape r label best }
-{
-    let bound = grid::bound(r, shape, label);
-    if fractions::less_small(leader_value(best), bound) {
-        return false;
-    }
-    let latest = r.latest;
-    fractions::less_small(bound, latest)
-}
-
-// The same as `scan_cell`, but a cell that holds no better row is left out.
-fn scan_near(
-    w: &[u8],
-    at: usize,
-    groups: usize,
-    p: usize,
-    c: usize,
-    shape: u8,
-    label: Label,
-    best: Leader,
-    popped: bool,
-) -> Leader
-    requires { SearchFor popped w.now p label × EntriesLow w.now at groups p × (c < cell_count groups) × Admitted p best }
-    ensures { Admitted p result × CellAdded shape w.now at groups p (Own c) best result }
-{
-    if may_lead(grid::region_at(w, at, c), shape, label, best) {
-        return scan_cell(w, at, groups, p, c, shape, label, best, popped);
-    }
-    best
-}
+// ---- the best row by cells
 
 // The i-th of `size` numbers from 0 on, which are counted down from `start`, and then from the greatest.
 fn counted_down(size: usize, start: usize, i: usize) -> usize
@@ -339,152 +260,114 @@ fn own_first(size: usize, own: usize, i: usize) -> usize
     if own < k { k } else { k - 1 }
 }
 
-// The rows of the cells of group g, beginning with the one that has the place `first` in it. A best of value 0 is the best of all: of the rows at
-// one place only one can remove another.
-fn scan_cells(
-    w: &[u8],
-    at: usize,
-    groups: usize,
-    p: usize,
-    g: usize,
-    first: usize,
-    shape: u8,
-    label: Label,
-    from: Leader,
-    popped: bool,
-) -> Leader
-    requires { SearchFor popped w.now p label × EntriesLow w.now at groups p × (g < groups) × (first < 16) × Admitted p from × Zeroed shape w.now p }
-    ensures { Admitted p result × CellAdded shape w.now at groups p (InGroup g) from result }
-{
-    let mut best = from;
-    let mut i = 0;
-    while i < GROUP_SIZE {
-        let c = GROUP_SIZE * g + counted_down(GROUP_SIZE, first, i);
-        best = scan_near(w, at, groups, p, c, shape, label, best, popped);
-        if best.num == 0 {
-            return best;
+impl CellSearch<'_> {
+    // May region i hold a row that goes before the best so far? Not where nothing in it touches as soon, nor where all in it are gone when they would
+    // touch.
+    fn may_lead(&self, i: usize, best: Leader) -> bool
+        requires { (i < region_count self.now.groups) × Admitted self.now.search.p best }
+        ensures { let s = self.now.search in result ≡ may_lead s.shape (region_at s.w.now self.now.at i) s.label best }
+    {
+        let region = grid::region_at(self.search.w, self.at, i);
+        let bound = region.bound(self.search.shape, self.search.label);
+        !fractions::less_small(best.value(), bound) && fractions::less_small(bound, region.latest)
+    }
+
+    // The rows of cell c against the best so far. A cell that holds no better row is left out.
+    fn scan_cell(&self, c: usize, from: Leader) -> Leader
+        requires { (c < cell_count self.now.groups) × Admitted self.now.search.p from }
+        ensures { let s = self.now.search in Admitted s.p result × CellAdded s.shape s.w.now self.now.at self.now.groups s.p (Own c) from result }
+    {
+        if !self.may_lead(c, from) {
+            return from;
         }
-        i += 1;
-    }
-    best
-}
-
-// The same, but a group that holds no better row is left out.
-fn scan_group(
-    w: &[u8],
-    at: usize,
-    groups: usize,
-    p: usize,
-    g: usize,
-    first: usize,
-    shape: u8,
-    label: Label,
-    best: Leader,
-    popped: bool,
-) -> Leader
-    requires { SearchFor popped w.now p label × EntriesLow w.now at groups p × (g < groups) × (first < 16) × Admitted p best × Zeroed shape w.now p }
-    ensures { Admitted p result × CellAdded shape w.now at groups p (InGroup g) best result }
-{
-    let region = grid::region_at(w, at, GROUP_SIZE * groups + g);
-    if may_lead(region, shape, label, best) {
-        return scan_cells(w, at, groups, p, g, first, shape, label, best, popped);
-    }
-    best
-}
-
-// The best of all rows above p by cells, for a mark that belongs into the cell `own`: its own cell and group come first, since with what lies near
-// the rest is soon too far. Then comes the last group, where the large marks are: with what touches from afar it is so, too.
-fn scan_grid(
-    w: &[u8],
-    at: usize,
-    groups: usize,
-    p: usize,
-    own: usize,
-    shape: u8,
-    label: Label,
-    popped: bool,
-) -> Leader
-    requires { SearchFor popped w.now p label × Gridded w.now at groups p × (own < cell_count groups) × (groups ≤ 4096) × Zeroed shape w.now p }
-    ensures { Admitted p result × Adds shape w.now p (Higher p) none result }
-{
-    let group = own / GROUP_SIZE;
-    let first = own % GROUP_SIZE;
-    let mut best = Leader {
-        num: 1,
-        den: 0,
-        row: 0,
-    };
-    let mut i = 0;
-    while i < groups {
-        let g = own_first(groups, group, i);
-        best = scan_group(w, at, groups, p, g, first, shape, label, best, popped);
-        if best.num == 0 {
-            return best;
+        let mut best = from;
+        let mut next = grid::last_row(self.search.w, self.at, c);
+        while let Some(q) = next {
+            best = self.search.better_in_chain(q, best);
+            next = grid::previous_row(self.search.w, self.at, self.groups, q);
         }
-        i += 1;
+        best
     }
-    best
-}
 
-// The best of all rows above p. Where they are few, all are scanned. For a mark that pops up the first ones are scanned before the others: often one of
-// these touches it as soon as it does.
-fn search(
-    w: &[u8],
-    at: usize,
-    groups: usize,
-    p: usize,
-    own: usize,
-    shape: u8,
-    label: Label,
-    popped: bool,
-) -> Leader
-    requires { SearchFor popped w.now p label × Gridded w.now at groups p × (own < cell_count groups) × (groups ≤ 4096) × Zeroed shape w.now p }
-    ensures { Admitted p result × Adds shape w.now p (Higher p) none result }
-{
-    if p < FEW {
-        return scan_rows(w, p, p, shape, label, popped);
-    }
-    if 0 < row_popup(w, p) {
-        let top = scan_rows(w, p, FEW, shape, label, popped);
-        if is_least(w, p, top) {
-            return top;
+    // The rows of the cells of group g, beginning with the one that has the place `first` in it. A group that holds no better row is left out. A best of
+    // value 0 is the best of all: of the rows at one place only one can remove another.
+    fn scan_group(&self, g: usize, first: usize, from: Leader) -> Leader
+        requires { (g < self.now.groups) × (first < 16) × Admitted self.now.search.p from }
+        ensures { let s = self.now.search in Admitted s.p result × CellAdded s.shape s.w.now self.now.at self.now.groups s.p (InGroup g) from result }
+    {
+        if !self.may_lead(GROUP_SIZE * self.groups + g, from) {
+            return from;
         }
+        let mut best = from;
+        for i in 0..GROUP_SIZE {
+            let c = GROUP_SIZE * g + counted_down(GROUP_SIZE, first, i);
+            best = self.scan_cell(c, best);
+            if best.num == 0 {
+                return best;
+            }
+        }
+        best
     }
-    scan_grid(w, at, groups, p, own, shape, label, popped)
+
+    // The best of all rows above p by cells, for a mark that belongs into the cell `own`: its own cell and group come first, since with what lies near
+    // the rest is soon too far. Then comes the last group, where the large marks are: with what touches from afar it is so, too.
+    fn scan_grid(&self, own: usize) -> Leader
+        requires { let s = self.now.search in Gridded s.w.now self.now.at self.now.groups s.p × (own < cell_count self.now.groups) }
+        ensures { let s = self.now.search in Admitted s.p result × Adds s.shape s.w.now s.p (Higher s.p) none result }
+    {
+        let group = own / GROUP_SIZE;
+        let first = own % GROUP_SIZE;
+        let mut best = Leader::NONE;
+        for i in 0..self.groups {
+            let g = own_first(self.groups, group, i);
+            best = self.scan_group(g, first, best);
+            if best.num == 0 {
+                return best;
+            }
+        }
+        best
+    }
+
+    // The best of all rows above p. Where they are few, all are scanned. For a mark that pops up the first ones are scanned before the others: often one
+    // of these touches it as soon as it does.
+    fn best(&self, own: usize) -> Leader
+        requires { let s = self.now.search in Gridded s.w.now self.now.at self.now.groups s.p × (own < cell_count self.now.groups) }
+        ensures { let s = self.now.search in Admitted s.p result × Adds s.shape s.w.now s.p (Higher s.p) none result }
+    {
+        let search = &self.search;
+        if search.p < FEW {
+            return search.scan_rows(search.p);
+        }
+        if 0 < search.popup {
+            let top = search.scan_rows(FEW);
+            if search.is_least(top) {
+                return top;
+            }
+        }
+        self.scan_grid(own)
+    }
 }
 
-// ---- what was found
-
-// What was found for row p, as its record. Where nobody was found, 1/0 stands for 'never' among the rows.
-fn found_of(w: &[u8], p: usize, best: Leader) -> Record
-    requires { (row_size * p + row_size ≤ length w.now) × Admitted p best }
-    ensures { FoundBy w.now p best result }
-{
-    if best.den == 0 {
-        return Record {
-            num: 1,
-            den: 0,
-            eliminator: NOBODY,
-        };
-    }
-    let row = best.row as usize;
-    let number = numbers::read_u16(w, ROW_SIZE * row) as u32;
-    Record {
-        num: best.num,
-        den: best.den,
-        eliminator: number,
-    }
-}
+// ---- what removes a mark
 
 // What the rows above p make of the mark in row p, whose label is given. `popped` is false only where none of them has a popup.
 pub fn best_of(w: &[u8], p: usize, shape: u8, label: Label, popped: bool) -> Record
     requires { SearchFor popped w.now p label }
     ensures { Scanned shape w.now p result }
 {
-    found_of(w, p, scan_rows(w, p, p, shape, label, popped))
+    let search = Search {
+        w,
+        p,
+        shape,
+        label,
+        popup: row_popup(w, p),
+        popped,
+    };
+    search.found(search.scan_rows(p))
 }
 
 // The same by the grid at `at` of so many groups, for a mark that belongs into the cell `own`.
+// Kept: eight parameters, since its callers have no `Search`: the rows are lent to it for the time of this call alone.
 pub fn best_in_grid(
     w: &[u8],
     at: usize,
@@ -498,5 +381,14 @@ pub fn best_in_grid(
     requires { SearchFor popped w.now p label × Gridded w.now at groups p × (own < cell_count groups) × (groups ≤ 4096) × Zeroed shape w.now p }
     ensures { Scanned shape w.now p result }
 {
-    found_of(w, p, search(w, at, groups, p, own, shape, label, popped))
+    let search = Search {
+        w,
+        p,
+        shape,
+        label,
+        popup: row_popup(w, p),
+        popped,
+    };
+    let by_cells = CellSearch { search, at, groups };
+    search.found(by_cells.best(own))
 }

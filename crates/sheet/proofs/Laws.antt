@@ -13,7 +13,7 @@ use Rattle.contents.proofs.Laws.{Numbered}
 use Rattle.bodies.specs.Questions.{body_questions}
 use Rattle.bodies.specs.Fitting.{Fitting}
 use Rattle.bodies.proofs.Laws.{fitting_iff, fitting_writable}
-use Rattle.sheet.specs.declared.Opening.{Opening}
+use Rattle.sheet.specs.Opened.{Opening}
 use Rattle.sheet.specs.Questions.{check_questions, check, question10, indexed_questions, parts_questions}
 use Rattle.sheet.specs.Accepted.{Accepted}
 use Rattle.sheet.specs.Opened.{opened, indexed, open_parts}

@@ -2,105 +2,90 @@
 #![tactic(auto)]
 
 ghost use Rattle.std.specs.Prelude.{◌≡◌, true, map, length};
-ghost use Rattle.contents.specs.Contents.{together};
+ghost use Rattle.contents.specs.Contents.{together, split};
 ghost use Rattle.contents.specs.Questions.{codes_right};
 ghost use Rattle.contents.specs.Places.{place_of, cut_of};
+ghost use Rattle.marks.specs.Pairs.{GoodPopups};
+ghost use Rattle.elimination.specs.Lent.{lent};
+ghost use Rattle.bodies.specs.Questions.{reel_of};
 ghost use Rattle.sheet.specs.Questions.{check};
-ghost use Rattle.sheet.specs.Opened.{opened, indexed};
+ghost use Rattle.contents.specs.Refusals.{told};
+ghost use Rattle.sheet.specs.Opened.{opened, indexed, found_of};
 ghost use Rattle.sheet.specs.Assembled.{Assembling};
 
-use contents::{Extent, Layout};
+use contents::{Extent, Layout, Refusal, TOP};
+use elimination::Reel;
+use marks::MARK_SIZE;
+use std::array;
+
+mod accepted;
+
+pub use accepted::Accepted;
 
 // ---- checking
 
-// The number that checking answers: the first 'no' of questions 1 to 9, or 0.
-pub fn check(s: &[u8]) -> u32
-    ensures { result ≡ check s.now }
+// Questions 1 to 9, with 19, 21, 23 and 24.
+pub fn check(s: &[u8]) -> Result<(), Refusal>
+    ensures { told result ≡ check s.now }
 {
-    let number = contents::contents_answer(s);
-    if number != 0 {
-        return number;
-    }
+    contents::check_contents(s)?;
     let count = contents::count_at(s);
     let codes = contents::codes_of(s);
-    let lent = [
-        contents::body(s, 0),
-        contents::body(s, 1),
-        contents::body(s, 2),
-        contents::body(s, 3),
-        contents::body(s, 4),
-        contents::body(s, 5),
-        contents::body(s, 6),
-    ];
-    bodies::bodies_answer(&codes[..count], &lent[..count])
+    // Those behind the last part are empty.
+    let lent: [&[u8]; TOP] = array::from_fn(|i| contents::body(s, i));
+    bodies::check_bodies(&codes[..count], &lent[..count])
 }
 
 // ---- putting together
 
-// What putting together answers: the number of the first 'no', or how many bytes were written.
-#[derive(Clone, Copy)]
-pub enum Assembled {
-    Refused(u32),
-    Written(u32),
-}
-
-// Puts the bodies under these codes, which are right, together: questions 4 to 9 and 13, and then the sheet.
-pub fn assemble(codes: &[u16], bodies: &[&[u8]], out: &mut [u8]) -> Assembled
+// Puts the bodies under these codes, which are right, together: questions 4 to 9 and 13, and then the sheet. Answers its length.
+pub fn assemble(codes: &[u16], bodies: &[&[u8]], out: &mut [u8]) -> Result<u32, Refusal>
     requires { (length codes.now ≡ length bodies.now) × (codes_right codes.now ≡ true) }
     ensures { Assembling (together codes.now (map (λ x. x.now) bodies.now)) out.old result out.new }
 {
-    let number = bodies::bodies_answer(codes, bodies);
-    if number != 0 {
-        return Assembled::Refused(number);
-    }
+    bodies::check_bodies(codes, bodies)?;
     if !joining::has_room(codes, bodies, out.len()) {
-        return Assembled::Refused(13);
+        return Err(Refusal::Room);
     }
-    let size = joining::put_parts(out, codes, bodies);
-    Assembled::Written(size as u32)
+    Ok(joining::put_parts(out, codes, bodies) as u32)
 }
 
 // ---- the opened sheet
 
-// What opening a sheet finds: the number that its questions answer, and where the parts lie: none where it is refused.
-#[derive(Clone, Copy)]
-pub struct Opening {
-    pub number: u32,
-    pub layout: Layout,
+// Where the parts of an accepted sheet lie.
+pub fn opened(s: &[u8]) -> Result<Layout, Refusal>
+    ensures { found_of result ≡ opened s.now }
+{
+    check(s)?;
+    Ok(contents::layout_of(s))
 }
 
-pub fn opened(s: &[u8]) -> Opening
-    ensures { result ≡ opened s.now }
+// The same of 1 to 10: an accepted sheet that lacks part 2 or part 3 is refused too.
+pub fn indexed(s: &[u8]) -> Result<Layout, Refusal>
+    ensures { found_of result ≡ indexed s.now }
 {
-    let number = check(s);
-    if number != 0 {
-        let none = contents::no_parts();
-        return Opening {
-            number,
-            layout: none,
-        };
+    let layout = opened(s)?;
+    if layout.schedule.is_there() && layout.index.is_there() {
+        Ok(layout)
+    } else {
+        Err(Refusal::Unindexed)
     }
-    let layout = contents::layout_of(s);
-    Opening { number, layout }
 }
 
-// 1 to 10: an accepted sheet that lacks part 2 or part 3 is refused too.
-pub fn indexed(s: &[u8]) -> Opening
-    ensures { result ≡ indexed s.now }
-{
-    let found = opened(s);
-    let number = found.number;
-    if number != 0 {
-        return found;
-    }
-    let layout = found.layout;
-    if contents::is_there(layout, 2) & contents::is_there(layout, 3) {
-        return Opening { number, layout };
-    }
-    let none = contents::no_parts();
-    Opening {
-        number: 10,
-        layout: none,
+impl<'a> Accepted<'a> {
+    // Its reel.
+    pub fn reel(&self) -> Reel<'a>
+        ensures reel { lent result ≡ reel_of (split self.now.bytes.now) }
+        ensures popped { GoodPopups result.popups.now result.count }
+    {
+        let marks = contents::cut(self.bytes, self.layout.marks);
+        Reel {
+            marks,
+            count: marks.len() / MARK_SIZE,
+            edition: parts::choice_of(contents::cut(self.bytes, self.layout.edition)),
+            shape: parts::choice_of(contents::cut(self.bytes, self.layout.shape)),
+            popups: contents::cut(self.bytes, self.layout.popups),
+        }
     }
 }
 
@@ -108,8 +93,7 @@ pub fn indexed(s: &[u8]) -> Opening
 fn layout_of(s: &[u8]) -> Layout
     ensures { result ≡ (opened s.now).layout }
 {
-    let found = opened(s);
-    found.layout
+    opened(s).unwrap_or(contents::no_parts())
 }
 
 // Where the part of this code lies in an accepted sheet.
@@ -130,8 +114,10 @@ pub struct Sheet<'a> {
 pub fn open<'a>(bytes: &'a [u8]) -> Sheet<'a>
     ensures { (result.bytes ≡ bytes.entry) × (result.layout ≡ (opened bytes.now).layout) }
 {
-    let layout = layout_of(bytes);
-    Sheet { bytes, layout }
+    Sheet {
+        bytes,
+        layout: layout_of(bytes),
+    }
 }
 
 // How many parts an opened sheet has.

@@ -1,15 +1,16 @@
-// What the calls of the public library do in common: refusing, and scheduling marks that are put together.
+// What the calls of the public library do in common: scheduling marks that are put together.
 #![tactic(auto)]
 
-ghost use Rattle.std.specs.Prelude.{◌≡◌, cond, ◌&&◌, [], ◌++◌, ◌+◌, ◌*◌, ◌≤◌, leb, length};
+ghost use Rattle.std.specs.Prelude.{◌≡◌, cond, ◌&&◌, [], ◌≤◌, leb, length};
 ghost use Rattle.scheduling.specs.Filling.{work_size};
-ghost use Rattle.jobs.specs.Jobs.{scheduling_job};
-ghost use Rattle.jobs.specs.Answers.{refusal, Gives, Lent};
-ghost use Rattle.jobs.specs.Steps.{kept_from, PartsLent};
+ghost use Rattle.jobs.specs.Jobs.{scheduled_size, scheduling_job};
+ghost use Rattle.jobs.specs.Answers.{Gives, Lent, answer_to};
+ghost use Rattle.writing.specs.Pieces.{joined};
+ghost use Rattle.writing.specs.Requests.{kept_of};
 
-use jobs::Answer;
+use contents::Refusal;
 use marks::POPUP_SIZE;
-use writing::SHEET_EACH;
+use writing::{Request, SHEET_EACH};
 
 // What scheduling asks for, in bytes a mark and in bytes beside them: the work buffer, and the sheet of three parts with its contents, whose
 // bytes a mark are those of `writing`, and to which parts that are kept add their own.
@@ -28,15 +29,6 @@ const POPUPS_BESIDE: usize = 10;
 // What part 6 takes of a sheet: its entry in the contents, and its counts.
 const COUNTS_BYTES: usize = 180;
 
-// A refusal counts and measures nothing.
-pub fn refused(number: u32) -> Answer
-    ensures { result ≡ refusal number }
-{
-    Answer { number, value: 0 }
-}
-
-// ---- scheduling
-
 // The size of a part that may not be there.
 fn size_if(there: bool, size: usize) -> usize
     ensures { (result ≡ cond there size 0) × (result ≤ size) }
@@ -44,16 +36,15 @@ fn size_if(there: bool, size: usize) -> usize
     if there { size } else { 0 }
 }
 
-// How many bytes the scheduled sheet of n marks has, with the parts 4 and 7 that are kept, of so many bytes, part 5, where it is kept, and part 6,
-// where it is counted.
-fn scheduled_size(n: usize, edition: usize, popups: bool, shape: usize, counted: bool) -> usize
-    requires { (n ≤ 4096) × (edition ≤ 1) × (shape ≤ 1) }
-    ensures { result ≡ 27 * n + 32 + (11 * edition + cond popups (10 + 4 * n) 0 + 11 * shape) + cond counted 180 0 }
+// How many bytes the scheduled sheet that is asked for has.
+fn scheduled_size(request: &Request<'_>) -> usize
+    ensures { result ≡ scheduled_size request.now.count (kept_of request.now) request.now.counted }
 {
-    let kept = CHOICE_BYTES * edition
-        + size_if(popups, POPUPS_BESIDE + POPUP_SIZE * n)
-        + CHOICE_BYTES * shape;
-    SHEET_EACH * n + SHEET_BESIDE + kept + size_if(counted, COUNTS_BYTES)
+    let n = request.count;
+    let kept = CHOICE_BYTES * request.edition.len()
+        + size_if(request.popups.is_some(), POPUPS_BESIDE + POPUP_SIZE * n)
+        + CHOICE_BYTES * request.shape.len();
+    SHEET_EACH * n + SHEET_BESIDE + kept + size_if(request.counted, COUNTS_BYTES)
 }
 
 // 13. Are the work buffer and the written one long enough for n marks, for a sheet of this size?
@@ -64,35 +55,19 @@ fn has_room(n: usize, size: usize, work: usize, out: usize) -> bool
     WORK_EACH * n + WORK_BESIDE <= work && size <= out
 }
 
-// What is left of a job that schedules n marks, those of `head` and then those of `tail`, keeps parts 4 and 7 and, where it is there, part 5, with
-// the popups of `popups` and then those of `last`, and renews part 6, where it is counted, once its other questions are answered with yes: 13, and
-// then the sheet and its length.
+// What is left of a job that schedules marks, once its other questions are answered with yes: 13, and then the sheet and its length.
 pub fn schedule_marks(
-    head: &[u8],
-    tail: &[u8],
-    edition: &[u8],
-    there: bool,
-    popups: &[u8],
-    last: &[u8],
-    shape: &[u8],
-    counted: bool,
+    request: &Request<'_>,
     work: &mut [u8],
     out: &mut [u8],
-    n: usize,
-) -> Answer
-    requires { PartsLent (head.now ++ tail.now) edition.now there (popups.now ++ last.now) shape.now n }
-    ensures gives { Gives (scheduling_job [] (head.now ++ tail.now) (kept_from edition.now there (popups.now ++ last.now) shape.now) counted (length work.old) (length out.old)) out.old result out.new }
-    ensures lent { Lent result work.old work.new }
+) -> Result<u32, Refusal>
+    ensures gives { Gives (scheduling_job [] (joined request.now.marks) (kept_of request.now) request.now.counted (length work.old) (length out.old)) out.old (answer_to result) out.new }
+    ensures lent { Lent (answer_to result) work.old work.new }
 {
-    let size = scheduled_size(n, edition.len(), there, shape.len(), counted);
-    if !has_room(n, size, work.len(), out.len()) {
-        return refused(13);
+    let size = scheduled_size(request);
+    if !has_room(request.count, size, work.len(), out.len()) {
+        return Err(Refusal::Room);
     }
-    writing::put_sheet(
-        head, tail, edition, there, popups, last, shape, counted, work, out, n,
-    );
-    Answer {
-        number: 0,
-        value: size as u32,
-    }
+    writing::put_sheet(request, work, out);
+    Ok(size as u32)
 }

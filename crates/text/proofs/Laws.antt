@@ -1,8 +1,11 @@
 -- Laws of decimal digits and of writing. Assumes nothing.
-use Rattle.std.specs.Prelude.{ℕ, zero, suc, ◌+◌, ◌-◌, ◌*◌, ◌/◌, ◌%◌, ◌^◌, ◌≤◌, ◌<◌, ◌≡◌, refl, Bool, true, false, cond, List, [], ◌∷◌, ◌++◌, ltb, length, set}
-use Rattle.std.proofs.Common.{sym, ap, ◌∙◌, arith, pow-suc, lt-ltb, le-ltb, length-append}
+use Rattle.std.specs.Prelude.{ℕ, zero, suc, ◌+◌, ◌-◌, ◌*◌, ◌/◌, ◌%◌, ◌^◌, ◌≤◌, ◌<◌, ◌≡◌, refl, Bool, true, false, cond, List, [], ◌∷◌, ◌++◌, ltb, length, take, set}
+use Rattle.std.proofs.Common.{sym, ap, ◌∙◌, arith, pow-suc, lt-ltb, le-ltb, length-append, append_assoc, drop-drop}
 use Rattle.std.proofs.Math.Decide.{dec_lt}
-use Rattle.std.proofs.Math.Seq.{length-sets}
+use Rattle.std.proofs.Math.Seq.{length-sets, sets-eq}
+use Rattle.std.proofs.lemmas.Fmt.{decimal_by_steps}
+use Rattle.std.specs.Fmt as Written
+use borrow.Rule.Slice.PartMut.{put_mid}
 use Rattle.lists.proofs.StoreLaws.{sets_append}
 use Rattle.text.specs.Text.{digits, most_digits, decimal, denoted, Wrote}
 
@@ -79,7 +82,20 @@ digits_denote (suc width) v h =
 pub decimal_denotes : (v : ℕ) → v < 18446744073709551616 → denoted 0 (decimal v) ≡ v
 decimal_denotes v h = digits_denote most_digits v (omega arith)
 
+-- They are those that the library writes.
+pub decimal_written : (v : ℕ) → v < 18446744073709551616 → Written.decimal v ≡ decimal v
+decimal_written v h = decimal_by_steps (λ m ds. m < 18446744073709551616 → ds ≡ decimal m) (λ m l _. sym (decimal_one m l)) step v h h
+  where
+    step : (m : ℕ) (ds : List ℕ) → 10 ≤ m → (m / 10 < 18446744073709551616 → ds ≡ decimal (m / 10)) → m < 18446744073709551616
+        → ds ++ ((48 + m % 10) ∷ []) ≡ decimal m
+    step m ds l more h = ap (λ (d : List ℕ). d ++ ((48 + m % 10) ∷ [])) (more (omega arith)) ∙ sym (decimal_more m h l)
+
 -- ---- writing one text behind another
+
+-- a text that is copied over as many bytes
+pub wrote_copy : (l : List ℕ) (at : ℕ) (ys : List ℕ) (k : ℕ) → at + length ys ≤ length l → k ≡ length ys
+    → Wrote l (put_mid at k l ys) at ys (at + length ys)
+wrote_copy l at ys k room e = record { holds = rw e (sym (sets-eq ys l at room ∙ append_assoc (take at l) ys _ ∙ ap (λ (r : List ℕ). take at l ++ (ys ++ r)) (sym (drop-drop (length ys) at l)))); ends = refl }
 
 pub wrote_then : {l m n : List ℕ} {at p q : ℕ} {a b : List ℕ} → Wrote l m at a p → Wrote m n p b q → Wrote l n at (a ++ b) q
 wrote_then {l} {m} {n} {at} {p} {q} {a} {b} u v =

@@ -5,16 +5,19 @@ ghost use Rattle.std.specs.Prelude.{◌≡◌, ◌<◌, ◌≤◌};
 ghost use Rattle.turns.specs.Turns.{row_by_column, product_at, times, turn, applied};
 ghost use Rattle.turns.specs.Small.{UpTo, SmallRow, Small, Within};
 
-#[derive(Clone, Copy)]
+#[derive(Clone, Copy, Debug, PartialEq, Eq)]
 pub struct Place {
     pub x: i32,
     pub y: i32,
 }
 
-// No turn, and one quarter turn.
-const UNIT: [[i32; 2]; 2] = [[1, 0], [0, 1]];
+// 02, request 8: "a turn is a two by two grid of whole numbers": its rows.
+pub type Grid = [[i32; 2]; 2];
 
-const QUARTER: [[i32; 2]; 2] = [[0, -1], [1, 0]];
+// No turn, and one quarter turn.
+const UNIT: Grid = [[1, 0], [0, 1]];
+
+const QUARTER: Grid = [[0, -1], [1, 0]];
 
 // A row by the column u, v. Within these bounds 32 bits hold the sum.
 fn row_by_column(row: [i32; 2], u: i32, v: i32) -> i32
@@ -25,7 +28,7 @@ fn row_by_column(row: [i32; 2], u: i32, v: i32) -> i32
 }
 
 // What stands in row i and column j of the product.
-fn product_at(a: [[i32; 2]; 2], b: [[i32; 2]; 2], i: usize, j: usize) -> i32
+fn product_at(a: Grid, b: Grid, i: usize, j: usize) -> i32
     requires { Small a × Small b × (i < 2) × (j < 2) }
     ensures { result ≡ product_at a b i j }
 {
@@ -33,7 +36,7 @@ fn product_at(a: [[i32; 2]; 2], b: [[i32; 2]; 2], i: usize, j: usize) -> i32
 }
 
 // The product of two grids, row by column: the turn `b`, and after it the turn `a`.
-pub fn times(a: [[i32; 2]; 2], b: [[i32; 2]; 2]) -> [[i32; 2]; 2]
+pub fn times(a: Grid, b: Grid) -> Grid
     requires { Small a × Small b }
     ensures { result ≡ times a b }
 {
@@ -44,7 +47,8 @@ pub fn times(a: [[i32; 2]; 2], b: [[i32; 2]; 2]) -> [[i32; 2]; 2]
 }
 
 // The grid of so many quarter turns, by multiplying: up to 4.
-pub fn turn(quarters: u8) -> [[i32; 2]; 2]
+// Kept: it calls itself, since the check does not cover a loop that puts an array from a call into a variable.
+pub fn turn(quarters: u8) -> Grid
     requires { quarters ≤ 4 }
     ensures { result ≡ turn quarters }
 {
@@ -55,7 +59,7 @@ pub fn turn(quarters: u8) -> [[i32; 2]; 2]
 }
 
 // The grid applied to a place.
-pub fn applied(grid: [[i32; 2]; 2], place: Place) -> Place
+pub fn applied(grid: Grid, place: Place) -> Place
     requires { Small grid × Within 65536 place }
     ensures { result ≡ applied grid place }
 {

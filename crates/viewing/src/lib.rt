@@ -2,19 +2,20 @@
 #![tactic(auto)]
 
 ghost use Rattle.std.specs.Prelude.{◌≡◌, true, ◌≤◌, length};
+ghost use Rattle.std.specs.Result.{result_unwrap_or};
 ghost use Rattle.contents.specs.Contents.{split};
-ghost use Rattle.contents.specs.Places.{layout_of};
-ghost use Rattle.sheet.specs.Questions.{sheet_shape, check, question10};
+ghost use Rattle.contents.specs.Refusals.{told};
+ghost use Rattle.sheet.specs.Questions.{sheet_shape, question10};
 ghost use Rattle.reaching.specs.Questions.{is_window, question11, is_map};
 ghost use Rattle.jobs.specs.Jobs.{view_job, walk_job, is_shown_job};
-ghost use Rattle.jobs.specs.Answers.{answer_of, Gives};
+ghost use Rattle.jobs.specs.Answers.{answer_of, Gives, answer_to};
 ghost use Rattle.jobs.specs.Steps.{view_at};
 
-use contents::Layout;
-use jobs::Answer;
+use contents::Refusal;
 use marks::MARK_SIZE;
 use reaching::Window;
-use zoom::{Scale, Zoom};
+use sheet::Accepted;
+use zoom::Zoom;
 
 // The most marks that a sheet holds.
 const MOST_MARKS: usize = 4096;
@@ -23,52 +24,47 @@ const MOST_MARKS: usize = 4096;
 
 // The view of an accepted sheet with parts 2 and 3, of this shape, at z = k/64: question 13, and then the map and the count.
 fn view_at(
-    sheet: &[u8],
-    layout: Layout,
+    sheet: &Accepted<'_>,
     shape: u8,
     window: Window,
     k: u32,
     map: &mut [u8],
-) -> Answer
-    requires sheet_value { (check sheet.now ≡ 0) × (layout ≡ layout_of sheet.now) × (question10 (split sheet.now) ≡ true) × (k ≤ 65536) }
-    requires shape_value { (shape ≡ sheet_shape sheet.now) × (is_window window ≡ true) × (question11 window ≡ true) }
-    ensures { Gives (view_at sheet.now window k (length map.old)) map.old result map.new }
+) -> Result<u32, Refusal>
+    requires sheet_value { (question10 (split sheet.now.bytes.now) ≡ true) × (k ≤ 65536) }
+    requires shape_value { (shape ≡ sheet_shape sheet.now.bytes.now) × (is_window window ≡ true) × (question11 window ≡ true) }
+    ensures { Gives (view_at sheet.now.bytes.now window k (length map.old)) map.old (answer_to result) map.new }
 {
-    let marks = contents::part(sheet, layout, 1);
+    let marks = contents::cut(sheet.bytes, sheet.layout.marks);
     let n = marks.len() / MARK_SIZE;
-    if map.len() < (n + 7) / 8 {
-        return steps::refused(13);
+    if map.len() < n.div_ceil(8) {
+        return Err(Refusal::Room);
     }
-    let schedule = contents::part(sheet, layout, 2);
-    let index = contents::part(sheet, layout, 3);
-    let popups = contents::part(sheet, layout, 5);
-    Answer {
-        number: 0,
-        value: view::show(marks, shape, schedule, popups, index, n, window, k, map),
-    }
+    let schedule = contents::cut(sheet.bytes, sheet.layout.schedule);
+    let index = contents::cut(sheet.bytes, sheet.layout.index);
+    let popups = contents::cut(sheet.bytes, sheet.layout.popups);
+    Ok(view::show(marks, shape, schedule, popups, index, n, window, k, map))
 }
 
 // Writes the map of a view, and answers how many marks it shows: questions 1 to 10, 20, and 11 to 13.
-pub fn view(sheet: &[u8], window: Window, zoom: Zoom, map: &mut [u8]) -> Answer
-    ensures { Gives (view_job sheet.now window zoom (length map.old)) map.old result map.new }
+pub fn view(sheet: &[u8], window: Window, zoom: Zoom, map: &mut [u8]) -> Result<u32, Refusal>
+    ensures { Gives (view_job sheet.now window zoom (length map.old)) map.old (answer_to result) map.new }
 {
-    let found = sheet::indexed(sheet);
-    let number = found.number;
-    if number != 0 {
-        return steps::refused(number);
-    }
-    let layout = found.layout;
-    let shape = parts::choice_of(contents::part(sheet, layout, 7));
+    let layout = sheet::indexed(sheet)?;
+    let shape = parts::choice_of(contents::cut(sheet, layout.shape));
     if !reaching::is_taken(shape, window) {
-        return steps::refused(20);
+        return Err(Refusal::Window);
     }
     if !reaching::is_ordered(window) {
-        return steps::refused(11);
+        return Err(Refusal::WindowOrder);
     }
-    match zoom::scale_of(zoom) {
-        Scale::Refused => steps::refused(12),
-        Scale::Taken(k) => view_at(sheet, layout, shape, window, k, map),
-    }
+    let Some(k) = zoom::scale_of(zoom) else {
+        return Err(Refusal::Zoom);
+    };
+    let accepted = Accepted {
+        bytes: sheet,
+        layout,
+    };
+    view_at(&accepted, shape, window, k, map)
 }
 
 // ---- reading a map
@@ -77,40 +73,29 @@ pub fn view(sheet: &[u8], window: Window, zoom: Zoom, map: &mut [u8]) -> Answer
 fn is_map(map: &[u8], n: u32) -> bool
     ensures { result ≡ is_map map.now n }
 {
-    n as usize <= MOST_MARKS && (n as usize + 7) / 8 <= map.len()
+    n as usize <= MOST_MARKS && (n as usize).div_ceil(8) <= map.len()
 }
 
-// The least shown mark at or after `start` and below n, else 65,535.
-pub fn walk(map: &[u8], n: u32, start: u32) -> Answer
-    ensures { result ≡ answer_of (walk_job map.now n start) }
+// The least shown mark at or after `start` and below n, else 65,535; it asks 13.
+// Kept: the C interface has no Option, and `walk_job` says 65,535 where no mark is left.
+pub fn walk(map: &[u8], n: u32, start: u32) -> Result<u32, Refusal>
+    ensures { (told result ≡ (walk_job map.now n start).number) × (result_unwrap_or result 65535 ≡ (walk_job map.now n start).value) }
 {
     if !is_map(map, n) {
-        return Answer {
-            number: 13,
-            value: 65535,
-        };
+        return Err(Refusal::Room);
     }
-    Answer {
-        number: 0,
-        value: bitmap::walk(map, n as usize, start as usize) as u32,
-    }
+    Ok(bitmap::walk(map, n as usize, start as usize) as u32)
 }
 
 // Whether the map of n marks shows mark m: 1 or 0, and 0 where m is not below n. It asks 13 as the walk does.
-pub fn is_shown(map: &[u8], n: u32, m: u32) -> Answer
-    ensures { result ≡ answer_of (is_shown_job map.now n m) }
+pub fn is_shown(map: &[u8], n: u32, m: u32) -> Result<u32, Refusal>
+    ensures { (answer_to result) ≡ answer_of (is_shown_job map.now n m) }
 {
     if !is_map(map, n) {
-        return steps::refused(13);
+        return Err(Refusal::Room);
     }
     if n <= m {
-        return Answer {
-            number: 0,
-            value: 0,
-        };
+        return Ok(0);
     }
-    Answer {
-        number: 0,
-        value: bitmap::test_bit(map, m as usize) as u32,
-    }
+    Ok(u32::from(bitmap::test_bit(map, m as usize)))
 }

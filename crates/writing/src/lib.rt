@@ -1,7 +1,7 @@
 // The sheet that scheduling writes: its contents, the marks and the parts that are kept, and then parts 2, 3 and 6.
 #![tactic(auto)]
 
-ghost use Rattle.std.specs.Prelude.{◌≡◌, true, cond, [], ◌∷◌, ◌++◌, ◌+◌, ◌-◌, ◌*◌, ◌<◌, ◌≤◌, ltb, length, take, drop};
+ghost use Rattle.std.specs.Prelude.{◌≡◌, true, cond, [], ◌∷◌, ◌++◌, ◌+◌, ◌-◌, ◌*◌, ◌<◌, ◌≤◌, ltb, is_some, length, take, drop};
 ghost use Rattle.std.proofs.lemmas.List.Edits.{sets};
 ghost use Rattle.lists.specs.Stores.{over};
 ghost use Rattle.marks.specs.Marks.{mark_size};
@@ -13,12 +13,21 @@ ghost use Rattle.indexing.specs.Buffer.{index_end};
 ghost use Rattle.counting.specs.Counts.{counts_of};
 ghost use Rattle.contents.specs.Contents.{contents_size, contents_of};
 ghost use Rattle.jobs.specs.Jobs.{scheduled_from, scheduled_size};
-ghost use Rattle.jobs.specs.Steps.{kept_from, PartsLent, codes_from, sizes_from, bare_from, results_over};
+ghost use Rattle.jobs.specs.Steps.{if_any, codes_from, sizes_from, results_over};
+ghost use Rattle.arrayvec.specs.ArrayVec.{array_vec_len};
+ghost use Rattle.writing.specs.Pieces.{joined, joined_if};
+ghost use Rattle.writing.specs.Requests.{kept_of, bare_of, begin_of};
 
+use arrayvec::ArrayVec;
+use contents::{COUNTS, EDITION, INDEX, MARKS, POPUPS, SCHEDULE, SHAPE, TOP};
 use counting::COUNTS_SIZE;
 use elimination::RECORD_SIZE;
 use index::INDEX_ENTRY_SIZE;
 use marks::{MARK_SIZE, POPUP_SIZE};
+
+mod request;
+
+pub use request::Request;
 
 // What each mark takes of the sheet in parts 1 to 3.
 pub const SHEET_EACH: usize = 27;
@@ -33,98 +42,118 @@ fn put_results(all: &mut [u8], edition: u8, shape: u8, at: usize, work: &mut [u8
     indexing::build(all, work, n);
 }
 
-// Lists a part behind the first `count`, where it is there, and answers how many are listed then.
+// Lists a part, where it is there.
 fn list_part(
-    codes: &mut [u16],
-    sizes: &mut [usize],
-    count: usize,
+    codes: &mut ArrayVec<u16, TOP>,
+    sizes: &mut ArrayVec<usize, TOP>,
     there: bool,
     code: u16,
     size: usize,
-) -> usize
-    requires { (count < length codes.old) × (count < length sizes.old) }
-    ensures { (result ≡ count + cond there 1 0) × (take result codes.new ≡ take count codes.old ++ cond there (code ∷ []) []) × (take result sizes.new ≡ take count sizes.old ++ cond there (size ∷ []) []) }
+)
+    requires { (array_vec_len codes.old < 7) × (array_vec_len sizes.old < 7) }
+    ensures codes { codes.new.items ≡ codes.old.items ++ if_any there code }
+    ensures sizes { sizes.new.items ≡ sizes.old.items ++ if_any there size }
 {
     if there {
-        codes[count] = code;
-        sizes[count] = size;
-        return count + 1;
+        codes.push(code);
+        sizes.push(size);
     }
-    count
 }
 
-// Writes the contents of a sheet of n marks with part 2, by which of parts 3 to 7 are there, and answers where the marks start.
-pub fn put_head(
-    out: &mut [u8],
-    n: usize,
-    index: bool,
-    edition: bool,
-    popups: bool,
-    counts: bool,
-    shape: bool,
-) -> usize
-    requires { (n ≤ 4096) × (contents_size (length (codes_from index edition popups counts shape)) ≤ length out.old) }
-    ensures { (result ≡ contents_size (length (codes_from index edition popups counts shape))) × (out.new ≡ sets out.old 0 (contents_of (codes_from index edition popups counts shape) (sizes_from n index edition popups counts shape))) }
+// Which of parts 3 to 7 the contents of a sheet list. Parts 1 and 2 are there.
+#[derive(Clone, Copy)]
+pub struct Listed {
+    pub index: bool,
+    pub edition: bool,
+    pub popups: bool,
+    pub counts: bool,
+    pub shape: bool,
+}
+
+// Writes the contents of a sheet of n marks, by which parts are listed, and answers where the marks start.
+pub fn put_head(out: &mut [u8], n: usize, listed: Listed) -> usize
+    requires { (n ≤ 4096) × (contents_size (length (codes_from listed.index listed.edition listed.popups listed.counts listed.shape)) ≤ length out.old) }
+    ensures { (result ≡ contents_size (length (codes_from listed.index listed.edition listed.popups listed.counts listed.shape))) × (out.new ≡ sets out.old 0 (contents_of (codes_from listed.index listed.edition listed.popups listed.counts listed.shape) (sizes_from n listed.index listed.edition listed.popups listed.counts listed.shape))) }
 {
-    let mut codes: [u16; 7] = [1, 2, 0, 0, 0, 0, 0];
-    let mut sizes = [MARK_SIZE * n, RECORD_SIZE * n, 0, 0, 0, 0, 0];
-    let third = list_part(&mut codes, &mut sizes, 2, index, 3, INDEX_ENTRY_SIZE * n);
-    let fourth = list_part(&mut codes, &mut sizes, third, edition, 4, 1);
-    let fifth = list_part(&mut codes, &mut sizes, fourth, popups, 5, POPUP_SIZE * n);
-    let sixth = list_part(&mut codes, &mut sizes, fifth, counts, 6, COUNTS_SIZE);
-    let count = list_part(&mut codes, &mut sizes, sixth, shape, 7, 1);
-    joining::put_contents(out, &codes[..count], &sizes[..count])
+    let Listed {
+        index,
+        edition,
+        popups,
+        counts,
+        shape,
+    } = listed;
+    let mut codes = ArrayVec::new();
+    let mut sizes = ArrayVec::new();
+    list_part(&mut codes, &mut sizes, true, MARKS, MARK_SIZE * n);
+    list_part(&mut codes, &mut sizes, true, SCHEDULE, RECORD_SIZE * n);
+    list_part(&mut codes, &mut sizes, index, INDEX, INDEX_ENTRY_SIZE * n);
+    list_part(&mut codes, &mut sizes, edition, EDITION, 1);
+    list_part(&mut codes, &mut sizes, popups, POPUPS, POPUP_SIZE * n);
+    list_part(&mut codes, &mut sizes, counts, COUNTS, COUNTS_SIZE);
+    list_part(&mut codes, &mut sizes, shape, SHAPE, 1);
+    joining::put_contents(out, codes.as_slice(), sizes.as_slice())
 }
 
-// Copies two pieces to `at`, one behind the other, and answers where they end.
-fn put_pieces(out: &mut [u8], at: usize, first: &[u8], second: &[u8]) -> usize
-    requires { at + length (first.now ++ second.now) ≤ length out.old }
-    ensures { (result ≡ at + length (first.now ++ second.now)) × (out.new ≡ sets out.old at (first.now ++ second.now)) }
+// Bytes in two pieces, one behind the other.
+#[derive(Clone, Copy)]
+pub struct Pieces<'a> {
+    pub first: &'a [u8],
+    pub second: &'a [u8],
+}
+
+impl Pieces<'_> {
+    // Copies them to `at`, and answers where they end.
+    fn put(self, out: &mut [u8], at: usize) -> usize
+        requires { at + length (joined self) ≤ length out.old }
+        ensures { (result ≡ at + length (joined self.entry)) × (out.new ≡ sets out.old at (joined self.entry)) }
+    {
+        let middle = joining::put(out, at, self.first);
+        joining::put(out, middle, self.second)
+    }
+}
+
+// The same where they are there.
+fn put_if(out: &mut [u8], at: usize, pieces: Option<Pieces<'_>>) -> usize
+    requires { at + length (joined_if pieces) ≤ length out.old }
+    ensures { (result ≡ at + length (joined_if pieces.entry)) × (out.new ≡ sets out.old at (joined_if pieces.entry)) }
 {
-    let middle = joining::put(out, at, first);
-    joining::put(out, middle, second)
+    match pieces {
+        Some(pieces) => pieces.put(out, at),
+        None => at,
+    }
 }
 
-// Writes the scheduled sheet of n marks up to parts 6 and 7, those of `head` and then those of `tail`, of the part 4 that is kept, and of part 5, where
-// it is there: the popups of `popups` and then those of `last`. All is put together in `out` and scheduled there. Answers where the marks start.
-fn put_scheduled(
-    head: &[u8],
-    tail: &[u8],
-    edition: &[u8],
-    there: bool,
-    popups: &[u8],
-    last: &[u8],
-    shape: &[u8],
-    counted: bool,
-    work: &mut [u8],
-    out: &mut [u8],
-    n: usize,
-) -> usize
-    requires parts_lent { PartsLent (head.now ++ tail.now) edition.now there (popups.now ++ last.now) shape.now n }
-    requires n_in_bounds { (work_size n ≤ length work.old) × (scheduled_size n (kept_from edition.now there (popups.now ++ last.now) shape.now) counted ≤ length out.old) }
-    ensures { (result ≡ contents_size (length (codes_from true (ltb 0 (length edition.now)) there counted (ltb 0 (length shape.now))))) × (out.new ≡ over (bare_from (head.now ++ tail.now) edition.now there (popups.now ++ last.now) shape.now counted) out.old) }
+// Writes the scheduled sheet that is asked for up to parts 6 and 7. All is put together in `out` and scheduled there. Answers where the marks start
+// and where part 5 ends.
+fn put_scheduled(request: &Request<'_>, work: &mut [u8], out: &mut [u8]) -> (usize, usize)
+    requires { (work_size request.now.count ≤ length work.old) × (scheduled_size request.now.count (kept_of request.now) request.now.counted ≤ length out.old) }
+    ensures start { result.0 ≡ begin_of request.now }
+    ensures end { result.1 ≡ begin_of request.now + 27 * request.now.count + length request.now.edition.now + length (joined_if request.now.popups) }
+    ensures written { out.new ≡ over (bare_of request.now) out.old }
 {
     let start = put_head(
         out,
-        n,
-        true,
-        0 < edition.len(),
-        there,
-        counted,
-        0 < shape.len(),
+        request.count,
+        Listed {
+            index: true,
+            edition: 0 < request.edition.len(),
+            popups: request.popups.is_some(),
+            counts: request.counted,
+            shape: 0 < request.shape.len(),
+        },
     );
-    put_pieces(out, start, head, tail);
-    let from = joining::put(out, start + SHEET_EACH * n, edition);
-    let end = put_pieces(out, from, popups, last);
+    request.marks.put(out, start);
+    let from = joining::put(out, start + SHEET_EACH * request.count, request.edition);
+    let end = put_if(out, from, request.popups);
     put_results(
         &mut out[start..end],
-        parts::choice_of(edition),
-        parts::choice_of(shape),
+        parts::choice_of(request.edition),
+        parts::choice_of(request.shape),
         from - start,
         work,
-        n,
+        request.count,
     );
-    start
+    (start, end)
 }
 
 // Writes the counts of n marks to `end`, where they are wanted: those of the marks at `start`, of the schedule behind them, and of the popups from
@@ -150,34 +179,12 @@ fn put_counts(
 }
 
 // The same with part 6, where it is counted, and with the part 7 that is kept: the whole sheet.
-pub fn put_sheet(
-    head: &[u8],
-    tail: &[u8],
-    edition: &[u8],
-    there: bool,
-    popups: &[u8],
-    last: &[u8],
-    shape: &[u8],
-    counted: bool,
-    work: &mut [u8],
-    out: &mut [u8],
-    n: usize,
-)
-    requires parts_lent { PartsLent (head.now ++ tail.now) edition.now there (popups.now ++ last.now) shape.now n }
-    requires n_in_bounds { (work_size n ≤ length work.old) × (scheduled_size n (kept_from edition.now there (popups.now ++ last.now) shape.now) counted ≤ length out.old) }
-    ensures { out.new ≡ over (scheduled_from (head.now ++ tail.now) (kept_from edition.now there (popups.now ++ last.now) shape.now) counted) out.old }
+pub fn put_sheet(request: &Request<'_>, work: &mut [u8], out: &mut [u8])
+    requires { (work_size request.now.count ≤ length work.old) × (scheduled_size request.now.count (kept_of request.now) request.now.counted ≤ length out.old) }
+    ensures { out.new ≡ over (scheduled_from (joined request.now.marks) (kept_of request.now) request.now.counted) out.old }
 {
-    let start = put_scheduled(
-        head, tail, edition, there, popups, last, shape, counted, work, out, n,
-    );
-    let from = start + SHEET_EACH * n + edition.len();
-    let end = put_counts(
-        out,
-        start,
-        from,
-        from + popups.len() + last.len(),
-        n,
-        counted,
-    );
-    joining::put(out, end, shape);
+    let (start, end) = put_scheduled(request, work, out);
+    let from = start + SHEET_EACH * request.count + request.edition.len();
+    let end = put_counts(out, start, from, end, request.count, request.counted);
+    joining::put(out, end, request.shape);
 }

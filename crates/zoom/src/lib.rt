@@ -5,52 +5,43 @@ ghost use Rattle.std.specs.Prelude.{◌≡◌, ◌<◌};
 ghost use Rattle.fractions.specs.Order.{Small};
 ghost use Rattle.zoom.specs.Zoom.{scale_of, wheel_scale};
 ghost use Rattle.zoom.specs.Living.{lives_at};
-ghost use Rattle.zoom.specs.Printed.{root_step, root, nearest};
+ghost use Rattle.zoom.specs.Printed.{root, nearest};
 
 use fractions::{Fraction, Value};
 
 // ---- which zooms are taken
 
+// 01: "Stop s, 0 to 16".
+const LAST_STOP: u8 = 16;
+
 // 01: "For the viewer a zoom is either a stop or a wheel value."
-#[derive(Clone, Copy)]
+#[derive(Clone, Copy, Debug, PartialEq)]
 pub enum Zoom {
     Stop(u8),
     Wheel(f32),
 }
 
-// k = 64z, or refusal 12.
-#[derive(Clone, Copy)]
-pub enum Scale {
-    Taken(u32),
-    Refused,
-}
-
 // The tests on w keep the product in range, so that it is exact; the whole part cast back to a float tells that nothing is cut off.
-fn wheel_scale(w: f32) -> Scale
+fn wheel_scale(w: f32) -> Option<u32>
     ensures { result ≡ wheel_scale w }
 {
-    if w >= 0.015625 {
-        if w <= 1024.0 {
-            let p = w * 64.0;
-            let t = std::num::truncating_f32_to_u64(p);
-            if t as f32 == p {
-                return Scale::Taken(p as u32);
-            }
+    if w >= 0.015625 && w <= 1024.0 {
+        let p = w * 64.0;
+        let t = std::num::truncating_f32_to_u64(p);
+        if t as f32 == p {
+            return Some(p as u32);
         }
     }
-    Scale::Refused
+    None
 }
 
-// k = 64z of a zoom that is taken. The stop is tested before the shift, whose amount would wrap.
-pub fn scale_of(zoom: Zoom) -> Scale
+// k = 64z of a zoom that is taken, and none where 12 refuses it. The stop is tested before the shift, whose amount would wrap.
+pub fn scale_of(zoom: Zoom) -> Option<u32>
     ensures { result ≡ scale_of zoom }
 {
     match zoom {
-        Zoom::Stop(s) => if s <= 16 {
-            Scale::Taken(1u32 << s)
-        } else {
-            Scale::Refused
-        },
+        Zoom::Stop(s) if s <= LAST_STOP => Some(1 << s),
+        Zoom::Stop(_) => None,
         Zoom::Wheel(w) => wheel_scale(w),
     }
 }
@@ -68,26 +59,11 @@ pub fn lives(v: Value, k: u32) -> bool
 
 // ---- the printed zoom
 
-// One step of the root: r is the root of a fourth of v.
-fn root_step(r: u64, v: u64) -> u64
-    requires { r < 2147483648 }
-    ensures { result ≡ root_step r v }
-{
-    let more = 2 * r + 1;
-    if more * more <= v { more } else { 2 * r }
-}
-
-// The largest number whose square is at most v, two bits of v a turn.
+// The largest number whose square is at most v.
 fn root_of(v: u64) -> u64
     ensures { result ≡ root 32 v }
 {
-    let mut r: u64 = 0;
-    let mut left: u32 = 32;
-    while 0 < left {
-        left -= 1;
-        r = root_step(r, v >> (2 * left));
-    }
-    r
+    v.isqrt()
 }
 
 // The removal zoom to the nearest 64th, an exact half to the even number: from the zoom in 128ths.

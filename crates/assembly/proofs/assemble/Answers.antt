@@ -1,8 +1,7 @@
--- `assembly::assemble`: the number of parts, their codes, and then the answer's two cases, with 01's number and length of each. Assumes
--- nothing.
+-- `assembly::assemble`: the number of parts, their codes, and then what putting the parts together answers. Assumes nothing.
 use Prim.Native.Nat.{ℕ, ◌≤◌}
 use Rattle.std.specs.Borrow.{Bor}
-use mathlib.Core.Path.{◌≡◌, sym, ap, ◌∙◌}
+use mathlib.Core.Path.{◌≡◌, refl, sym, ap, ◌∙◌}
 use mathlib.Core.Bool.{true}
 use mathlib.Core.List.{List, map}
 use lib.ListN.{length, take, length-map}
@@ -11,9 +10,7 @@ use borrow.Author.Tests.{leb-true}
 use Rattle.lists.proofs.TestLaws.{both_iff}
 use Rattle.contents.specs.Contents.{together}
 use Rattle.contents.specs.Questions.{is_count}
-use Rattle.sheet.specs.Assembled.{number_of, length_of}
-use Rattle.jobs.specs.Jobs.{are_counted, assemble_job}
-use Rattle.jobs.specs.Answers.{Gives}
+use Rattle.jobs.specs.Jobs.{are_counted}
 use Rattle.jobs.proofs.Theorems.{assemble_joins}
 use Rattle.jobs.proofs.Laws.Given.{together_take, map_take}
 use Rattle.jobs.proofs.Laws.Outcomes.{assemble_gives, assemble_uncounted, assemble_uncoded}
@@ -32,7 +29,7 @@ returns-then-not-are_counted c =
     let codes = c.args.codes.now in
     let bodies = map (λ x. x.now) c.args.bodies.now in
     let gives =
-    assemble_uncounted codes bodies _ (rw (length-map c.args.bodies.now (λ x. x.now)) (sym c.are_counted.ensures ∙ c.if-not-are_counted.true)) c.refused.ensures in
+    assemble_uncounted codes bodies _ (rw (length-map c.args.bodies.now (λ x. x.now)) (sym c.are_counted.ensures ∙ c.if-not-are_counted.true)) refl in
     record { gives = gives; joins = assemble_joins codes bodies c.args.out.now gives }
 
 pub returns-then-not-codes_right : goal.returns-then-not-codes_right
@@ -41,7 +38,7 @@ returns-then-not-codes_right c =
     let bodies = map (λ x. x.now) c.args.bodies.now in
     let gives =
     assemble_uncoded codes bodies _ (counted (goal.at.returns-then-not-codes_right c).Else-not-are_counted) (sym c.codes_right.ensures ∙ c.if-not-codes_right.true)
-    c.refused-then-not-codes_right.ensures in
+    refl in
     record { gives = gives; joins = assemble_joins codes bodies c.args.out.now gives }
 
 pub slice_bounds-assemble-end : goal.slice_bounds-assemble-end
@@ -55,23 +52,10 @@ assemble-requires c =
 lent : (codes : List ℕ) (bodies : List (Bor (List ℕ))) → together codes (map (λ x. x.now) (take (length codes) bodies)) ≡ together codes (map (λ x. x.now) bodies)
 lent codes bodies = ap (together codes) (map_take (λ x. x.now) (length codes) bodies) ∙ together_take codes (map (λ x. x.now) bodies)
 
-pub returns-in-Refused : goal.returns-in-Refused
-unfolding number_of length_of
-returns-in-Refused c =
+pub returns : goal.returns
+returns c =
     let codes = c.args.codes.now in
     let bodies = map (λ x. x.now) c.args.bodies.now in
     let assembled = rw (lent codes c.args.bodies.now) at c.assemble.ensures in
-    let gives : Gives (assemble_job codes bodies (length c.args.out.now)) c.args.out.now c.refused-in-Refused.result c.assemble.new.out =
-    rw c.refused-in-Refused.ensures
-    (rw c.in-Refused.is at (assemble_gives codes bodies _ _ _ (counted (goal.at.returns-in-Refused c).Else-not-are_counted) (sym c.codes_right.ensures ∙ c.if-not-codes_right.false) assembled)) in
-    record { gives = gives; joins = assemble_joins codes bodies c.args.out.now gives }
-
-pub returns-in-Written : goal.returns-in-Written
-unfolding number_of length_of
-returns-in-Written c =
-    let codes = c.args.codes.now in
-    let bodies = map (λ x. x.now) c.args.bodies.now in
-    let assembled = rw (lent codes c.args.bodies.now) at c.assemble.ensures in
-    let gives =
-    rw c.in-Written.is at (assemble_gives codes bodies _ _ _ (counted (goal.at.returns-in-Written c).Else-not-are_counted) (sym c.codes_right.ensures ∙ c.if-not-codes_right.false) assembled) in
+    let gives = assemble_gives codes bodies _ _ _ (counted (goal.at.returns c).Else-not-are_counted) (sym c.codes_right.ensures ∙ c.if-not-codes_right.false) assembled in
     record { gives = gives; joins = assemble_joins codes bodies c.args.out.now gives }

@@ -1,5 +1,5 @@
 -- What a clash is, as a statement, and what is known of removal values as fractions. Assumes nothing.
-use Rattle.std.specs.Prelude.{ℕ, ◌*◌, ◌<◌, ◌≡◌, Bool, true, false, not, List, ◌≢◌, ◌⊎◌, eqb}
+use Rattle.std.specs.Prelude.{ℕ, ◌*◌, ◌<◌, ◌≡◌, Bool, true, false, not, List, ◌≢◌, ◌⊎◌, length, eqb}
 use Rattle.std.proofs.Common.{sym, ap, ◌∙◌, true≢false, arith}
 use Rattle.std.proofs.Math.Logic.{inl, inr}
 use Rattle.std.proofs.Math.Decide.{ℕ_discrete}
@@ -12,12 +12,13 @@ use Rattle.fractions.specs.declared.Value.TheVariants.{Never, At}
 use Rattle.fractions.specs.Order.{less, Less, AtMost, Sound, Small}
 use Rattle.fractions.proofs.Laws.{order, less_at_most, less_iff}
 use Rattle.marks.specs.Marks.{outranks}
-use Rattle.marks.specs.Pairs.{pair_value}
+use Rattle.marks.specs.Pairs.{popup_size, pair_value}
+use Rattle.marks.specs.Good.{GoodMarks}
 use Rattle.marks.proofs.PairLaws.{pairs_positive}
 use Rattle.elimination.specs.Records.{den_at, eliminator_at, value_at}
 use Rattle.elimination.specs.Reel.{Reel, GoodReel}
 use Rattle.parts.proofs.Laws.{record_small}
-use Rattle.clashing.specs.Clash.{limit_of, limit_at, clash, Asked}
+use Rattle.clashing.specs.Clash.{limit_of, limit_at, clash, Asked, Proposable}
 use Rattle.clashing.proofs.Laws.Right.{right_of_lem}
 
 -- ---- values as fractions
@@ -33,6 +34,21 @@ value_sound p m =
 -- what was asked is a good reel
 good_reel : {r : Reel} {p : List ℕ} → Asked r p → Bytes r.marks → GoodReel r
 good_reel a b = record { good = a.marks; bytes = b; popped = a.popped }
+
+-- what a proposal carries, beside its good marks, is what was asked
+pub asked_of : {r : Reel} {p : List ℕ} → GoodMarks r.marks r.count → Proposable r p → Asked r p
+asked_of {r} good a = record { marks = good; popped = record { sized = sized; each = a.popups_small }; schedule_long = a.schedule_long; right = a.right }
+  where
+    sized : (length r.popups ≡ 0) ⊎ (length r.popups ≡ popup_size * r.count)
+    sized = elim (ℕ_discrete (length r.popups) 0) [ yes e ↦ inl e | no e ↦ inr (a.popups_sized e) ]
+
+pub proposable : {r : Reel} {p : List ℕ} → Asked r p → Proposable r p
+proposable a = record {
+  popups_sized = λ e. elim a.popped.sized [ inl z ↦ absurd (e z) | inr l ↦ l ];
+  popups_small = a.popped.each;
+  schedule_long = a.schedule_long;
+  right = a.right;
+}
 
 pub limit_small : {r : Reel} {p : List ℕ} → Asked r p → Bytes r.marks → {m : ℕ} → m < r.count → Small (limit_at p m)
 unfolding value_at limit_of

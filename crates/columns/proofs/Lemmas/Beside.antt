@@ -9,8 +9,9 @@ use Rattle.lists.proofs.StoreLaws.{sets_append}
 use Rattle.numbers.specs.Little.{le_bytes}
 use Rattle.numbers.proofs.Laws.{le_length}
 use Rattle.rows.specs.Rows.{rows}
+use Rattle.columns.specs.declared.Fields.{Fields}
 use Rattle.columns.specs.Columns.{Values, field, in_marks, column, as_columns, differences, places_by}
-use Rattle.columns.specs.Steps.{Column, columns_of, filled_to, entered, alike, entered_at}
+use Rattle.columns.specs.Steps.{Column, fields_at, placed, columns_of, filled_to, entered, alike}
 use Rattle.columns.proofs.Lemmas.Reading.{column_length}
 use Rattle.columns.proofs.Lemmas.Writing.{columns_sets}
 
@@ -72,24 +73,24 @@ module _ (v : Values) (n : ℕ) where
   filled_all l = columns_sets l v n refl refl refl refl refl refl
 
 -- six stores are an entry of each column
-pub entry_sets : (l₀ : List ℕ) {l₁ l₂ l₃ l₄ l₅ l₆ : List ℕ} (n m x y radius priority kind tag : ℕ)
-    → l₁ ≡ sets l₀ (2 * m) (le_bytes 2 x) → l₂ ≡ sets l₁ (2 * n + 2 * m) (le_bytes 2 y) → l₃ ≡ sets l₂ (4 * n + 2 * m) (le_bytes 2 radius)
-    → l₄ ≡ sets l₃ (6 * n + 2 * m) (le_bytes 2 priority) → l₅ ≡ sets l₄ (8 * n + m) (le_bytes 1 kind) → l₆ ≡ sets l₅ (9 * n + 2 * m) (le_bytes 2 tag)
-    → l₆ ≡ entered (columns_of (alike x y radius priority kind tag) n) m l₀
+pub entry_sets : (l₀ : List ℕ) {l₁ l₂ l₃ l₄ l₅ l₆ : List ℕ} (n m : ℕ) (v : Fields)
+    → l₁ ≡ sets l₀ (2 * m) (le_bytes 2 v.x) → l₂ ≡ sets l₁ (2 * n + 2 * m) (le_bytes 2 v.y) → l₃ ≡ sets l₂ (4 * n + 2 * m) (le_bytes 2 v.radius)
+    → l₄ ≡ sets l₃ (6 * n + 2 * m) (le_bytes 2 v.priority) → l₅ ≡ sets l₄ (8 * n + m) (le_bytes 1 v.kind) → l₆ ≡ sets l₅ (9 * n + 2 * m) (le_bytes 2 v.tag)
+    → l₆ ≡ entered (columns_of (alike v) n) m l₀
 unfolding entered
-entry_sets l₀ n m x y radius priority kind tag a b c d e f =
+entry_sets l₀ n m v a b c d e f =
     let z : 0 + 2 * m ≡ 2 * m = omega arith in
     let o : 8 * n + 1 * m ≡ 8 * n + m = omega arith in
     rw (z, o, ← a, ← b, ← c, ← d, ← e) f
 
 -- a turn of the loop that rearranges marks
-pub entered_more : (s l₀ : List ℕ) (n m : ℕ) {dx dy : ℕ} {l l' : List ℕ} → dx ≡ differences (field 2 0 s) m → dy ≡ differences (field 2 2 s) m → m < n
-    → l ≡ filled_to (columns_of (places_by differences (in_marks s)) n) m l₀ → l' ≡ entered_at s n m dx dy l
+pub entered_more : (s l₀ : List ℕ) (n m : ℕ) {f : Fields} {dx dy : ℕ} {l l' : List ℕ} → f ≡ fields_at s m → dx ≡ differences (field 2 0 s) m → dy ≡ differences (field 2 2 s) m → m < n
+    → l ≡ filled_to (columns_of (places_by differences (in_marks s)) n) m l₀ → l' ≡ entered (columns_of (alike (placed f dx dy)) n) m l
     → l' ≡ filled_to (columns_of (places_by differences (in_marks s)) n) (m + 1) l₀
 unfolding entered
-entered_more s l₀ n m a b h e f =
+entered_more s l₀ n m are a b h e f =
     let v = places_by differences (in_marks s) in
-    rw (a, b, e) at f ∙ filled_more (columns_of v n) 0 n m l₀ (in_line v n) h ∙ rw (add-one m)
+    rw (a, b, are, e) at f ∙ filled_more (columns_of v n) 0 n m l₀ (in_line v n) h ∙ rw (add-one m)
 
 pub filled_length : (cs : List Column) (m : ℕ) (l : List ℕ) → length (filled_to cs m l) ≡ length l
 unfolding filled_to

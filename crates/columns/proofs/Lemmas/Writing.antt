@@ -9,8 +9,9 @@ use Rattle.numbers.specs.Little.{le_bytes}
 use Rattle.numbers.proofs.Laws.{le_length}
 use Rattle.lists.proofs.StoreLaws.{sets_append}
 use Rattle.rows.specs.Rows.{rows}
-use Rattle.columns.specs.Columns.{Values, mark, mark_of, column, as_columns, differences, sums}
-use Rattle.columns.specs.Steps.{Laid, Kept}
+use Rattle.columns.specs.declared.Fields.{Fields}
+use Rattle.columns.specs.Columns.{Values, mark_of, column, as_columns, differences, sums}
+use Rattle.columns.specs.Steps.{mark_with, Laid, Kept}
 use Rattle.columns.proofs.Lemmas.Pieces.{pieces_length}
 use Rattle.columns.proofs.Lemmas.Reading.{column_length, mark_length}
 
@@ -58,10 +59,10 @@ module _ (value : ℕ → ℕ) where
   kept_more m h e = record { small = h; last_is = e ∙ rw (add-one m) }
 
 pub difference : (value : ℕ → ℕ) (m : ℕ) {last v : ℕ} → Kept value last m → v ≡ value m → v < 65536
-    → (v + 65536 - last) % 65536 ≡ differences value m
+    → (v + (65536 - last)) % 65536 ≡ differences value m
 unfolding differences
 difference value zero k e h = omega (arith, k.last_is)
-difference value (suc m) k e h = rw (k.last_is, e)
+difference value (suc m) k e h = omega (arith, k.last_is, k.small, e)
 
 pub sum : (value : ℕ → ℕ) (m : ℕ) {last v : ℕ} → Kept (sums value) last m → v ≡ value m → v < 65536
     → (last + v) % 65536 ≡ sums value m
@@ -71,21 +72,21 @@ sum value (suc m) k e h = rw (k.last_is, e)
 
 -- ---- six runs
 
-pub values_sets : (l₀ : List ℕ) {l₁ l₂ l₃ l₄ l₅ l₆ : List ℕ} (at x y radius priority kind tag : ℕ)
-    → l₁ ≡ sets l₀ at (le_bytes 2 x) → l₂ ≡ sets l₁ (at + 2) (le_bytes 2 y) → l₃ ≡ sets l₂ (at + 4) (le_bytes 2 radius)
-    → l₄ ≡ sets l₃ (at + 6) (le_bytes 2 priority) → l₅ ≡ sets l₄ (at + 8) (le_bytes 1 kind) → l₆ ≡ sets l₅ (at + 9) (le_bytes 2 tag)
-    → l₆ ≡ sets l₀ at (mark x y radius priority kind tag)
-values_sets l₀ {l₁} {l₂} {l₃} {l₄} at x y radius priority kind tag a b c d e f =
-    let tags = le_bytes 2 tag in
-    let kinds = le_bytes 1 kind ++ tags in
-    let priorities = le_bytes 2 priority ++ kinds in
-    let radii = le_bytes 2 radius ++ priorities in
+pub values_sets : (l₀ : List ℕ) {l₁ l₂ l₃ l₄ l₅ l₆ : List ℕ} (at : ℕ) (v : Fields)
+    → l₁ ≡ sets l₀ at (le_bytes 2 v.x) → l₂ ≡ sets l₁ (at + 2) (le_bytes 2 v.y) → l₃ ≡ sets l₂ (at + 4) (le_bytes 2 v.radius)
+    → l₄ ≡ sets l₃ (at + 6) (le_bytes 2 v.priority) → l₅ ≡ sets l₄ (at + 8) (le_bytes 1 v.kind) → l₆ ≡ sets l₅ (at + 9) (le_bytes 2 v.tag)
+    → l₆ ≡ sets l₀ at (mark_with v)
+values_sets l₀ {l₁} {l₂} {l₃} {l₄} at v a b c d e f =
+    let tags = le_bytes 2 v.tag in
+    let kinds = le_bytes 1 v.kind ++ tags in
+    let priorities = le_bytes 2 v.priority ++ kinds in
+    let radii = le_bytes 2 v.radius ++ priorities in
     f
-    ∙ behind l₄ 8 1 (le_bytes 1 kind) tags (le_length 1 kind) e
-    ∙ behind l₃ 6 2 (le_bytes 2 priority) kinds (le_length 2 priority) d
-    ∙ behind l₂ 4 2 (le_bytes 2 radius) priorities (le_length 2 radius) c
-    ∙ behind l₁ 2 2 (le_bytes 2 y) radii (le_length 2 y) b
-    ∙ rw (a, sets_append l₀ at (le_bytes 2 x), le_length 2 x)
+    ∙ behind l₄ 8 1 (le_bytes 1 v.kind) tags (le_length 1 v.kind) e
+    ∙ behind l₃ 6 2 (le_bytes 2 v.priority) kinds (le_length 2 v.priority) d
+    ∙ behind l₂ 4 2 (le_bytes 2 v.radius) priorities (le_length 2 v.radius) c
+    ∙ behind l₁ 2 2 (le_bytes 2 v.y) radii (le_length 2 v.y) b
+    ∙ rw (a, sets_append l₀ at (le_bytes 2 v.x), le_length 2 v.x)
   where
     -- a run, and what stands behind it
     behind : (l : List ℕ) (k w : ℕ) (run rest : List ℕ) {l' : List ℕ} → length run ≡ w → l' ≡ sets l (at + k) run

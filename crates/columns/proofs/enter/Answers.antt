@@ -4,7 +4,7 @@ use Rattle.columns.proofs.enter.Goals as goal
 
 pub returns : goal.returns
 returns c =
-    entry_sets _ _ _ _ _ _ _ _ _
+    entry_sets _ c.args.n c.args.m c.args.fields
     c.write.ensures
     c.write-2.ensures
     c.write-3.ensures

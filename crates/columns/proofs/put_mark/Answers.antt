@@ -1,12 +1,13 @@
--- `columns::put_mark` meets its contract: the values as they stand in their columns. Assumes nothing.
-use Prim.Native.Nat.{◌+◌, ◌*◌}
-use mathlib.Core.Path.{◌≡◌}
-use native.Mathlib.Omega.{arith}
+-- `columns::put_mark` meets its contract: the six values one behind the other. Assumes nothing.
+use Rattle.columns.proofs.Lemmas.Writing.{values_sets}
 use Rattle.columns.proofs.put_mark.Goals as goal
 
 pub returns : goal.returns
 returns c =
-    let a = c.args in
-    let e : 8 * a.n + 1 * a.m ≡ 8 * a.n + a.m = omega arith in
-    rw (e, ← c.read-radius.ensures.0, ← c.read-priority.ensures.0, ← c.read-kind.ensures.0, ← c.read-tag.ensures.0)
-    c.put_values.ensures
+    values_sets _ _ c.args.fields
+    c.write.ensures
+    c.write-2.ensures
+    c.write-3.ensures
+    c.write-4.ensures
+    c.write-5.ensures
+    c.write-6.ensures

@@ -1,5 +1,5 @@
 -- Codes that are right: what question 2 says of them.
-use Rattle.std.specs.Prelude.{ℕ, zero, suc, ◌+◌, ◌<◌, ◌≤◌, ◌≡◌, refl, Bool, true, false, cond, ◌&&◌, List, [], ◌∷◌, ◌++◌, map, ◌↔◌, ◌⊎◌, ltb, leb, eqb, length, get_or, drop}
+use Rattle.std.specs.Prelude.{ℕ, zero, suc, ◌+◌, ◌<◌, ◌≤◌, ◌≡◌, refl, Bool, true, false, not, cond, ◌&&◌, List, [], ◌∷◌, ◌++◌, map, ◌↔◌, ◌⊎◌, ltb, leb, eqb, length, get_or, drop}
 use Rattle.std.proofs.Common.{sym, ap, ap₂, ◌∙◌, inl, inr, add-one, arith, drop_of_length-le, drop-cons, ltb-true, ltb-false, leb-true, lt-ltb, le-ltb, le-leb, eqb-true, eq-eqb, ne_eqb}
 use Rattle.std.proofs.lemmas.Bool.{false≢true, lt-leb, eqb-false}
 use mathlib.Core.List.Memᴰ
@@ -74,6 +74,21 @@ beside_two true true = refl
 beside_two true false = refl
 beside_two false true = refl
 beside_two false false = refl
+
+-- the tests one after the other, as far as they are needed
+pub by_tests : (codes : List ℕ) → codes_right codes
+    ≡ cond (rising 0 codes && names codes 1) (cond (names codes 2) true (cond (names codes 3) false (not (names codes 6)))) false
+unfolding codes_right
+by_tests codes = go (rising 0 codes) (names codes 1) (names codes 2) (names codes 3) (names codes 6)
+  where
+    go : (r one two three six : Bool) → (r && (one && (if_there three two && if_there six two)))
+        ≡ cond (r && one) (cond two true (cond three false (not six))) false
+    go false one two three six = refl
+    go true false two three six = refl
+    go true true true three six = beside_two three six
+    go true true false true six = refl
+    go true true false false true = refl
+    go true true false false false = refl
 
 module _ (codes : List ℕ) (right : codes_right codes ≡ true) where
   is_rising : rising 0 codes ≡ true

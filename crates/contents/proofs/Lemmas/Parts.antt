@@ -1,10 +1,12 @@
 -- Parts as a list: what stands at a place of `split` and of `chain`, and under a code.
-use Rattle.std.specs.Prelude.{ℕ, zero, suc, ◌+◌, ◌*◌, ◌<◌, ◌≤◌, ◌≡◌, refl, Bool, true, false, cond, ◌||◌, List, [], ◌∷◌, ◌++◌, ltb, eqb, length, get_or, take, drop}
-use Rattle.std.proofs.Common.{sym, ap, ◌∙◌, mul-suc, add-one, arith, ltb-true, eqb-true, eq-eqb, ne_eqb, length-append, drop_of_length-le, drop-cons}
+use Rattle.std.specs.Prelude.{ℕ, zero, suc, ◌+◌, ◌*◌, ◌<◌, ◌≤◌, ◌≡◌, refl, Bool, true, false, cond, ◌||◌, is_some, Some, List, [], ◌∷◌, ◌++◌, ltb, eqb, length, get_or, take, drop}
+use Rattle.std.proofs.Common.{sym, ap, ◌∙◌, mul-suc, arith, ltb-true, eqb-true, eq-eqb, ne_eqb, length-append, drop-cons}
 use Rattle.std.proofs.Math.Decide.{dec_lt}
 use Rattle.std.proofs.Math.ListN.{get_or-append}
 use Rattle.std.proofs.Math.Seq.{drop-append-add, take-append_seam}
 use Rattle.std.proofs.lemmas.List.{get_or_at}
+use Rattle.std.specs.List.{list_any, position, position_from}
+use Rattle.std.proofs.lemmas.Iterator.Adapters.{position_from-zero}
 use Rattle.lists.proofs.TestLaws.{by_cases}
 use Rattle.numbers.specs.Little.{Bytes}
 use Rattle.numbers.proofs.Laws.{bytes_take, bytes_drop}
@@ -103,32 +105,32 @@ pub split_body : (s : List ℕ) (i : ℕ) → i < count_at s → get_or (bodies_
 split_body s i l =
     ap (λ (p : Part). p.body) (sym (part_at (split s) i (rw (split_length s) l)) ∙ split_at s i l)
 
--- ---- the part of a code, looked for from part i on
+-- ---- the part of a code, by the place of the first code that is this one
 
-module _ (codes : List ℕ) (bodies : List (List ℕ)) (i code : ℕ) where
-  abbrev from : List Part
-  from = together (drop i codes) (drop i bodies)
+pub position_names : (codes : List ℕ) (code : ℕ) → is_some (position (λ c. eqb c code) codes) ≡ names codes code
+position_names codes code = ap is_some (position_from-zero (λ c. eqb c code) codes) ∙ from 0 codes
+  where
+    from : (i : ℕ) (codes : List ℕ) → is_some (position_from (λ c. eqb c code) i codes) ≡ names codes code
+    from i [] = refl
+    from i (c ∷ codes) = go (from (i + 1) codes) (eqb c code)
+      where
+        go : is_some (position_from (λ c. eqb c code) (i + 1) codes) ≡ names codes code
+            → (b : Bool) → is_some (cond b (Some i) (position_from (λ c. eqb c code) (i + 1) codes)) ≡ b || names codes code
+        go rest true = refl
+        go rest false = rest
 
-  pub find_found : i < length codes → i < length bodies → get_or codes i 0 ≡ code → get_or bodies i [] ≡ find from code
-  find_found h k e = rw (drop-cons codes i 0 h, drop-cons bodies i [] k, e, eq-eqb code code refl)
+pub position_finds : (codes : List ℕ) (bodies : List (List ℕ)) (code i : ℕ) → i < length codes → i < length bodies → eqb (get_or codes i 0) code ≡ true
+    → ((k : ℕ) → k < i → eqb (get_or codes k 0) code ≡ false) → get_or bodies i [] ≡ find (together codes bodies) code
+position_finds [] bodies code i h k e before = absurd (omega arith)
+position_finds (c ∷ codes) [] code i h k e before = absurd (omega arith)
+position_finds (c ∷ codes) (b ∷ bodies) code zero h k e before = rw e
+position_finds (c ∷ codes) (b ∷ bodies) code (suc i) h k e before =
+    rw (before 0 (omega arith)) (position_finds codes bodies code i (omega arith) (omega arith) e (λ k l. before (suc k) (omega arith)))
 
-  pub find_passed : i < length codes → i < length bodies → (get_or codes i 0 ≡ code → ⊥)
-      → find (together (drop (i + 1) codes) (drop (i + 1) bodies)) code ≡ find from code
-  find_passed h k n = rw (add-one i, drop-cons codes i 0 h, drop-cons bodies i [] k, ne_eqb (get_or codes i 0) code n)
-
-  pub find_past : length codes ≤ i → [] ≡ find from code
-  find_past h = rw (drop_of_length-le codes h)
-
--- and a code among codes
-module _ (codes : List ℕ) (i code : ℕ) where
-  pub names_found : i < length codes → get_or codes i 0 ≡ code → names (drop i codes) code ≡ true
-  names_found h e = rw (drop-cons codes i 0 h, e, eq-eqb code code refl)
-
-  pub names_passed : i < length codes → (get_or codes i 0 ≡ code → ⊥) → names (drop (i + 1) codes) code ≡ names (drop i codes) code
-  names_passed h n = rw (add-one i, drop-cons codes i 0 h, ne_eqb (get_or codes i 0) code n)
-
-  pub names_past : length codes ≤ i → names (drop i codes) code ≡ false
-  names_past h = rw (drop_of_length-le codes h)
+-- a code among codes
+pub any_names : (codes : List ℕ) (code : ℕ) → list_any (λ c. eqb c code) codes ≡ names codes code
+any_names [] code = refl
+any_names (c ∷ codes) code = ap (λ (b : Bool). eqb c code || b) (any_names codes code)
 
 -- ---- one part more
 

@@ -1,5 +1,4 @@
 -- `contents::codes_of` meets its contract: the codes of the entries before i stand in the array. Assumes nothing.
-use Prim.Native.Nat.{◌-◌}
 use mathlib.Core.Path.{◌≡◌, refl, sym, ◌∙◌}
 use lib.ListN.{length, length-set}
 use lib.ListN.{length-map}
@@ -11,14 +10,14 @@ use native.Mathlib.Omega.{arith}
 use Rattle.contents.proofs.codes_of.Goals as goal
 
 pub loop-i-init : goal.loop-i-init
-loop-i-init c = (c.count_at-count.ensures, omega arith, refl, refl)
+loop-i-init c = (refl, refl)
 
 pub loop-i-preserved : goal.loop-i-preserved
 loop-i-preserved c =
     let l = c.loop-i in
     let s = c.args.s.now in
     let code = c.code_at.ensures ∙ sym (split_code s l.i (omega arith)) in
-    (l.invariant.0, omega arith, simp length-set l.invariant.2, fill_turn 0 l.codes (codes_of (split s)) l.i _ (omega arith) (rw (length-map, split_length s) (omega arith)) code l.invariant.3)
+    (simp length-set l.invariant.0, fill_turn 0 l.codes (codes_of (split s)) l.i _ (omega arith) (rw (length-map, split_length s) (omega arith)) code l.invariant.1)
 
 pub returns : goal.returns
 returns c =
@@ -26,4 +25,4 @@ returns c =
     let s = c.args.s.now in
     let all : count_at s ≡ l.i = omega arith in
     let many : length (codes_of (split s)) ≡ l.i = rw (length-map, split_length s) all in
-    (l.invariant.2, rw all (l.invariant.3 ∙ rw (← many) (take-length (codes_of (split s)))))
+    (l.invariant.0, rw all (l.invariant.1 ∙ rw (← many) (take-length (codes_of (split s)))))

@@ -1,18 +1,21 @@
 -- `contents::cut` meets its contract: the place lies in the sheet, or there are no bytes. Assumes nothing.
-use Prim.Native.Nat.{◌+◌, ◌-◌}
-use mathlib.Core.Path.{◌≡◌}
-use native.Mathlib.Omega.{arith}
-use borrow.Author.Tests.{le-leb, lt-leb}
+use Rattle.std.proofs.Common.{ℕ, ◌+◌, ◌-◌, ◌≡◌, ◌<◌, List, [], length, refl, arith, le-leb, ap, ◌∙◌, Bor}
+use Rattle.std.specs.Prelude.{Option, Some, None}
+use Rattle.std.specs.Option.{unwrap_or}
+use Rattle.std.specs.Slice.{IsGetRangeResult}
+use Rattle.std.proofs.lemmas.Bool.{lt-leb}
+use Rattle.contents.specs.declared.Extent.{Extent}
 use Rattle.contents.specs.Places.{cut_of}
 use Rattle.contents.proofs.cut.Goals as goal
 
-pub returns-then-end-s : goal.returns-then-end-s
+-- the bytes there, or none
+got : (s : List ℕ) (e : Extent) (none : Bor (List ℕ)) (r : Option (Bor (List ℕ))) → none.now ≡ [] → IsGetRangeResult s e.offset (e.offset + e.length) r
+    → (unwrap_or r none).now ≡ cut_of s e
 unfolding cut_of
-returns-then-end-s c =
-    let e = c.args.e in
+got s e none None z h = let out : length s < e.offset + e.length = omega (arith, h.0) in rw (lt-leb _ _ out) z
+got s e none (Some x) z h =
     let d : e.offset + e.length - e.offset ≡ e.length = omega arith in
-    rw (d, le-leb _ _ c.if-end-s.true)
+    rw (le-leb _ _ h.0.1) (h.0.2 ∙ rw d)
 
 pub returns : goal.returns
-unfolding cut_of
-returns c = rw (lt-leb _ _ c.if-end-s.false)
+returns c = ap (λ b. b.now) c.unwrap_or.ensures ∙ got c.args.s.now c.args.e _ c.get.result refl c.get.ensures.lookup

@@ -1,5 +1,5 @@
 -- `contents::layout_of` meets its contract: the places are those of the entries before i. Assumes nothing.
-use Prim.Native.Nat.{ℕ, ◌-◌}
+use Prim.Native.Nat.{ℕ}
 use mathlib.Core.Path.{◌≡◌, ◌∙◌}
 use mathlib.Core.List.{List}
 use native.Mathlib.Numerals.{add-one}
@@ -25,7 +25,7 @@ before s i =
 
 pub loop-i-init : goal.loop-i-init
 unfolding place_before
-loop-i-init c = (c.count_at-count.ensures, omega arith, rw (c.nowhere-none.ensures, c.count_at-count.ensures))
+loop-i-init c = rw (c.no_parts.ensures, c.count_at-count.ensures)
 
 pub extent_at-requires : goal.extent_at-requires
 extent_at-requires c = c.requires
@@ -34,10 +34,10 @@ pub loop-i-preserved : goal.loop-i-preserved
 unfolding place_before
 loop-i-preserved c =
     let l = c.loop-i in
-    (l.invariant.0, omega arith, c.with_place-layout.ensures ∙ rw (l.invariant.2, c.code_at.ensures, c.extent_at.ensures, add-one l.i))
+    c.set_place.ensures ∙ rw (l.invariant, c.code_at.ensures, c.extent_at.ensures, add-one l.i)
 
 pub returns : goal.returns
 returns c =
     let l = c.loop-i in
     let q : l.i ≡ count_at c.args.s.now = omega arith in
-    l.invariant.2 ∙ rw q
+    l.invariant ∙ rw q

@@ -1,5 +1,5 @@
 -- `contents::layout_of` meets its contract: the places are those of the entries before i. Assumes nothing.
-use Prim.Native.Nat.{ℕ, ◌-◌, ◌≤◌}
+use Prim.Native.Nat.{ℕ}
 use mathlib.Core.Path.{◌≡◌}
 use mathlib.Core.List.{List}
 use Rattle.contents.specs.declared.Layout.{Layout}
@@ -22,7 +22,4 @@ before s i =
     }
 
 abbrev pub invariant-loop-i : goal.invariant-loop-i
-invariant-loop-i l = (l.count ≡ count_at l.s) × (l.i ≤ l.count) × (l.layout ≡ before l.s l.i)
-
-abbrev pub decreases-loop-i : goal.decreases-loop-i
-decreases-loop-i l = l.count - l.i
+invariant-loop-i l = l.layout ≡ before l.s l.i

@@ -1,12 +1,12 @@
 -- A mark lives at the stops from one on and below another. Assumes nothing.
-use Rattle.std.specs.Prelude.{ℕ, suc, ◌+◌, ◌*◌, ◌%◌, ◌^◌, ◌<◌, ◌≤◌, min, ◌≡◌, refl, true, List, [], ◌∷◌, ltb, leb, eqb, length}
-use Rattle.std.proofs.Common.{sym, ap, ◌∙◌, mul-le-mul, mul_comm, one-mul, mod-eq_of_lt, lt_of_le_of_lt, arith, lt-ltb, le-ltb, le-leb, ltb-true, ltb-false, leb-true, eqb-true, pow_mono, pow-add}
+use Rattle.std.specs.Prelude.{ℕ, suc, ◌+◌, ◌-◌, ◌*◌, ◌%◌, ◌^◌, ◌<◌, ◌≤◌, min, ◌≡◌, refl, Bool, true, cond, List, [], ◌∷◌, ltb, leb, eqb, length, get_or, drop}
+use Rattle.std.proofs.Common.{sym, ap, ◌∙◌, mul-le-mul, mul_comm, one-mul, mod-eq_of_lt, lt_of_le_of_lt, arith, add-one, drop-cons, lt-ltb, le-ltb, le-leb, ltb-true, ltb-false, leb-true, eqb-true, pow_mono, pow-add}
 use Rattle.std.proofs.Math.Path.{ap₂}
 use Rattle.std.proofs.Math.Bool.{◌&&◌}
 use Rattle.std.proofs.Math.Decide.{dec_lt}
 use Rattle.std.proofs.lemmas.Bool.{lt-leb}
 use Rattle.lists.specs.Tests.{every, how_many}
-use Rattle.lists.proofs.TestLaws.{by_cases, every_at, same_test, and_left, and_right, and_both, many_most, many_none, many_first}
+use Rattle.lists.proofs.TestLaws.{every_at, same_test, and_left, and_right, and_both, many_most, many_none, many_first}
 use Rattle.fractions.specs.declared.Fraction.{Fraction}
 use Rattle.fractions.specs.declared.Value.{Value}
 use Rattle.fractions.specs.declared.Value.TheVariants.{Never, At}
@@ -65,16 +65,50 @@ small_lives f t h n d =
     let left : f.den * 2 ^ (2 * t) % 2 ^ 64 ≡ 2 ^ t * 2 ^ t * f.den = whole ∙ rw four (mul_comm f.den (2 ^ t * 2 ^ t)) in
     ap₂ ltb left (mul_comm 4096 f.num) ∙ lives_first (At f) t h
 
+-- ---- the search for the number of stops
+
+-- the steps that are tried
+abbrev pub steps : List ℕ
+steps = 9 ∷ 4 ∷ 2 ∷ 1 ∷ 1 ∷ []
+
+pub steps_some : (i : ℕ) → i < 5 → 1 ≤ get_or steps i 0
+unfolding every
+steps_some i h = leb-true 1 (get_or steps i 0) (every_at (λ k. leb 1 (get_or steps k 0)) 5 refl i h)
+
+-- what these steps find from `known` on
+abbrev pub found : ℕ → ℕ → List ℕ → ℕ
+found lived known [] = known
+found lived known (step ∷ steps) = found lived (step_to lived known step) steps
+
 -- Five steps find any number of stops.
-pub step_most : (lived known step : ℕ) → step_to lived known step ≤ known + step
-step_most lived known step = by_cases (leb (known + step) lived) (λ e. rw e (omega arith)) (λ e. rw e (omega arith))
-
 five : ℕ → ℕ
-five l = step_to l (step_to l (step_to l (step_to l (step_to l 0 9) 4) 2) 1) 1
+five lived = found lived 0 steps
 
-pub five_steps : (l : ℕ) → l ≤ stops → step_to l (step_to l (step_to l (step_to l (step_to l 0 9) 4) 2) 1) 1 ≡ l
+pub five_steps : (lived : ℕ) → lived ≤ stops → found lived 0 steps ≡ lived
 unfolding every five
-five_steps l h = eqb-true (five l) l (every_at (λ i. eqb (five i) i) 18 refl l (omega (arith, h)))
+five_steps lived h = eqb-true (five lived) lived (every_at (λ i. eqb (five i) i) 18 refl lived (omega (arith, h)))
+
+pub found_more : (lived known i : ℕ) (tried : List ℕ) → i < length tried
+    → found lived known (drop i tried) ≡ found lived (step_to lived known (get_or tried i 0)) (drop (i + 1) tried)
+found_more lived known i tried h = rw (add-one i, drop-cons tried i 0 h)
+
+-- how far these steps go
+abbrev pub reach : List ℕ → ℕ
+reach [] = 0
+reach (step ∷ steps) = step + reach steps
+
+pub reach_more : (i : ℕ) (tried : List ℕ) → i < length tried → reach (drop i tried) ≡ get_or tried i 0 + reach (drop (i + 1) tried)
+reach_more i tried h = rw (add-one i, drop-cons tried i 0 h)
+
+-- one step, where the test tells of the last stop of it
+pub one_step : (lived known step : ℕ) {tells : Bool} → 1 ≤ step → tells ≡ ltb (known + step - 1) lived
+    → cond tells (known + step) known ≡ step_to lived known step
+one_step lived known step h e =
+    rw e
+    (elim (dec_lt (known + step - 1) lived) [
+      | yes l ↦ rw (lt-ltb (known + step - 1) lived l, le-leb (known + step) lived (omega arith))
+      | no l ↦ rw (le-ltb (known + step - 1) lived (omega arith), lt-leb (known + step) lived (omega arith))
+    ])
 
 -- ---- the popup
 

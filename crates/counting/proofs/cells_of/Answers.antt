@@ -31,5 +31,5 @@ returns c =
     let group = c.group_of-group.ensures ∙ ap (λ (k : ℕ). group_number (kind_group k)) c.kind_at.ensures in
     let end = c.stops_lived-end.ensures ∙ ap stops_lived c.value_at.ensures in
     let popup = c.popup_stop.ensures in
-    let first = c.smaller-first.ensures ∙ ap₂ min popup end in
+    let first = c.min-first.ensures ∙ ap₂ min popup end in
     record { begin_value = omega (arith, first, group); end_value = omega (arith, end, group) }

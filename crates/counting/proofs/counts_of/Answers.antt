@@ -1,83 +1,70 @@
--- `counting::counts_of` meets its contract: the cells that are passed are counts, and are written. Assumes nothing.
-use Prim.Native.Nat.{◌-◌}
-use mathlib.Core.Path.{refl, sym}
-use native.Mathlib.Omega.{arith}
-use Rattle.counting.proofs.Lemmas.Tallies.{entered_none}
+-- `counting::counts_of` meets its contract: the tables hold the marks before m; then the cells that are passed are counts, and are written. Assumes nothing.
+use Rattle.std.proofs.Common.{◌≡◌, ◌<◌, refl, arith}
+use Rattle.counting.proofs.Lemmas.Cells.{begin_small, end_small}
+use Rattle.counting.proofs.Lemmas.Tallies.{entered_none, tallied_room, tallied_more}
 use Rattle.counting.proofs.Lemmas.Adding.{blank, added_none, added_sum, added_small, added_more, added_all}
+use Rattle.counting.specs.Steps.{begin_size, end_size}
 use Rattle.counting.proofs.counts_of.Goals as goal
+use Rattle.counting.proofs.counts_of.Goals.{After-cells_of-cells}
 
-pub slice_bounds-tally-end : goal.slice_bounds-tally-end
-slice_bounds-tally-end c = refl
+-- the cells of the mark lie in the tables
+begin_in : (c : After-cells_of-cells) → c.cells_of-cells.result.begin < begin_size
+begin_in c = omega (arith, c.cells_of-cells.ensures.begin_value, begin_small c.args.marks.now c.args.schedule.now c.args.popups.now c.loop-m.m)
 
-pub slice_bounds-tally-end-2 : goal.slice_bounds-tally-end-2
-slice_bounds-tally-end-2 c = refl
+end_in : (c : After-cells_of-cells) → c.cells_of-cells.result.end < end_size
+end_in c = omega (arith, c.cells_of-cells.ensures.end_value, end_small c.args.marks.now c.args.schedule.now c.args.popups.now c.loop-m.m)
 
-pub tally-requires : goal.tally-requires
-tally-requires c =
-    record { n_bound = c.requires.n_bound; popups_there = c.requires.popups_there; entered = entered_none _ _ _ }
+pub loop-m-init : goal.loop-m-init
+loop-m-init c = entered_none _ _ _
+
+pub offset_bounds-table-cells : goal.offset_bounds-table-cells
+offset_bounds-table-cells c = omega (arith, begin_in (goal.at.offset_bounds-table-cells c).After-cells_of-cells)
+
+pub bounds-table-cells : goal.bounds-table-cells
+bounds-table-cells c = begin_in (goal.at.bounds-table-cells c).After-cells_of-cells
+
+pub overflow_add-table : goal.overflow_add-table
+overflow_add-table c =
+    let room = tallied_room c.loop-m.invariant.begun (begin_in c) (omega (arith, c.requires.n_bound.0)) in
+    record { fits = omega (arith, room.1) }
+
+pub bounds-table-cells-in-loop-m : goal.bounds-table-cells-in-loop-m
+bounds-table-cells-in-loop-m c = begin_in (goal.at.bounds-table-cells-in-loop-m c).After-cells_of-cells
+
+pub offset_bounds-ends-cells : goal.offset_bounds-ends-cells
+offset_bounds-ends-cells c = omega (arith, end_in (goal.at.offset_bounds-ends-cells c).After-cells_of-cells)
+
+pub bounds-ends-cells : goal.bounds-ends-cells
+bounds-ends-cells c = end_in (goal.at.bounds-ends-cells c).After-cells_of-cells
+
+pub overflow_add-ends : goal.overflow_add-ends
+overflow_add-ends c =
+    let room = tallied_room c.loop-m.invariant.gone (end_in c) (omega (arith, c.requires.n_bound.0)) in
+    record { fits = omega (arith, room.1) }
+
+pub bounds-ends-cells-in-loop-m : goal.bounds-ends-cells-in-loop-m
+bounds-ends-cells-in-loop-m c = end_in (goal.at.bounds-ends-cells-in-loop-m c).After-cells_of-cells
+
+pub loop-m-preserved : goal.loop-m-preserved
+loop-m-preserved c =
+    let at = (goal.at.loop-m-preserved c).After-cells_of-cells in
+    record {
+      begun = tallied_more c.loop-m.invariant.begun c.cells_of-cells.ensures.begin_value (begin_in at) refl;
+      gone = tallied_more c.loop-m.invariant.gone c.cells_of-cells.ensures.end_value (end_in at) refl;
+    }
 
 pub loop-i-init : goal.loop-i-init
 unfolding blank
-loop-i-init c = added_none c.tally.ensures
-
-pub overflow_add-next : goal.overflow_add-next
-overflow_add-next c = omega (arith, c.loop-i-test.true)
-
-pub offset_bounds-table-i : goal.offset_bounds-table-i
-offset_bounds-table-i c = omega (arith, c.loop-i-test.true)
-
-pub bounds-table-i : goal.bounds-table-i
-bounds-table-i c = omega (arith, c.loop-i-test.true)
-
-pub offset_bounds-table-next : goal.offset_bounds-table-next
-offset_bounds-table-next c = omega (arith, c.loop-i-test.true)
-
-pub bounds-table-next : goal.bounds-table-next
-bounds-table-next c = omega (arith, c.loop-i-test.true)
+loop-i-init c = let e : c.loop-m.m ≡ c.args.n = omega arith in added_none (rw e at c.loop-m.invariant)
 
 pub overflow_add-count : goal.overflow_add-count
-overflow_add-count c =
-    let few = c.requires.n_bound.0 in
-    record { fits = omega (arith, added_small c.loop-i.invariant c.loop-i-test.true few) }
-
-pub offset_bounds-ends-i : goal.offset_bounds-ends-i
-offset_bounds-ends-i c = omega (arith, c.loop-i-test.true)
-
-pub bounds-ends-i : goal.bounds-ends-i
-bounds-ends-i c = omega (arith, c.loop-i-test.true)
+overflow_add-count c = record { fits = omega (arith, added_small c.loop-i.invariant c.loop-i-test.true c.requires.n_bound.0) }
 
 pub overflow_sub-count : goal.overflow_sub-count
 overflow_sub-count c = omega (arith, added_sum c.loop-i.invariant c.loop-i-test.true)
 
-pub offset_bounds-table-next-in-loop-i : goal.offset_bounds-table-next-in-loop-i
-offset_bounds-table-next-in-loop-i c = omega (arith, c.loop-i-test.true)
-
-pub bounds-table-next-in-loop-i : goal.bounds-table-next-in-loop-i
-bounds-table-next-in-loop-i c = omega (arith, c.loop-i-test.true)
-
-pub slice_bounds-write-end : goal.slice_bounds-write-end
-slice_bounds-write-end c = sym c.loop-i.invariant.sized
-
-pub overflow_mul-i : goal.overflow_mul-i
-overflow_mul-i c = omega (arith, c.loop-i-test.true)
-
-pub overflow_cast-count : goal.overflow_cast-count
-overflow_cast-count c =
-    let few = c.requires.n_bound.0 in
-    record { fits = omega (arith, added_small c.loop-i.invariant c.loop-i-test.true few) }
-
-pub write-requires : goal.write-requires
-write-requires c = omega (arith, c.loop-i.invariant.sized, c.loop-i-test.true)
-
-pub overflow_add-i : goal.overflow_add-i
-overflow_add-i c = omega (arith, c.loop-i-test.true)
-
-pub loop-i-smaller : goal.loop-i-smaller
-loop-i-smaller c = omega (arith, c.loop-i-test.true)
-
 pub loop-i-preserved : goal.loop-i-preserved
-loop-i-preserved c =
-    added_more c.loop-i.invariant c.loop-i-test.true refl refl c.write.ensures
+loop-i-preserved c = added_more c.loop-i.invariant c.loop-i-test.true refl refl c.write.ensures
 
 pub returns : goal.returns
-returns c = added_all c.loop-i.invariant (omega (arith, c.loop-i-test.false))
+returns c = added_all c.loop-i.invariant c.loop-i-test.false

@@ -1,59 +1,28 @@
--- `counting::is_counts` meets its contract: while the loop runs, every byte before i is right. Assumes nothing.
-use Prim.Native.Nat.{◌-◌}
-use mathlib.Core.Path.{◌≡◌, refl, sym}
-use mathlib.Core.Bool.{true, false}
-use native.Mathlib.Omega.{arith}
-use borrow.Author.Tests.{eq-eqb, ne_eqb}
-use lib.Dec.{eqb}
-use lib.ListN.{length}
-use Rattle.lists.specs.Tests.{every}
-use Rattle.lists.proofs.TestLaws.{and_both, and_no, every_more, every_not}
-use Rattle.counting.specs.Counts.{counts_of, is_counts}
-use Rattle.counting.proofs.Lemmas.Bytes.{same_at}
+-- `counting::is_counts` meets its contract: the length is right, and the bytes are the same. Assumes nothing.
+use Rattle.std.proofs.Common.{sym, ap, ◌∙◌, length}
+use Rattle.std.proofs.lemmas.Bool.{false≢true}
+use Rattle.std.proofs.lemmas.Bool.Decides.{Decides-eqb}
+use Rattle.std.proofs.lemmas.Slice.Eq.{slice_eq-Decides}
+use mathlib.Core.Bool.{false}
+use borrow.Author.Tests.{ne_eqb}
+use Rattle.lists.proofs.TestLaws.{same_test}
+use Rattle.counting.specs.Counts.{is_counts}
+use Rattle.counting.proofs.Lemmas.Bytes.{counts_length, is_counts_iff}
 use Rattle.counting.proofs.is_counts.Goals as goal
 
-pub returns-then-body-ne-COUNTS_SIZE : goal.returns-then-body-ne-COUNTS_SIZE
-unfolding is_counts
-returns-then-body-ne-COUNTS_SIZE c = rw (ne_eqb _ _ c.if-body-ne-COUNTS_SIZE.true)
-
-pub counts_of-counts-requires : goal.counts_of-counts-requires
-counts_of-counts-requires c = record { n_bound = c.requires.n_bound; popups_there = c.requires.popups_there }
-
-pub loop-i-init : goal.loop-i-init
-unfolding every
-loop-i-init c = (omega arith, refl)
-
-pub bounds-body-i : goal.bounds-body-i
-bounds-body-i c = omega (arith, c.if-body-ne-COUNTS_SIZE.false, c.loop-i-test.true)
-
-pub bounds-counts-i : goal.bounds-counts-i
-bounds-counts-i c = omega (arith, c.loop-i-test.true)
-
-pub returns-then-body-i : goal.returns-then-body-i
-unfolding is_counts
-returns-then-body-i c =
-    let is = c.counts_of-counts.ensures in
+pub returns-then-body-eq-COUNTS_SIZE : goal.returns-then-body-eq-COUNTS_SIZE
+returns-then-body-eq-COUNTS_SIZE c =
     let a = c.args in
-    let same = same_at a.body.now (counts_of a.marks.now a.schedule.now a.popups.now a.n) in
-    let other : same c.loop-i.i ≡ false = rw (← is) (ne_eqb _ _ c.if-body-i.true) in
-    sym (and_no (eqb (length a.body.now) 170) (every_not same 170 c.loop-i.i c.loop-i-test.true other))
+    let same = slice_eq-Decides Decides-eqb _ _ _ c.eq.ensures in
+    let is = c.counts_of.ensures in
+    let iff = is_counts_iff a.body.now a.marks.now a.schedule.now a.popups.now a.n in
+    same_test c.eq.result (is_counts a.body.now a.marks.now a.schedule.now a.popups.now a.n) (λ e. iff.1 (same.0 e ∙ is)) (λ e. same.1 (iff.0 e ∙ sym is))
 
-pub overflow_add-i : goal.overflow_add-i
-overflow_add-i c = omega (arith, c.loop-i-test.true)
-
-pub loop-i-smaller : goal.loop-i-smaller
-loop-i-smaller c = omega (arith, c.loop-i-test.true)
-
-pub loop-i-preserved : goal.loop-i-preserved
-loop-i-preserved c =
-    (omega (arith, c.loop-i-test.true), every_more _ c.loop-i.i c.loop-i.invariant.1 (eq-eqb _ _ c.if-body-i.false))
-
-pub returns : goal.returns
-unfolding is_counts
-returns c =
-    let is = c.counts_of-counts.ensures in
+pub returns-else-body-eq-COUNTS_SIZE : goal.returns-else-body-eq-COUNTS_SIZE
+returns-else-body-eq-COUNTS_SIZE c =
     let a = c.args in
-    let q : c.loop-i.i ≡ 170 = omega (arith, c.loop-i.invariant.0, c.loop-i-test.false) in
-    let same = same_at a.body.now (counts_of a.marks.now a.schedule.now a.popups.now a.n) in
-    let all : every same 170 ≡ true = rw (← is, ← q) c.loop-i.invariant.1 in
-    sym (and_both (eq-eqb (length a.body.now) 170 c.if-body-ne-COUNTS_SIZE.false) all)
+    let iff = is_counts_iff a.body.now a.marks.now a.schedule.now a.popups.now a.n in
+    let other = c.if-body-eq-COUNTS_SIZE.false in
+    rw (ne_eqb _ _ other)
+    (same_test false (is_counts a.body.now a.marks.now a.schedule.now a.popups.now a.n) (λ e. absurd (false≢true e))
+    (λ e. absurd (other (ap length (iff.0 e) ∙ counts_length a.marks.now a.schedule.now a.popups.now a.n))))

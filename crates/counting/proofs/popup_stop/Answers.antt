@@ -1,4 +1,5 @@
 -- `counting::popup_stop` meets its contract: without part 5 no stop is below a popup, and the square of 32 bits fits 64. Assumes nothing.
+use Rattle.std.proofs.Common.{rules}
 use Prim.Native.Nat.{ℕ, ◌≤◌}
 use mathlib.Core.Path.{ap, ◌∙◌}
 use native.Mathlib.Nat.{mul-le-mul}
@@ -9,8 +10,8 @@ use Rattle.counting.specs.Steps.{stops_lived}
 use Rattle.counting.proofs.Lemmas.Stops.{popup_none_stop}
 use Rattle.counting.proofs.popup_stop.Goals as goal
 
-pub returns-then-popups-eq0 : goal.returns-then-popups-eq0
-returns-then-popups-eq0 c = let a = c.args in popup_none_stop a.popups.now a.m c.if-popups-eq0.true
+pub returns-then-is_empty : goal.returns-then-is_empty
+returns-then-is_empty c = let a = c.args in popup_none_stop a.popups.now a.m (search rules)
 
 pub overflow_mul-num : goal.overflow_mul-num
 overflow_mul-num c =

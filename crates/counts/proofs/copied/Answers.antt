@@ -9,7 +9,7 @@ use Rattle.counts.proofs.copied.Goals as goal
 pub returns-then-out-length : goal.returns-then-out-length
 returns-then-out-length c =
     let s = c.args.sheet.now in
-    no_room [] tt (length s) s _ none_asked c.if-out-length.true c.refused.ensures
+    no_room [] tt (length s) s _ none_asked c.if-out-length.true refl
 
 pub returns : goal.returns
 returns c =

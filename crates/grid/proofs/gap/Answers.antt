@@ -5,8 +5,9 @@ use native.Mathlib.Omega.{arith}
 use borrow.Author.Rules.{rules}
 use Rattle.grid.proofs.gap.Goals as goal
 
-pub overflow_cast-result : goal.overflow_cast-result
-overflow_cast-result c = search rules
+pub overflow_cast-result-3 : goal.overflow_cast-result-3
+overflow_cast-result-3 c = search rules
 
 pub returns : goal.returns
-returns c = (to_z-of_z (overflow_cast-result c) ∙ rw (c.above.ensures, c.above-2.ensures), omega arith)
+returns c =
+    (to_z-of_z (overflow_cast-result-3 c) ∙ rw (c.saturating_sub-below.ensures, c.saturating_sub-above.ensures), omega arith)

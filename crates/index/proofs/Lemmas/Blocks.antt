@@ -1,10 +1,9 @@
 -- A block is its root and the two halves of the others, each a block again.
-use Rattle.std.specs.Prelude.{ℕ, zero, suc, ◌+◌, ◌-◌, ◌/◌, ◌≡◌, refl, Bool, ◌≢◌, ◌∷◌, ◌++◌, length}
+use Rattle.std.specs.Prelude.{ℕ, suc, ◌+◌, ◌-◌, ◌/◌, ◌≡◌, ◌≢◌, ◌∷◌, ◌++◌, length}
 use Rattle.std.proofs.Common.{arith, sym, ap, ap₂, ◌∙◌, take-append-drop}
 use Rattle.lists.specs.Blocks.{block}
 use Rattle.lists.proofs.BlockLaws.{block_length, block_take, block_drop}
 use Rattle.index.specs.Tree.{half, first, second}
-use Rattle.index.specs.Valid.{heads}
 use Rattle.index.specs.Blocks.{others_of, left_of, right_of}
 
 module _ (e : ℕ → ℕ) where
@@ -29,7 +28,3 @@ module _ (e : ℕ → ℕ) where
 
     pub block_whole : block e lo size ≡ e lo ∷ (left_of e lo size ++ right_of e lo size)
     block_whole = rw (← block_others) block_root
-
-  pub heads_block : (beats : ℕ → ℕ → Bool) (r lo size : ℕ) → size ≢ 0 → heads beats r (block e lo size) ≡ beats r (e lo)
-  heads_block beats r lo zero h = absurd (omega arith)
-  heads_block beats r lo (suc size) h = refl

@@ -1,7 +1,8 @@
 -- What the check finds of a block is what it finds of the halves, joined under the root.
-use Prim.Native.Nat.{ℕ, suc, ◌+◌, ◌-◌, ◌*◌, ◌/◌, ◌≤◌, max, min}
+use Prim.Native.Nat.{ℕ, suc, ◌+◌, ◌-◌, ◌*◌, ◌≤◌, max, min}
 use Rattle.std.proofs.Common.{arith, sym, ◌∙◌, take-append-drop}
-use Rattle.std.specs.Prelude.{◌≡◌, Bool, not, ◌&&◌, ◌≢◌, length, ltb}
+use Rattle.std.specs.Prelude.{◌≡◌, Bool, not, cond, ◌&&◌, ◌≢◌, length, ltb, Option, Some, None}
+use Rattle.std.specs.Bool.{then_some}
 use Rattle.std.proofs.Math.Path.{refl, ap, ap₂}
 use Rattle.std.proofs.Math.Bool.{true, false}
 use mathlib.Core.List.{List, [], ◌∷◌, ◌++◌}
@@ -18,9 +19,9 @@ use Rattle.index.specs.Tree.{half, first, second}
 use Rattle.index.specs.Index.{beats, axis_key}
 use Rattle.index.specs.Valid.{top, low, separated, heads, is_tree}
 use Rattle.index.specs.Blocks.{entry_at, others_of, left_of, right_of}
-use Rattle.index.specs.Check.{key_bound, span_of, finding_of, join_spans, side, join_findings, BlockCheckable}
+use Rattle.index.specs.Check.{key_bound, span_of, keys_of, keys_found, join_spans, side, join_keys}
 use Rattle.index.specs.declared.Span.{Span}
-use Rattle.index.specs.declared.Finding.{Finding}
+use Rattle.index.specs.declared.Keys.{Keys}
 use Rattle.index.proofs.Lemmas.Trees.{count_halves, tree_step}
 use Rattle.index.proofs.Lemmas.Blocks.{block_root, block_left, block_right}
 use Rattle.index.proofs.Lemmas.Keys.{key_small}
@@ -87,36 +88,61 @@ module _ (s p : List ℕ) where
       small : (y : ℕ) → below 65536 y ≡ true → under k key_bound y ≡ true
       small y e = lt-ltb (k y) key_bound (key_small s axis y (ltb-true y 65536 e))
 
-  side_is : (axis ax : Bool) (l : List ℕ) → side axis (finding_of s p ax l) ≡ span_of (axis_key s axis) l
-  unfolding finding_of
-  side_is true ax l = refl
-  side_is false ax l = refl
+  side_is : (axis : Bool) (l : List ℕ) → side axis (keys_of s l) ≡ span_of (axis_key s axis) l
+  unfolding keys_of
+  side_is true l = refl
+  side_is false l = refl
 
   module _ (axis : Bool) (r : ℕ) (e : List ℕ) (small : count (non (below 65536)) e ≡ 0) where
-    abbrev left : Finding
-    left = finding_of s p (not axis) (first e)
+    abbrev is_separated : Bool
+    is_separated = leb (side axis (keys_of s (first e))).high (side axis (keys_of s (second e))).low
 
-    abbrev right : Finding
-    right = finding_of s p (not axis) (second e)
-
-    separated_too : leb (side axis left).high (side axis right).low ≡ separated (axis_key s axis) (first e) (second e)
+    separated_too : is_separated ≡ separated (axis_key s axis) (first e) (second e)
     separated_too =
         let halves = count_halves (non (below 65536)) e in
-        rw (side_is axis (not axis) (first e), side_is axis (not axis) (second e))
+        rw (side_is axis (first e), side_is axis (second e))
         (separated_is (axis_key s axis) (first e) (second e) (keys_small axis (first e) (omega arith))
         (keys_small axis (second e) (omega arith)))
 
-    abbrev heads_beaten : Bool
-    heads_beaten = heads (beats p) r (first e) && heads (beats p) r (second e)
+    tree_is : is_tree (beats p) (axis_key s) axis (r ∷ e)
+        ≡ ((heads (beats p) r (first e) && heads (beats p) r (second e)) && is_separated
+        && (is_tree (beats p) (axis_key s) (not axis) (first e) && is_tree (beats p) (axis_key s) (not axis) (second e)))
+    tree_is = rw separated_too (tree_step (beats p) (axis_key s) axis r e)
 
-    finding_step : finding_of s p axis (r ∷ e) ≡ join_findings axis heads_beaten (axis_key s true r) (axis_key s false r) left right
-    unfolding finding_of join_findings
-    finding_step = λ i. record { ok = ok_is i; x = span_step (axis_key s true) r e i; y = span_step (axis_key s false) r e i }
-      where
-        ok_is : is_tree (beats p) (axis_key s) axis (r ∷ e)
-            ≡ (heads_beaten && leb (side axis left).high (side axis right).low && (left.ok && right.ok))
-        ok_is =
-            tree_step (beats p) (axis_key s) axis r e ∙ ap (λ (b : Bool). heads_beaten && b && (left.ok && right.ok)) (sym separated_too)
+    keys_step : keys_of s (r ∷ e) ≡ join_keys (axis_key s true r) (axis_key s false r) (keys_of s (first e)) (keys_of s (second e))
+    unfolding keys_of join_keys
+    keys_step = λ i. record { x = span_step (axis_key s true) r e i; y = span_step (axis_key s false) r e i }
+
+-- what is found, where there is a tree and where there is none
+some_found : {a b : Keys} (t : Bool) → Some a ≡ cond t (Some b) None → (t ≡ true) × (a ≡ b)
+some_found true e = (refl, cc)
+some_found false e = cc
+
+none_found : (b : Keys) (t : Bool) → None ≡ cond t (Some b) None → t ≡ false
+none_found b true e = cc
+none_found b false e = refl
+
+pub then_some_is : (k : Keys) (t : Bool) → then_some t k ≡ cond t (Some k) None
+then_some_is k true = refl
+then_some_is k false = refl
+
+-- a half that is no tree fails the whole
+no_tree_left : (a b c d : Bool) → c ≡ false → (a && b && (c && d)) ≡ false
+no_tree_left true true c d e = rw e
+no_tree_left true false c d e = refl
+no_tree_left false b c d e = refl
+
+no_tree_right : (a b c d : Bool) → d ≡ false → (a && b && (c && d)) ≡ false
+no_tree_right true true true d e = rw e
+no_tree_right true true false d e = refl
+no_tree_right true false c d e = refl
+no_tree_right false b c d e = refl
+
+-- of true halves only the other two tests count
+tests_left : (a b : Bool) → (a && b && (true && true)) ≡ (a && b)
+tests_left true true = refl
+tests_left true false = refl
+tests_left false b = refl
 
 -- ---- the same of a block of an index
 
@@ -124,36 +150,57 @@ module _ (s p t : List ℕ) (bytes : Bytes t) (axis : Bool) (lo size : ℕ) (som
   abbrev e : ℕ → ℕ
   e = entry_at t
 
+  abbrev found : Bool → List ℕ → Option Keys
+  found = keys_found s p
+
   others_small : count (non (below 65536)) (others_of e lo size) ≡ 0
   others_small = block_all (below 65536) e (lo + 1) (size - 1) (λ i a b. lt-ltb (e i) 65536 (le_bound 2 t (2 * i) bytes))
 
-  finding_block : finding_of s p axis (block e lo size)
-      ≡ join_findings axis (heads (beats p) (e lo) (left_of e lo size) && heads (beats p) (e lo) (right_of e lo size))
-      (axis_key s true (e lo)) (axis_key s false (e lo))
-      (finding_of s p (not axis) (left_of e lo size)) (finding_of s p (not axis) (right_of e lo size))
-  finding_block =
+  block_tree : is_tree (beats p) (axis_key s) axis (block e lo size)
+      ≡ ((heads (beats p) (e lo) (left_of e lo size) && heads (beats p) (e lo) (right_of e lo size))
+      && leb (side axis (keys_of s (left_of e lo size))).high (side axis (keys_of s (right_of e lo size))).low
+      && (is_tree (beats p) (axis_key s) (not axis) (left_of e lo size) && is_tree (beats p) (axis_key s) (not axis) (right_of e lo size)))
+  block_tree =
       rw (block_root e lo size some, ← block_left e lo size some, ← block_right e lo size some)
-      (finding_step s p axis (e lo) (others_of e lo size) others_small)
+      (tree_is s p axis (e lo) (others_of e lo size) others_small)
+
+  block_keys : keys_of s (block e lo size)
+      ≡ join_keys (axis_key s true (e lo)) (axis_key s false (e lo)) (keys_of s (left_of e lo size)) (keys_of s (right_of e lo size))
+  block_keys =
+      rw (block_root e lo size some, ← block_left e lo size some, ← block_right e lo size some)
+      (keys_step s p axis (e lo) (others_of e lo size) others_small)
+
+  pub none_heads : {root : ℕ} {ha hb : Bool} → root ≡ e lo → ha ≡ heads (beats p) root (left_of e lo size)
+      → hb ≡ heads (beats p) root (right_of e lo size) → (ha && hb) ≡ false → None ≡ found axis (block e lo size)
+  unfolding keys_found
+  none_heads root ha hb h =
+      let f : (heads (beats p) (e lo) (left_of e lo size) && heads (beats p) (e lo) (right_of e lo size)) ≡ false = rw (← root, ← ha, ← hb) h in
+      rw (block_tree, f)
+
+  pub none_left : None ≡ found (not axis) (left_of e lo size) → None ≡ found axis (block e lo size)
+  unfolding keys_found
+  none_left h = rw (block_tree, no_tree_left _ _ _ _ (none_found _ _ h))
+
+  pub none_right : None ≡ found (not axis) (right_of e lo size) → None ≡ found axis (block e lo size)
+  unfolding keys_found
+  none_right h = rw (block_tree, no_tree_right _ _ _ _ (none_found _ _ h))
 
   -- as the code makes it, with a name for each result
-  pub finding_made : {root kx ky : ℕ} {ha hb : Bool} {a b f : Finding} → root ≡ e lo
-      → a ≡ finding_of s p (not axis) (left_of e lo size) → b ≡ finding_of s p (not axis) (right_of e lo size)
-      → ha ≡ heads (beats p) root (left_of e lo size) → hb ≡ heads (beats p) root (right_of e lo size)
-      → kx ≡ axis_key s true root → ky ≡ axis_key s false root → f ≡ join_findings axis (ha && hb) kx ky a b
-      → f ≡ finding_of s p axis (block e lo size)
-  finding_made root a b ha hb kx ky f = cc finding_block
+  module _ {root : ℕ} {ha hb : Bool} {a b : Keys} (root_is : root ≡ e lo)
+      (left : Some a ≡ found (not axis) (left_of e lo size)) (right : Some b ≡ found (not axis) (right_of e lo size))
+      (ha_is : ha ≡ heads (beats p) root (left_of e lo size)) (hb_is : hb ≡ heads (beats p) root (right_of e lo size)) where
+    tree_made : is_tree (beats p) (axis_key s) axis (block e lo size) ≡ (ha && hb && leb (side axis a).high (side axis b).low)
+    unfolding keys_found
+    tree_made =
+        let l = some_found _ left in
+        let r = some_found _ right in
+        rw (block_tree, l.0, r.0, ha_is, hb_is, root_is, l.1, r.1, tests_left)
 
--- ---- what the calls at a block that is not empty need
-
-module _ {s p t : List ℕ} {lo size : ℕ} (r : BlockCheckable s p t lo size) (some : size ≢ 0) where
-  pub checkable_left : BlockCheckable s p t (lo + 1) (size / 2)
-  checkable_left = record { fits = omega (arith, r.fits); marked = r.marked; scheduled = r.scheduled }
-
-  pub checkable_right : BlockCheckable s p t (lo + 1 + size / 2) (size - 1 - size / 2)
-  checkable_right = record { fits = omega (arith, r.fits); marked = r.marked; scheduled = r.scheduled }
-
-  pub root_marked : {root : ℕ} → root ≡ entry_at t lo → 11 * root + 11 ≤ length s
-  root_marked e = omega (arith, r.marked lo (omega (arith, r.fits)))
-
-  pub root_scheduled : {root : ℕ} → root ≡ entry_at t lo → 14 * root + 14 ≤ length p
-  root_scheduled e = omega (arith, r.scheduled lo (omega (arith, r.fits)))
+    -- what is found, by the test of the two sides
+    pub keys_made : (ha && hb) ≡ true → {kx ky : ℕ} {k : Keys} → kx ≡ axis_key s true root → ky ≡ axis_key s false root → k ≡ join_keys kx ky a b
+        → cond (leb (side axis a).high (side axis b).low) (Some k) None ≡ found axis (block e lo size)
+    unfolding keys_found
+    keys_made h kx ky k =
+        let l = some_found _ left in
+        let r = some_found _ right in
+        rw (tree_made, h, block_keys, k, kx, ky, root_is, l.1, r.1)

@@ -1,7 +1,7 @@
 -- Question 9: the numbers of part 3 are the tree exactly where all are below n and the check finds a tree.
-use Rattle.std.specs.Prelude.{ℕ, ◌*◌, ◌≤◌, ◌≡◌, true, false, List, length}
+use Rattle.std.specs.Prelude.{ℕ, ◌*◌, ◌≤◌, ◌≡◌, Bool, true, false, cond, List, length, Option, Some, None, is_some}
 use Rattle.std.proofs.Common.{arith, sym, ◌∙◌, ltb-true, lt-ltb}
-use Rattle.std.proofs.Math.Path.{ap}
+use Rattle.std.proofs.Math.Path.{refl, ap}
 use Rattle.lists.proofs.TestLaws.{by_cases, same_test}
 use Rattle.lists.specs.Counting.{count, ◌≈◌, non, below}
 use Rattle.lists.specs.Blocks.{up_to, block}
@@ -11,8 +11,8 @@ use Rattle.numbers.specs.Little.{Bytes}
 use Rattle.index.specs.Index.{beats, axis_key, index_of, index_bytes, is_index}
 use Rattle.index.specs.Valid.{is_tree}
 use Rattle.index.specs.Blocks.{entry_at}
-use Rattle.index.specs.Check.{finding_of, BlockCheckable, Checkable, AllBelow}
-use Rattle.index.specs.declared.Finding.{Finding}
+use Rattle.index.specs.Check.{keys_found, Checkable, AllBelow}
+use Rattle.index.specs.declared.Keys.{Keys}
 use Rattle.index.proofs.Lemmas.TreeOf.{Made, tree_made, tree_is}
 use Rattle.index.proofs.Lemmas.Beats.{beats_order}
 use Rattle.index.proofs.Lemmas.Keys.{keys_differ}
@@ -60,15 +60,12 @@ module _ (s p : List ℕ) (n : ℕ) (few : n ≤ 65536) where
     unfolding is_index
     index_yes h = rw (← h, bytes_back t bytes n len) (same_self t)
 
-module _ (s p t : List ℕ) (n : ℕ) (w : Checkable s p t n) where
-  pub checkable_whole : AllBelow t n → BlockCheckable s p t 0 n
-  checkable_whole all =
-      record {
-        fits = omega (arith, w.index_long);
-        marked = λ i h. omega (arith, all i (omega arith));
-        scheduled = λ i h. omega (arith, all i (omega arith));
-      }
+-- something is found exactly where the test holds
+some_where : (k : Keys) (b : Bool) → is_some (cond b (Some k) None) ≡ b
+some_where k true = refl
+some_where k false = refl
 
+module _ (s p t : List ℕ) (n : ℕ) (w : Checkable s p t n) where
   -- what `is_index` answers where a number is not below n, and where all are
   pub whole_not : (AllBelow t n → ⊥) → is_index s p t n ≡ false
   whole_not not-all = by_cases (is_index s p t n) (λ e. absurd (not-all (entries_below s p n (omega arith) t e))) (λ e. e)
@@ -90,6 +87,6 @@ module _ (s p t : List ℕ) (n : ℕ) (w : Checkable s p t n) where
       back : is_index s p t n ≡ true → is_tree (beats p) (axis_key s) true l ≡ true
       back e = rw (index_entries s p n (omega arith) t e) (index_tree s p n (omega arith))
 
-  pub whole_is : Bytes t → AllBelow t n → {f : Finding} → f ≡ finding_of s p true (block (entry_at t) 0 n) → f.ok ≡ is_index s p t n
-  unfolding finding_of
-  whole_is bytes all e = ap (λ (f : Finding). f.ok) e ∙ tree_is_index bytes all
+  pub whole_is : Bytes t → AllBelow t n → {f : Option Keys} → f ≡ keys_found s p true (block (entry_at t) 0 n) → is_some f ≡ is_index s p t n
+  unfolding keys_found
+  whole_is bytes all e = rw (e, ← tree_is_index bytes all) (some_where _ _)

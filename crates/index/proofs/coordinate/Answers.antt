@@ -4,15 +4,14 @@ use native.Mathlib.Omega.{arith}
 use mir.Facts.{to_z-of_z}
 use Rattle.index.specs.Index.{coordinate}
 use Rattle.index.proofs.coordinate.Goals as goal
-
-pub returns-then-axis : goal.returns-then-axis
-unfolding coordinate
-returns-then-axis c =
-    let e = rw (to_z-of_z (sfits_of c.place_x.type_inv), c.place_x.ensures) at c.shifted.ensures in
-    (rw c.if-axis.true e, omega (arith, c.shifted.type_inv))
+use Rattle.index.proofs.coordinate.Goals.{then-axis, else-axis}
 
 pub returns : goal.returns
 unfolding coordinate
-returns c =
-    let e = rw (to_z-of_z (sfits_of c.place_y.type_inv), c.place_y.ensures) at c.shifted-2.ensures in
-    (rw c.if-axis.false e, omega (arith, c.shifted-2.type_inv))
+returns c = (
+  elim c.if-axis.branch [
+    | then-axis w ↦ rw (c.shifted.ensures, w.place-is, to_z-of_z (sfits_of w.place_x-place.type_inv), w.place_x-place.ensures, w.if-axis.true)
+    | else-axis w ↦ rw (c.shifted.ensures, w.place-is, to_z-of_z (sfits_of w.place_y-place.type_inv), w.place_y-place.ensures, w.if-axis.false)
+  ],
+  omega arith,
+)

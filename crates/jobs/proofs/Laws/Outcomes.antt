@@ -7,16 +7,18 @@ use mathlib.Core.List.{List, [], ◌++◌}
 use Rattle.std.proofs.Math.Dec.{eqb}
 use Rattle.std.proofs.Math.Seq.{take-append_seam}
 use Rattle.lists.specs.Stores.{over}
-use Rattle.sheet.specs.declared.Assembled.{Assembled}
+use Rattle.std.specs.Prelude.{Result, Ok, Err}
+use Rattle.contents.specs.declared.Refusal.{Refusal}
+use Rattle.contents.specs.Refusals.{told}
 use Rattle.contents.specs.Contents.{join, together}
 use Rattle.contents.specs.Questions.{codes_right}
 use Rattle.contents.proofs.Laws.{asked_yes, asked_no}
 use Rattle.contents.specs.Asking.{Question, answer}
 use Rattle.sheet.specs.Questions.{check_questions, check}
-use Rattle.sheet.specs.Assembled.{number_of, length_of, Assembling}
+use Rattle.sheet.specs.Assembled.{length_of, Assembling}
 use Rattle.jobs.specs.Jobs.{Outcome, outcome, after, check_job, are_counted, assemble_questions, assemble_job}
 use Rattle.jobs.specs.declared.Answer.{Answer}
-use Rattle.jobs.specs.Answers.{refusal, answer_of, Gives}
+use Rattle.jobs.specs.Answers.{refusal, answer_of, answer_to, Gives}
 
 module _ (questions : List Question) (value : ℕ) (written : List ℕ) where
   pub outcome_yes : answer questions ≡ 0 → outcome questions value written ≡ record { number = 0; value = value; written = written }
@@ -93,12 +95,17 @@ check_gives s = cases (eqb (answer (check_questions s)) 0) refl
     cases true e = rw (eqb-true (answer (check_questions s)) 0 e)
     cases false e = refl
 
+-- what a call answers of what it came to, by the number that is told of that
+told_is : (r : Result ℕ Refusal) → answer_to r ≡ record { number = told r; value = length_of r }
+told_is (Ok size) = refl
+told_is (Err r) = refl
+
 -- what `sheet::assemble` answers and leaves, where the number of parts and the codes are taken, is what the job gives
-pub assemble_gives : (codes : List ℕ) (bodies : List (List ℕ)) (before after_call : List ℕ) (r : Assembled) → are_counted codes bodies ≡ true
+pub assemble_gives : (codes : List ℕ) (bodies : List (List ℕ)) (before after_call : List ℕ) (r : Result ℕ Refusal) → are_counted codes bodies ≡ true
     → codes_right codes ≡ true → Assembling (together codes bodies) before r after_call
-    → Gives (assemble_job codes bodies (length before)) before (record { number = number_of r; value = length_of r }) after_call
+    → Gives (assemble_job codes bodies (length before)) before (answer_to r) after_call
 unfolding assemble_job assemble_questions outcome after over
-assemble_gives codes bodies before after_call r counted right a = cases (eqb number 0) refl
+assemble_gives codes bodies before after_call r counted right a = rw (told_is r) (cases (eqb number 0) refl)
   where
     number : ℕ
     number = answer (assemble_questions codes bodies (length before))
@@ -106,19 +113,19 @@ assemble_gives codes bodies before after_call r counted right a = cases (eqb num
     sheet : List ℕ
     sheet = join (together codes bodies)
 
-    same : number_of r ≡ number
+    same : told r ≡ number
     same = a.number ∙ sym (asked_yes 1 _ counted ∙ asked_yes 2 _ right)
 
     cases : (b : Bool) → eqb number 0 ≡ b
         → Gives (cond b (record { number = 0; value = length sheet; written = sheet }) (record { number = number; value = 0; written = [] })) before
-        (record { number = number_of r; value = length_of r }) after_call
+        (record { number = told r; value = length_of r }) after_call
     cases true e =
-        let z : number_of r ≡ 0 = same ∙ eqb-true number 0 e in
+        let z : told r ≡ 0 = same ∙ eqb-true number 0 e in
         let v : length_of r ≡ length sheet = rw z at a.size in
         let w : after_call ≡ over sheet before = rw z at a.bytes in
         record { answered = rw (z, v); bytes = w }
     cases false e =
-        let z : eqb (number_of r) 0 ≡ false = ap (λ (n : ℕ). eqb n 0) same ∙ e in
+        let z : eqb (told r) 0 ≡ false = ap (λ (n : ℕ). eqb n 0) same ∙ e in
         let v : length_of r ≡ 0 = rw z at a.size in
         let w : after_call ≡ before = rw z at a.bytes in
         record { answered = rw (same, v); bytes = w }

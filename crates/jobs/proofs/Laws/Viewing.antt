@@ -15,7 +15,7 @@ use Rattle.sheet.proofs.Laws.{indexed_numbered, accepted_iff}
 use Rattle.bitmap.specs.Map.{map_size, map_bytes, count_shown}
 use Rattle.bitmap.proofs.Laws.{map_length}
 use Rattle.zoom.specs.declared.Zoom.{Zoom}
-use Rattle.zoom.specs.declared.Scale.TheVariants.{Taken, Refused}
+use Rattle.std.specs.Prelude.{Some, None}
 use Rattle.zoom.specs.Zoom.{scale_of}
 use Rattle.reaching.specs.declared.Window.{Window}
 use Rattle.reaching.specs.Shown.{shown}
@@ -78,12 +78,12 @@ module _ (s : List ℕ) (e : Window) (zoom : Zoom) (buffer : List ℕ) where
       view_no_order wrong is = refused_at 11 (asked ∙ rw (taken, wrong)) (omega arith) is
 
       module _ (right : question11 e ≡ true) where
-        pub view_no_zoom : {r : Answer} → scale_of zoom ≡ Refused → r ≡ refusal 12 → Gives (view_job s e zoom (length buffer)) buffer r buffer
+        pub view_no_zoom : {r : Answer} → scale_of zoom ≡ None → r ≡ refusal 12 → Gives (view_job s e zoom (length buffer)) buffer r buffer
         unfolding answer
         view_no_zoom refused is = refused_at 12 (asked ∙ rw (taken, right, refused)) (omega arith) is
 
         -- the zoom is taken: 13 is all that is left to ask
-        pub view_taken : (k : ℕ) → scale_of zoom ≡ Taken k → view_job s e zoom (length buffer) ≡ view_at s e k (length buffer)
+        pub view_taken : (k : ℕ) → scale_of zoom ≡ Some k → view_job s e zoom (length buffer) ≡ view_at s e k (length buffer)
         unfolding view_job view_at shown_in outcome answer
         view_taken k zoomed = rw (asked, taken, right, zoomed)
 

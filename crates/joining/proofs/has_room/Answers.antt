@@ -8,14 +8,14 @@ use Rattle.joining.specs.Writing.{together_size, leb_less}
 use native.Mathlib.Omega.{arith}
 use Rattle.joining.proofs.has_room.Goals as goal
 
-pub returns-then-room-head : goal.returns-then-room-head
-returns-then-room-head c =
-    let bodies = map (λ x. x.now) c.args.bodies.now in
-    let size = together_size c.args.codes.now bodies (rw length-map c.requires.0) in
-    sym (lt-leb _ c.args.room (omega arith))
-
-pub returns : goal.returns
-returns c =
+pub returns-then-head-room : goal.returns-then-head-room
+returns-then-head-room c =
     let bodies = map (λ x. x.now) c.args.bodies.now in
     rw (together_size c.args.codes.now bodies (rw length-map c.requires.0))
-    (c.fits.ensures ∙ leb_less (contents_size (length c.args.codes.now)) (length (chain bodies)) c.args.room c.if-room-head.false)
+    (c.fits.ensures ∙ leb_less (contents_size (length c.args.codes.now)) (length (chain bodies)) c.args.room c.if-head-room.true)
+
+pub returns-else-head-room : goal.returns-else-head-room
+returns-else-head-room c =
+    let bodies = map (λ x. x.now) c.args.bodies.now in
+    let size = together_size c.args.codes.now bodies (rw length-map c.requires.0) in
+    lt-leb _ c.args.room (omega arith) ∙ sym (lt-leb _ c.args.room (omega arith))

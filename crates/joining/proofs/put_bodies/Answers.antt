@@ -1,40 +1,24 @@
--- `nest::put_bodies` meets its contract: what is left to copy makes the whole, whatever was copied so far. Assumes nothing.
-use Prim.Native.Nat.{◌-◌}
-use mathlib.Core.Path.{refl, ap, ◌∙◌}
+-- `joining::put_bodies` meets its contract: what is left to copy makes the whole, whatever was copied so far. Assumes nothing.
+use mathlib.Core.Path.{ap, ◌∙◌}
 use native.Mathlib.Omega.{arith}
 use lib.ListN.{length}
-use Rattle.joining.specs.Writing.{chain_less, chain_done, bodies_turn}
+use Rattle.joining.specs.Writing.{chain_done}
+use Rattle.joining.proofs.Bodies.{left_less, left_put}
 use Rattle.joining.proofs.put_bodies.Goals as goal
 
-pub loop-i-init : goal.loop-i-init
-loop-i-init c = (omega arith, refl, omega arith, refl)
-
 pub put-at-requires : goal.put-at-requires
-put-at-requires c =
-    let a = c.args in
-    let l = c.loop-i in
-    let e = chain_less (λ x. x.now) a.bodies.now l.i c.loop-i-test.true c.body_of.ensures in
-    omega arith
+put-at-requires c = let e = left_less c.args.bodies.now c.loop-body.body-index c.loop-body-test.true in omega arith
 
-pub loop-i-preserved : goal.loop-i-preserved
-loop-i-preserved c =
-    let p = c.put-at.ensures in
-    let a = c.args in
-    let l = c.loop-i in
-    let t = c.loop-i-test.true in
-    let e = chain_less (λ x. x.now) a.bodies.now l.i t c.body_of.ensures in (
-      omega arith,
-      c.put-at.auto.out ∙ l.invariant.1,
-      omega arith,
-      bodies_turn (λ x. x.now) a.bodies.now l.out l.at l.i t c.body_of.ensures p ∙ l.invariant.3,
-    )
-
-pub shape_of-out : goal.shape_of-out
-shape_of-out c = c.loop-i.invariant.1
+pub loop-body-preserved : goal.loop-body-preserved
+loop-body-preserved c =
+    let l = c.loop-body in
+    let bodies = c.args.bodies.now in
+    let t = c.loop-body-test.true in
+    let e = left_less bodies l.body-index t in
+    (c.put-at.auto.out ∙ l.invariant.0, omega (arith, c.put-at.ensures.0), left_put bodies l.body-index t l.out l.at c.put-at.ensures ∙ l.invariant.2)
 
 pub returns : goal.returns
 returns c =
-    let a = c.args in
-    let none = chain_done (λ x. x.now) a.bodies.now c.loop-i.i c.loop-i-test.false in
+    let none = chain_done (λ x. x.now) c.args.bodies.now c.loop-body.body-index c.loop-body-test.false in
     let e = ap length none in
-    (omega arith, rw none at c.loop-i.invariant.3)
+    (omega arith, rw none at c.loop-body.invariant.2)

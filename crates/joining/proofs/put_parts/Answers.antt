@@ -2,21 +2,16 @@
 use mathlib.Core.Path.{◌≡◌, sym, ◌∙◌}
 use mathlib.Core.List.{map}
 use lib.ListN.{length, length-map}
-use lib.Seq.{length-take-le}
 use Rattle.contents.specs.Contents.{sizes_of}
 use Rattle.joining.specs.Writing.{together_size, parts_sets, size_below}
 use native.Mathlib.Omega.{arith}
 use Rattle.joining.proofs.put_parts.Goals as goal
 
-pub slice_bounds-put_contents-end : goal.slice_bounds-put_contents-end
-slice_bounds-put_contents-end c =
-    sym (length-take-le (length c.args.bodies.now) c.sizes_of-sizes.result (omega (arith, c.sizes_of-sizes.ensures.0)))
-
 pub put_contents-start-requires : goal.put_contents-start-requires
 put_contents-start-requires c =
     let codes = c.args.codes.now in
     let bodies = map (λ x. x.now) c.args.bodies.now in
-    let e = c.sizes_of-sizes.ensures.1 in
+    let e = c.as_slice.ensures.value ∙ c.sizes_of-sizes.ensures in
     let size = together_size codes bodies (rw length-map c.requires.codes_len.0) in
     let many : length (sizes_of bodies) ≡ length codes = rw (length-map, length-map) (sym c.requires.codes_len.0) in
     record { codes_len_bound = (omega arith, rw e many, omega arith); by_index = λ i. rw e (size_below bodies 4294967296 (omega arith) i) }
@@ -31,7 +26,7 @@ returns c =
     let codes = c.args.codes.now in
     let bodies = map (λ x. x.now) c.args.bodies.now in
     let same : length codes ≡ length bodies = rw length-map c.requires.codes_len.0 in
-    let e = c.sizes_of-sizes.ensures.1 in
+    let e = c.as_slice.ensures.value ∙ c.sizes_of-sizes.ensures in
     let put = c.put_contents-start.ensures in
     let wrote = c.put_bodies.ensures in
     (wrote.0 ∙ rw put.0 (sym (together_size codes bodies same)), parts_sets codes bodies same c.args.out.now (put.0, rw e at put.1) wrote.1)

@@ -1,14 +1,9 @@
--- `joining::sizes_of` meets its contract: the sizes of the bodies before i stand in the array. Assumes nothing.
-use Prim.Native.Nat.{◌-◌, ◌≤◌}
+-- `joining::sizes_of` meets its contract: the sizes of the bodies passed are listed. Assumes nothing.
 use mathlib.Core.Path.{◌≡◌}
-use lib.ListN.{length, take}
+use lib.ListN.{take}
 use mathlib.Core.List.{map}
 use Rattle.contents.specs.Contents.{sizes_of}
-use Rattle.contents.specs.Questions.{top_code}
 use Rattle.joining.proofs.sizes_of.Given as goal
 
-abbrev pub invariant-loop-i : goal.invariant-loop-i
-invariant-loop-i l = (l.i ≤ length l.bodies) × (length l.sizes ≡ top_code) × (take l.i l.sizes ≡ take l.i (sizes_of (map (λ x. x.now) l.bodies)))
-
-abbrev pub decreases-loop-i : goal.decreases-loop-i
-decreases-loop-i l = length l.bodies - l.i
+abbrev pub invariant-loop-body : goal.invariant-loop-body
+invariant-loop-body l = l.sizes.items ≡ take l.body-index (sizes_of (map (λ x. x.now) l.bodies))

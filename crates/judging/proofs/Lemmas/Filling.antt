@@ -7,6 +7,7 @@ use Rattle.lists.specs.Counting.{count, non, under}
 use Rattle.lists.proofs.CountLaws.{count_append}
 use Rattle.lists.specs.Blocks.{block}
 use Rattle.lists.proofs.BlockLaws.{block_has, all_block}
+use Rattle.numbers.specs.Little.{Bytes}
 use Rattle.index.specs.Index.{beats, coordinate, axis_key}
 use Rattle.index.specs.Valid.{is_tree}
 use Rattle.index.specs.Blocks.{entry_at, left_of, right_of, Halves}
@@ -31,8 +32,8 @@ splits_same {lo = lo} {axis = axis} (node some last l r a b) h =
     (splits_same a (λ i u v. h i (omega arith) (omega arith)))
     (splits_same b (λ i u v. h i (omega arith) (omega arith)))
 
-pub filled_none : {s t z : List ℕ} {lo size : ℕ} {axis : Bool} → size ≡ 0 → Filled s t z z lo size axis (record { x = 0; y = 0 })
-filled_none e =
+pub filled_none : {s t z : List ℕ} {lo size : ℕ} {axis : Bool} → Bytes s → size ≡ 0 → Filled s t z z lo size axis (record { x = 0; y = 0 })
+filled_none bytes e =
     record {
       splits = λ p h. rw e none;
       long = refl;
@@ -42,6 +43,7 @@ filled_none e =
       y_is = record { bounds = λ i a b. absurd (omega arith); least = λ b h. omega arith };
       x_small = omega arith;
       y_small = omega arith;
+      bytes = bytes;
     }
 
 corner_is : {s t z y : List ℕ} {lo size : ℕ} {turn : Bool} {c : Corner} → Filled s t z y lo size turn c → (axis : Bool)
@@ -162,4 +164,5 @@ module _ {s t z : List ℕ} {lo size : ℕ} (r : Fillable s t z lo size) (some :
           y_is = greatest_join some iy fl.y_is fr.y_is wy;
           x_small = omega (arith, fl.x_small, fr.x_small);
           y_small = omega (arith, fl.y_small, fr.y_small);
+          bytes = fl.bytes;
         }

@@ -1,5 +1,4 @@
 -- `logs::put_records`: each turn writes one row more. Assumes nothing.
-use Prim.Native.Nat.{◌-◌, ◌≤◌}
 use mathlib.Core.Path.{◌≡◌}
 use lib.Seq.{sets}
 use Rattle.rows.specs.Rows.{rows}
@@ -7,7 +6,4 @@ use Rattle.logs.specs.Log.{record_of_mark}
 use Rattle.logs.proofs.put_records.Given as goal
 
 abbrev pub invariant-loop-m : goal.invariant-loop-m
-invariant-loop-m l = (l.m ≤ l.n) × (l.out ≡ sets l.initial.out 0 (rows (record_of_mark l.s) l.m))
-
-abbrev pub decreases-loop-m : goal.decreases-loop-m
-decreases-loop-m l = l.n - l.m
+invariant-loop-m l = l.out ≡ sets l.initial.out 0 (rows (record_of_mark l.s) l.m)

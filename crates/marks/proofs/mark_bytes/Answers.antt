@@ -13,20 +13,6 @@ pub returns : goal.returns
 unfolding le_bytes
 returns c =
     let kind : c.args.a.kind % 256 ≡ c.args.a.kind = omega arith in
-    let x-bits : c.place_bits-x.result ≡ place_bits c.args.a.x = c.place_bits-x.ensures ∙ ap place_bits (to_z-of_z {w = w16} (search rules)) in
-    let y-bits : c.place_bits-y.result ≡ place_bits c.args.a.y = c.place_bits-y.ensures ∙ ap place_bits (to_z-of_z {w = w16} (search rules)) in
-    rw (
-      c.low_byte.ensures,
-      c.high_byte.ensures,
-      c.low_byte-2.ensures,
-      c.high_byte-2.ensures,
-      c.low_byte-3.ensures,
-      c.high_byte-3.ensures,
-      c.low_byte-4.ensures,
-      c.high_byte-4.ensures,
-      c.low_byte-5.ensures,
-      c.high_byte-5.ensures,
-      x-bits,
-      y-bits,
-      kind,
-    )
+    let x-bits : c.place_bits.result ≡ place_bits c.args.a.x = c.place_bits.ensures ∙ ap place_bits (to_z-of_z {w = w16} (search rules)) in
+    let y-bits : c.place_bits-2.result ≡ place_bits c.args.a.y = c.place_bits-2.ensures ∙ ap place_bits (to_z-of_z {w = w16} (search rules)) in
+    rw (c.to_le_bytes.ensures, c.to_le_bytes-2.ensures, c.to_le_bytes-3.ensures, c.to_le_bytes-4.ensures, c.to_le_bytes-5.ensures, x-bits, y-bits, kind)

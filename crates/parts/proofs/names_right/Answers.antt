@@ -1,35 +1,22 @@
 -- `parts::names_right` meets its contract: each test of the definition in its order, at the eliminator that the record names. Assumes nothing.
-use Rattle.std.proofs.Common.{sym, ◌∙◌}
-use native.Mathlib.Omega.{arith}
+use Rattle.std.proofs.Common.{sym, ap₂, ◌∙◌, true≢false}
 use borrow.Author.Tests.{lt-ltb, le-ltb}
-use Rattle.marks.proofs.PairLaws.{good_popup}
-use Rattle.parts.specs.Questions.{names_right}
+use Rattle.parts.specs.Questions.{exactly, names_right}
 use Rattle.parts.proofs.names_right.Goals as goal
+use Rattle.parts.proofs.names_right.Goals.{then-by-reel, else-by-reel}
 
-pub returns-then-n-by : goal.returns-then-n-by
+pub returns-then-outranks : goal.returns-then-outranks
 unfolding names_right
-returns-then-n-by c = let a = c.args in rw (le-ltb a.d.eliminator a.n (omega arith))
+returns-then-outranks c =
+    elim c.if-by-reel.branch [
+      | then-by-reel w ↦ rw (lt-ltb _ _ w.if-by-reel.true, ← w.outranks.ensures, ← w.value-is, c.if-outranks.true) (c.eq.ensures ∙ ap₂ exactly c.fraction_of.ensures c.pair.ensures)
+      | else-by-reel w ↦ absurd (true≢false (sym c.if-outranks.true ∙ w.value-is ∙ le-ltb _ _ w.if-by-reel.false))
+    ]
 
-pub returns-then-not-outranks : goal.returns-then-not-outranks
+pub returns-else-outranks : goal.returns-else-outranks
 unfolding names_right
-returns-then-not-outranks c = rw (lt-ltb _ _ c.if-n-by.false, (sym c.outranks.ensures ∙ c.if-not-outranks.true))
-
-pub pair-requires : goal.pair-requires
-pair-requires c =
-    let p = c.requires in
-    let inside = c.if-n-by.false in
-    record {
-      mark_size_in_bounds = (omega arith, omega arith);
-      a_bound = ((p.0.each _ inside).used, (p.0.each _ p.2).used, good_popup p.1 inside, good_popup p.1 p.2);
-    }
-
-pub returns : goal.returns
-unfolding names_right
-returns c =
-    rw (
-      lt-ltb _ _ c.if-n-by.false,
-      (sym c.outranks.ensures ∙ c.if-not-outranks.false),
-      c.exactly.ensures,
-      c.fraction_of.ensures,
-      c.pair.ensures,
-    )
+returns-else-outranks c =
+    elim c.if-by-reel.branch [
+      | then-by-reel w ↦ rw (lt-ltb _ _ w.if-by-reel.true, ← w.outranks.ensures, ← w.value-is, c.if-outranks.false)
+      | else-by-reel w ↦ rw (le-ltb _ _ w.if-by-reel.false) c.if-outranks.false
+    ]

@@ -8,4 +8,4 @@ pub overflow_cast-result : goal.overflow_cast-result
 overflow_cast-result c = record { sfits = omega arith }
 
 pub returns : goal.returns
-returns c = (to_z-of_z (overflow_cast-result c) ∙ rw (c.above.ensures, c.above-2.ensures), omega arith)
+returns c = (to_z-of_z (overflow_cast-result c) ∙ rw (c.saturating_sub.ensures, c.saturating_sub-2.ensures), omega arith)

@@ -11,21 +11,17 @@ use Rattle.text.specs.Text.{decimal, Wrote}
 use Rattle.text.proofs.Laws.{decimal_denotes, wrote_length}
 use Rattle.zoom.specs.Printed.{nearest}
 use Rattle.zoom.proofs.Laws.{nearest_is, nearest_fits}
-use Rattle.marks.specs.Good.{GoodMarks}
-use Rattle.marks.specs.Pairs.{GoodPopups}
 use Rattle.elimination.specs.Process.{gone, process}
 use Rattle.elimination.specs.Reel.{Reel, marks_of, GoodReel, schedule_of}
 use Rattle.elimination.proofs.Schedule.{schedule_length, gone_small}
-use Rattle.contents.specs.Contents.{split, marks_part, popups_part}
+use Rattle.contents.specs.Contents.{split}
 use Rattle.contents.specs.Asking.{Question, ◌asks◌, answer}
-use Rattle.contents.specs.Laid.{Laid}
 use Rattle.contents.proofs.Laws.{none_asked, asked_yes, asked_no, asked_iff}
 use Rattle.contents.proofs.Laws.{append_yes, append_no, append_iff}
-use Rattle.parts.specs.Questions.{mark_count, reel_from}
-use Rattle.bodies.specs.Questions.{edition_of, shape_of, reel_of}
+use Rattle.bodies.specs.Questions.{reel_of}
 use Rattle.sheet.specs.Questions.{sheet_count, check_questions, check}
-use Rattle.sheet.proofs.Laws.{check_numbered, accepted_iff}
-use Rattle.jobs.proofs.Theorems.{good, good_reel}
+use Rattle.sheet.proofs.Laws.{check_numbered}
+use Rattle.jobs.proofs.Theorems.{good_reel}
 use Rattle.listing.specs.Lines.{text, line, mark_line, listing, refusal_line}
 use Rattle.listing.specs.Listed.{removal_at, Printable, first_room, text_room}
 use Rattle.listing.proofs.Laws.{refusal_room, listing_room, lines_at, listing_same}
@@ -99,8 +95,8 @@ module _ (s : List ℕ) where
     unfolding print_questions check last
     asked = (append_iff (check_questions s) _ (check_numbered s)).0 ((asked_iff 14 (leb (length s) longest_input) _ (omega arith)).0 yes).1
 
-    pub taken_laid : Laid s
-    taken_laid = ((accepted_iff s).0 asked.0).laid
+    pub taken_accepted : check s ≡ 0
+    taken_accepted = asked.0
 
     few : sheet_count s ≤ most_marks
     unfolding last
@@ -126,46 +122,35 @@ module _ (s : List ℕ) where
           stands = listed ∙ rw (at.1, e);
         }
 
-  -- then `part` is part 1
-  module _ (bytes : Bytes s) (yes : answer (print_questions s) ≡ 0) {part : List ℕ} (is : part ≡ marks_part (split s)) where
-    pub part1_few : mark_count part ≤ most_marks
-    part1_few = rw is (few yes)
+  -- then `r` is its reel
+  module _ (bytes : Bytes s) (yes : answer (print_questions s) ≡ 0) {r : Reel} (is : r ≡ reel_of (split s)) where
+    pub reel_few : r.count ≤ most_marks
+    reel_few = rw is (few yes)
 
-    pub part1_good : GoodMarks part (mark_count part)
-    part1_good = rw is (good s bytes (asked yes).0)
+    reel_good : GoodReel r
+    reel_good = rw is (good_reel s bytes (asked yes).0)
 
-    -- these the popups, this the edition that ranks them, and this their shape
-    module _ {popups : List ℕ} (popped : popups ≡ popups_part (split s)) {edition : ℕ} (ranked : edition ≡ edition_of (split s)) {shape : ℕ}
-        (shaped : shape ≡ shape_of (split s)) where
-      abbrev reel : Reel
-      reel = reel_from edition shape popups part
+    module _ {p : List ℕ} (before : List ℕ) (schedule : p ≡ schedule_of r ++ drop (14 * r.count) before) where
+      rest : List ℕ
+      rest = drop (14 * r.count) before
 
-      part1_reel : GoodReel reel
-      part1_reel = rw (is, popped, ranked, shaped) (good_reel s bytes (asked yes).0)
+      pub taken_printable : Printable p r.count
+      unfolding rest
+      taken_printable = rw schedule (schedule_printable r rest reel_good)
 
-      pub popups_good : GoodPopups popups (mark_count part)
-      popups_good = part1_reel.popped
+      same : listing (removal_at p) r.count ≡ printed s
+      unfolding rest
+      same =
+          listing_same (removal_at p) (process (marks_of r)) r.count (rw schedule (removal_process r rest reel_good))
+          ∙ ap (λ (q : Reel). listing (process (marks_of q)) q.count) is
+          ∙ sym (listed bytes yes)
 
-      module _ {p : List ℕ} (before : List ℕ) (schedule : p ≡ schedule_of reel ++ drop (14 * mark_count part) before) where
-        rest : List ℕ
-        rest = drop (14 * mark_count part) before
+      worked_out_lem : p ≡ over (worked_out s) before
+      unfolding worked_out over
+      worked_out_lem = rw (yes, ← is, schedule_length r) schedule
 
-        pub taken_printable : Printable p (mark_count part)
-        unfolding rest
-        taken_printable = rw schedule (schedule_printable reel rest part1_reel)
-
-        same : listing (removal_at p) (mark_count part) ≡ printed s
-        unfolding printed rest
-        same =
-            let e = listing_same (removal_at p) (process (marks_of reel)) (mark_count part) (rw schedule (removal_process reel rest part1_reel)) in
-            rw (yes, ← is, ← popped, ← ranked, ← shaped) e
-
-        worked_out_lem : p ≡ over (worked_out s) before
-        unfolding worked_out over
-        worked_out_lem = rw (yes, ← is, ← popped, ← ranked, ← shaped, schedule_length reel) schedule
-
-        pub prints_listing : (work work-after : List ℕ) {out out-after : List ℕ} {r : ℕ} → length work-after ≡ length work → text_room most_marks ≤ length out
-            → Wrote out out-after 0 (listing (removal_at p) (mark_count part)) r → Prints s work before out r work-after p out-after
-        prints_listing work work-after long room o =
-            let w = stands (listing (removal_at p) (mark_count part)) (sym same) (omega (arith, listing_room (removal_at p) (mark_count part), part1_few)) o in
-            record { size = w.size; inside = w.inside; text = w.text; records = worked_out_lem; long = long; refused = λ h. absurd (omega (arith, h, yes)); zooms = λ _. zoom_line bytes yes }
+      pub prints_listing : (work work-after : List ℕ) {out out-after : List ℕ} {n : ℕ} → length work-after ≡ length work → text_room most_marks ≤ length out
+          → Wrote out out-after 0 (listing (removal_at p) r.count) n → Prints s work before out n work-after p out-after
+      prints_listing work work-after long room o =
+          let w = stands (listing (removal_at p) r.count) (sym same) (omega (arith, listing_room (removal_at p) r.count, reel_few)) o in
+          record { size = w.size; inside = w.inside; text = w.text; records = worked_out_lem; long = long; refused = λ h. absurd (omega (arith, h, yes)); zooms = λ _. zoom_line bytes yes }

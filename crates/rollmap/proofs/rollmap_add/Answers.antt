@@ -4,4 +4,4 @@ use Rattle.rollmap.proofs.rollmap_add.Goals as goal
 
 pub returns : goal.returns
 returns c =
-    rw (to_z-of_z {z = c.args.x} c.ranges.x, to_z-of_z {z = c.args.y} c.ranges.y) at c.add.ensures
+    rw c.from.ensures (rw (to_z-of_z {z = c.args.x} c.ranges.x, to_z-of_z {z = c.args.y} c.ranges.y) at c.add.ensures)

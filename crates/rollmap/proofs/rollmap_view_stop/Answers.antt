@@ -8,4 +8,4 @@ pub returns : goal.returns
 returns c =
     let gives = rw (to_z-of_z {z = c.args.x0} c.ranges.x0, to_z-of_z {z = c.args.x1} c.ranges.x1, to_z-of_z {z = c.args.y0} c.ranges.y0, to_z-of_z {z = c.args.y1} c.ranges.y1) at c.view.ensures in
     let told = stop_whole gives in
-    record { gives = told.0; meets_view = told.1; meets_turn = turn_meets gives }
+    rw c.from.ensures (record { gives = told.0; meets_view = told.1; meets_turn = turn_meets gives })

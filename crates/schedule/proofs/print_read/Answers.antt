@@ -3,10 +3,10 @@ use Rattle.std.proofs.Common.{rules}
 use Rattle.schedule.specs.Reading.{Reported}
 use Rattle.schedule.proofs.print_read.Goals as goal
 
-pub returns-in_default : goal.returns-in_default
+pub returns-in-Err : goal.returns-in-Err
 unfolding Reported
-returns-in_default c = search rules
+returns-in-Err c = search rules
 
-pub returns : goal.returns
+pub returns-in-Ok : goal.returns-in-Ok
 unfolding Reported
-returns c = rw c.in-Read.is c.print.ensures
+returns-in-Ok c = rw c.in-Ok.is c.print.ensures

@@ -7,7 +7,7 @@ use Rattle.contents.specs.Contents.{find, split}
 use Rattle.contents.specs.Asking.{answer}
 use Rattle.contents.specs.Places.{layout_of, no_parts, place_of, is_there, cut_of, Located}
 use Rattle.contents.proofs.Laws.{append_yes, append_no, split_length, layout_part, layout_located, layout_there, none_part, none_located}
-use Rattle.sheet.specs.declared.Opening.{Opening}
+use Rattle.sheet.specs.Opened.{Opening}
 use Rattle.sheet.specs.Questions.{check_questions, check, question10, indexed_questions}
 use Rattle.sheet.specs.Opened.{opened_at, opened, indexed, open_parts}
 use Rattle.sheet.proofs.Lemmas.Accepting.{check_numbered, accepted_iff}

@@ -1,23 +1,13 @@
--- `text::put_number`: the digits, and a byte behind them. Assumes nothing.
-use native.Mathlib.Omega.{arith}
-use Rattle.text.proofs.Laws.{decimal_bound, wrote_byte, wrote_then, wrote_length}
+-- `text::put_number`: the digits that the library writes, and a byte behind them. Assumes nothing.
+use Rattle.std.proofs.Common.{◌≡◌, ◌∙◌, arith}
+use Rattle.text.specs.Text.{decimal}
+use Rattle.text.proofs.Laws.{decimal_bound, decimal_written, wrote_copy, wrote_byte, wrote_then}
 use Rattle.text.proofs.put_number.Goals as goal
 
-pub put_decimal-last-requires : goal.put_decimal-last-requires
-put_decimal-last-requires c = omega (arith, decimal_bound c.args.v)
-
-pub bounds-out-last : goal.bounds-out-last
-bounds-out-last c =
-    let a = c.args in
-    let w = c.put_decimal-last.ensures in
-    let l = wrote_length w in
-    omega (arith, l, w.ends, decimal_bound a.v, c.requires)
-
-pub overflow_add-result : goal.overflow_add-result
-overflow_add-result c =
-    let a = c.args in
-    let w = c.put_decimal-last.ensures in
-    omega (arith, w.ends, decimal_bound a.v, c.requires, c.well_formed)
-
 pub returns : goal.returns
-returns c = wrote_then c.put_decimal-last.ensures (wrote_byte _ _ _)
+returns c =
+    let a = c.args in
+    let digits : c.as_bytes-digits.result.now ≡ decimal a.v =
+    c.as_bytes-digits.ensures.value ∙ c.format.ensures.text ∙ decimal_written a.v c.ranges.v.fits in
+    rw (c.copy_from_slice.ensures.after, digits)
+    (wrote_then (wrote_copy a.out.now a.at (decimal a.v) _ (omega (arith, decimal_bound a.v, c.requires)) (omega arith)) (wrote_byte _ _ _))

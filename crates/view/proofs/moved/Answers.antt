@@ -2,10 +2,10 @@
 use Rattle.view.specs.Search.{moved}
 use Rattle.view.proofs.moved.Goals as goal
 
-pub returns-then-not-low : goal.returns-then-not-low
+pub returns-then-low : goal.returns-then-low
 unfolding moved
-returns-then-not-low c = rw c.if-not-low.true
+returns-then-low c = rw c.if-low.true c.saturating_sub.ensures
 
-pub returns : goal.returns
+pub returns-else-low : goal.returns-else-low
 unfolding moved
-returns c = rw c.if-not-low.false c.above.ensures
+returns-else-low c = rw c.if-low.false

@@ -5,7 +5,7 @@ use Rattle.jobs.proofs.Laws.Walking.{map_iff, shown_refused, shown_outside, show
 use Rattle.viewing.proofs.is_shown.Goals as goal
 
 pub returns-then-not-is_map : goal.returns-then-not-is_map
-returns-then-not-is_map c = rw c.refused.ensures (shown_refused _ _ _ (sym c.is_map.ensures ∙ c.if-not-is_map.true))
+returns-then-not-is_map c = shown_refused _ _ _ (sym c.is_map.ensures ∙ c.if-not-is_map.true)
 
 pub returns-then-n-m : goal.returns-then-n-m
 returns-then-n-m c = shown_outside _ _ _ (sym c.is_map.ensures ∙ c.if-not-is_map.false) c.if-n-m.true
@@ -17,4 +17,4 @@ test_bit-requires c =
 
 pub returns : goal.returns
 returns c =
-    rw c.test_bit.ensures (shown_inside _ _ _ (sym c.is_map.ensures ∙ c.if-not-is_map.false) c.if-n-m.false)
+    rw (c.from.ensures, c.test_bit.ensures) (shown_inside _ _ _ (sym c.is_map.ensures ∙ c.if-not-is_map.false) c.if-n-m.false)

@@ -1,69 +1,72 @@
 -- `writing::put_scheduled`: the contents, the marks and parts 4 and 5 are written, and parts 2 and 3 between them. Assumes nothing.
-use Prim.Native.Nat.{◌+◌, ◌-◌, ◌*◌, ◌≤◌}
-use mathlib.Core.Path.{◌≡◌}
-use mathlib.Core.Bool.{true}
-use mathlib.Core.List.{◌++◌}
-use native.Mathlib.Omega.{arith}
-use lib.Dec.{ltb}
-use lib.ListN.{length}
-use Rattle.contents.specs.Contents.{contents_size}
-use Rattle.jobs.specs.Steps.{codes_from}
+use Rattle.std.specs.Prelude.{◌≡◌, ◌+◌, ◌-◌, ◌*◌, ◌≤◌, is_some, length}
+use Rattle.std.proofs.Common.{arith}
 use Rattle.jobs.proofs.Laws.Scheduling.{lent_good, lent_size, Standing, standing}
+use Rattle.writing.specs.Pieces.{joined, joined_if}
+use Rattle.writing.specs.Requests.{begin_of}
 use Rattle.writing.proofs.put_scheduled.Goals as goal
-use Rattle.writing.proofs.put_scheduled.Goals.{After-put_pieces-end}
+use Rattle.writing.proofs.put_scheduled.Goals.{After-put_head-start, After-put_if-end}
 
--- where what is kept begins and ends
-from_start : (p : After-put_pieces-end) → p.put-from.result - p.put_head-start.result ≡ 27 * p.args.n + length p.args.edition.now
-from_start p = omega (arith, p.put-from.ensures.0)
+-- where the marks begin, and where what is kept begins and ends
+begin : (c : After-put_head-start) → c.put_head-start.result ≡ begin_of c.args.request.now
+begin c = rw c.is_some.ensures at c.put_head-start.ensures.0
 
-ended : (p : After-put_pieces-end)
-    → p.put_pieces-end.result
-    ≡ contents_size (length (codes_from true (ltb 0 (length p.args.edition.now)) p.args.there p.args.counted (ltb 0 (length p.args.shape.now)))) + 27 * p.args.n
-    + length p.args.edition.now
-    + length (p.args.popups.now ++ p.args.last.now)
-ended p = omega (arith, p.put_head-start.ensures.0, p.put-from.ensures.0, p.put_pieces-end.ensures.0)
+from_start : (c : After-put_if-end) → c.put-from.result - c.put_head-start.result ≡ 27 * c.args.request.now.count + length c.args.request.now.edition.now
+from_start c = omega (arith, c.put-from.ensures.0)
 
-room : (p : After-put_pieces-end)
-    → contents_size (length (codes_from true (ltb 0 (length p.args.edition.now)) p.args.there p.args.counted (ltb 0 (length p.args.shape.now)))) + 27 * p.args.n
-    + length p.args.edition.now
-    + length (p.args.popups.now ++ p.args.last.now)
-    ≤ length p.args.out.now
-room p = omega (arith, lent_size p.requires.parts_lent p.args.counted, p.requires.n_in_bounds.1)
+ended : (c : After-put_if-end)
+    → c.put_if-end.result
+    ≡ begin_of c.args.request.now + 27 * c.args.request.now.count + length c.args.request.now.edition.now + length (joined_if c.args.request.now.popups)
+ended c = omega (arith, c.put-from.ensures.0, c.put_if-end.ensures.0, rw c.is_some.ensures at c.put_head-start.ensures.0)
 
-stands : (p : After-put_pieces-end)
-    → Standing (p.args.head.now ++ p.args.tail.now) p.args.n p.args.edition.now p.args.there (p.args.popups.now ++ p.args.last.now) p.args.shape.now p.args.counted p.args.out.now p.put_pieces-end.new.out
-    p.put_head-start.result p.put_pieces-end.result
-stands p =
-    let h = p.put_head-start.ensures in
-    standing p.requires.parts_lent p.args.counted p.args.out.now (room p)
-    h.1 (rw h.0 at p.put_pieces.ensures.1) (rw h.0 at p.put-from.ensures.1)
-    (rw (p.put-from.ensures.0, h.0) at p.put_pieces-end.ensures.1) h.0 (ended p)
+room : (c : After-put_head-start)
+    → begin_of c.args.request.now + 27 * c.args.request.now.count + length c.args.request.now.edition.now + length (joined_if c.args.request.now.popups)
+    ≤ length c.args.out.now
+room c = omega (arith, lent_size c.args.request.now.taken c.args.request.now.counted, c.requires.1)
+
+stands : (c : After-put_if-end)
+    → Standing (joined c.args.request.now.marks) c.args.request.now.count c.args.request.now.edition.now (is_some c.args.request.now.popups) (joined_if c.args.request.now.popups) c.args.request.now.shape.now c.args.request.now.counted c.args.out.now c.put_if-end.new.out
+    c.put_head-start.result c.put_if-end.result
+stands c =
+    let h = rw c.is_some.ensures at c.put_head-start.ensures in
+    standing c.args.request.now.taken c.args.request.now.counted c.args.out.now
+    (omega (arith, lent_size c.args.request.now.taken c.args.request.now.counted, c.requires.1))
+    h.1 (rw h.0 at c.put.ensures.1) (rw h.0 at c.put-from.ensures.1)
+    (rw (c.put-from.ensures.0, h.0) at c.put_if-end.ensures.1) h.0 (ended c)
 
 pub put-from-requires : goal.put-from-requires
-put-from-requires c = omega (arith, lent_size c.requires.parts_lent c.args.counted, c.requires.n_in_bounds.1, c.put_head-start.ensures.0)
+put-from-requires c =
+    let p = (goal.at.put-from-requires c).After-put_head-start in
+    omega (arith, room p, begin p)
 
-pub put_pieces-end-requires : goal.put_pieces-end-requires
-put_pieces-end-requires c = omega (arith, lent_size c.requires.parts_lent c.args.counted, c.requires.n_in_bounds.1, c.put_head-start.ensures.0, c.put-from.ensures.0)
+pub put_if-end-requires : goal.put_if-end-requires
+put_if-end-requires c =
+    let p = (goal.at.put_if-end-requires c).After-put_head-start in
+    omega (arith, room p, begin p, c.put-from.ensures.0)
 
 pub slice_bounds-put_results-end : goal.slice_bounds-put_results-end
-slice_bounds-put_results-end c = let p = (goal.at.slice_bounds-put_results-end c).After-put_pieces-end in omega (arith, room p, ended p)
+slice_bounds-put_results-end c =
+    omega (
+      arith,
+      room (goal.at.slice_bounds-put_results-end c).After-put_head-start,
+      ended (goal.at.slice_bounds-put_results-end c).After-put_if-end,
+    )
 
 pub put_results-requires : goal.put_results-requires
 put_results-requires c =
-    let p = (goal.at.put_results-requires c).After-put_pieces-end in
+    let p = (goal.at.put_results-requires c).After-put_if-end in
+    let r = c.args.request.now in
     let st = stands p in
-    let at : c.put-from.result - c.put_head-start.result ≡ 27 * c.args.n + length c.args.edition.now = from_start p in (
-      rw st.marks c.requires.parts_lent.good,
-      c.requires.n_in_bounds.0,
+    let at : c.put-from.result - c.put_head-start.result ≡ 27 * r.count + length r.edition.now = from_start p in (
+      rw st.marks r.taken.good,
+      c.requires.0,
       omega (arith, at),
       omega (arith, at, st.long),
-      rw (at, st.popups) (lent_good c.args.there c.requires.parts_lent.popups_lent),
+      rw (at, st.popups) (lent_good (is_some r.popups) r.taken.popups_lent),
     )
 
-pub returns : goal.returns
-returns c =
-    let p = (goal.at.returns c).After-put_pieces-end in
-    let st = stands p in (
-      c.put_head-start.ensures.0,
-      st.put _ (rw (st.marks, from_start p, st.popups, c.choice_of.ensures, c.choice_of-2.ensures) at c.put_results.ensures),
-    )
+pub returns-clause-written : goal.returns-clause-written
+returns-clause-written c =
+    let p = (goal.at.returns-clause-written c).After-put_if-end in
+    let st = stands p in
+    st.put _ (rw (st.marks, from_start p, st.popups, c.choice_of.ensures, c.choice_of-2.ensures) at c.put_results.ensures)

@@ -1,37 +1,26 @@
 -- `writing::put_sheet`: the sheet up to parts 6 and 7, then the counts, read from it, where they are wanted, and part 7. Assumes nothing.
-use Prim.Native.Nat.{ℕ, ◌+◌, ◌*◌}
-use mathlib.Core.Path.{◌≡◌, refl, ap, ◌∙◌}
-use mathlib.Core.Bool.{Bool, true, false, cond}
-use mathlib.Core.List.{List, [], ◌++◌}
-use native.Mathlib.Omega.{arith}
-use lib.Dec.{ltb}
-use lib.ListN.{length, length-append}
-use Rattle.contents.specs.Contents.{Part, contents_size, popups_part}
+use Rattle.std.specs.Prelude.{ℕ, ◌+◌, ◌*◌, ◌≡◌, Bool, true, false, cond, List, [], is_some, length}
+use Rattle.std.proofs.Common.{refl, ap, ◌∙◌, arith}
+use Rattle.contents.specs.Contents.{Part, popups_part}
 use Rattle.parts.specs.Questions.{mark_count}
 use Rattle.jobs.specs.Jobs.{new_schedule, new_counts}
-use Rattle.jobs.specs.Steps.{kept_from, codes_from}
 use Rattle.jobs.proofs.Laws.Scheduling.{lent_good, lent_size, popups_read, counts_read, sheet_put}
 use Rattle.counting.proofs.Laws.{counts_length}
+use Rattle.writing.specs.Pieces.{joined, joined_if}
+use Rattle.writing.specs.Requests.{kept_of, begin_of}
 use Rattle.writing.proofs.put_sheet.Goals as goal
 use Rattle.writing.proofs.put_sheet.Goals.{After-put_scheduled-start}
 
 -- where the popups begin, and end
-from_is : (b : After-put_scheduled-start)
-    → b.put_scheduled-start.result + 27 * b.args.n + length b.args.edition.now
-    ≡ contents_size (length (codes_from true (ltb 0 (length b.args.edition.now)) b.args.there b.args.counted (ltb 0 (length b.args.shape.now)))) + 27 * b.args.n + length b.args.edition.now
-from_is b = omega (arith, b.put_scheduled-start.ensures.0)
+from_is : (c : After-put_scheduled-start)
+    → c.put_scheduled-start.result.0 + 27 * c.args.request.now.count + length c.args.request.now.edition.now
+    ≡ begin_of c.args.request.now + 27 * c.args.request.now.count + length c.args.request.now.edition.now
+from_is c = omega (arith, c.put_scheduled-start.ensures.start)
 
-end_is : (b : After-put_scheduled-start)
-    → b.put_scheduled-start.result + 27 * b.args.n + length b.args.edition.now + length b.args.popups.now + length b.args.last.now
-    ≡ b.put_scheduled-start.result + 27 * b.args.n + length b.args.edition.now + length (b.args.popups.now ++ b.args.last.now)
-end_is b = omega (arith, length-append b.args.popups.now b.args.last.now)
-
-ended : (b : After-put_scheduled-start)
-    → b.put_scheduled-start.result + 27 * b.args.n + length b.args.edition.now + length b.args.popups.now + length b.args.last.now
-    ≡ contents_size (length (codes_from true (ltb 0 (length b.args.edition.now)) b.args.there b.args.counted (ltb 0 (length b.args.shape.now)))) + 27 * b.args.n
-    + length b.args.edition.now
-    + length (b.args.popups.now ++ b.args.last.now)
-ended b = omega (arith, b.put_scheduled-start.ensures.0, end_is b)
+end_is : (c : After-put_scheduled-start)
+    → c.put_scheduled-start.result.1
+    ≡ c.put_scheduled-start.result.0 + 27 * c.args.request.now.count + length c.args.request.now.edition.now + length (joined_if c.args.request.now.popups)
+end_is c = omega (arith, c.put_scheduled-start.ensures.start, c.put_scheduled-start.ensures.end)
 
 -- the counts, where they are wanted
 if_same : (counted : Bool) {x y : List ℕ} → x ≡ y → cond counted x [] ≡ cond counted y []
@@ -45,32 +34,25 @@ if_sized false s kept = refl
 pub put_counts-end-requires : goal.put_counts-end-requires
 put_counts-end-requires c =
     let p = (goal.at.put_counts-end-requires c).After-put_scheduled-start in
-    let at = c.put_scheduled-start.ensures.0 in (
-      c.requires.parts_lent.good.few,
+    let r = c.args.request.now in (
+      r.taken.good.few,
       omega arith,
-      omega arith,
-      omega (arith, lent_size c.requires.parts_lent c.args.counted, c.requires.n_in_bounds.1, at, length-append c.args.popups.now c.args.last.now),
-      rw (c.put_scheduled-start.ensures.1, popups_read c.requires.parts_lent c.args.counted c.args.out.now (from_is p) (end_is p)) (lent_good c.args.there c.requires.parts_lent.popups_lent),
+      omega (arith, end_is p),
+      omega (arith, lent_size r.taken r.counted, c.requires.1, c.put_scheduled-start.ensures.end),
+      rw (c.put_scheduled-start.ensures.written, popups_read r.taken r.counted c.args.out.now (from_is p) (end_is p)) (lent_good (is_some r.popups) r.taken.popups_lent),
     )
 
 pub put-requires : goal.put-requires
 put-requires c =
-    omega (
-      arith,
-      lent_size c.requires.parts_lent c.args.counted,
-      c.requires.n_in_bounds.1,
-      c.put_scheduled-start.ensures.0,
-      length-append c.args.popups.now c.args.last.now,
-      c.put_counts-end.ensures.0,
-    )
+    let r = c.args.request.now in
+    omega (arith, lent_size r.taken r.counted, c.requires.1, c.put_scheduled-start.ensures.end, c.put_counts-end.ensures.0)
 
 pub returns : goal.returns
 returns c =
     let p = (goal.at.returns c).After-put_scheduled-start in
-    let s = c.args.head.now ++ c.args.tail.now in
-    let kept = kept_from c.args.edition.now c.args.there (c.args.popups.now ++ c.args.last.now) c.args.shape.now in
-    let at = c.put_scheduled-start.ensures.0 in
-    let counts = if_same c.args.counted (counts_read c.requires.parts_lent c.args.counted c.args.out.now at (from_is p) (end_is p)) in
-    let sized = if_sized c.args.counted s kept in
-    sheet_put c.requires.parts_lent c.args.counted c.args.out.now c.requires.n_in_bounds.1 counts (ended p) (rw c.put_scheduled-start.ensures.1 at c.put_counts-end.ensures.1)
+    let r = c.args.request.now in
+    let counts = if_same r.counted (counts_read r.taken r.counted c.args.out.now c.put_scheduled-start.ensures.start (from_is p) (end_is p)) in
+    let sized = if_sized r.counted (joined r.marks) (kept_of r) in
+    sheet_put r.taken r.counted c.args.out.now c.requires.1 counts c.put_scheduled-start.ensures.end
+    (rw c.put_scheduled-start.ensures.written at c.put_counts-end.ensures.1)
     (c.put_counts-end.ensures.0 ∙ omega (arith, ap length counts, sized)) c.put.ensures.1

@@ -1,6 +1,7 @@
--- The integer root: that it is one, and the turns of the code's loop. Assumes nothing.
-use Rattle.std.specs.Prelude.{◌≡◌, ℕ, zero, suc, ◌+◌, ◌-◌, ◌*◌, ◌/◌, ◌^◌, ◌<◌, ◌≤◌, Bool, true, false, cond, nat_le, refl}
-use Rattle.std.proofs.Common.{ap, ◌∙◌, pow-suc, div-one, arith, leb-true, leb-false, shr-shr, pow_mono}
+-- The integer root: that it is one, and that there is only one. Assumes nothing.
+use Rattle.std.specs.Prelude.{◌≡◌, ℕ, zero, suc, ◌+◌, ◌*◌, ◌/◌, ◌^◌, ◌<◌, ◌≤◌, Bool, true, false, cond, nat_le, refl}
+use Rattle.std.proofs.Common.{pow-suc, mul-le-mul, arith, leb-true, leb-false}
+use Rattle.std.proofs.Math.Decide.{dec_lt}
 use Rattle.std.proofs.Math.Nat.{mul-mul-mul_comm}
 use Rattle.zoom.specs.Printed.{root_step, root}
 
@@ -26,6 +27,17 @@ pub record IsRoot (r v : ℕ) : Type 0 where
   pub low : r * r ≤ v
   pub high : v < suc r * suc r
 
+not_smaller : (v a b : ℕ) → IsRoot a v → IsRoot b v → a < b → ⊥
+not_smaller v a b x y l = let m = mul-le-mul {n₁ = suc a} {m₁ = suc a} {n₂ = b} {m₂ = b} l l in omega (arith, x.high, y.low)
+
+-- only one number is the root
+pub root_unique : (v a b : ℕ) → IsRoot a v → IsRoot b v → a ≡ b
+root_unique v a b x y =
+    elim (dec_lt a b) [
+      | yes l ↦ absurd (not_smaller v a b x y l)
+      | no l ↦ elim (dec_lt b a) [ yes m ↦ absurd (not_smaller v b a y x m) | no m ↦ omega arith ]
+    ]
+
 double_square : (q : ℕ) → 2 * q * (2 * q) ≡ 4 * (q * q)
 double_square q = mul-mul-mul_comm 2 q 2 q
 
@@ -48,29 +60,3 @@ pub root_is : (width v : ℕ) → v < 4 ^ width → IsRoot (root width v) v
 unfolding root
 root_is zero v h = omega arith
 root_is (suc width) v h = let p = pow-suc 4 width in root_step_lem (root width (v / 4)) v (root_is width (v / 4) (omega arith))
-
-pub root_half : (left v r : ℕ) → 0 < left → r ≡ root (32 - left) (v / 2 ^ (2 * left)) → r < 2147483648
-root_half left v r h e =
-    let b = root_small (32 - left) (v / 2 ^ (2 * left)) in
-    let m : 2 ^ (32 - left) ≤ 2 ^ 31 = pow_mono {i = 32 - left} {j = 31} (omega arith) in
-    omega arith
-
--- the turns of the loop: with two bits more of v comes one bit more of the root
-pub root_none : (v : ℕ) → v < 18446744073709551616 → 0 ≡ root (32 - 32) (v / 2 ^ (2 * 32))
-unfolding root
-root_none v h = refl
-
-pub root_turn : (left v r : ℕ) → 0 < left → left ≤ 32 → r ≡ root (32 - left) (v / 2 ^ (2 * left))
-    → root_step r (v / 2 ^ (2 * (left - 1))) ≡ root (32 - (left - 1)) (v / 2 ^ (2 * (left - 1)))
-unfolding root
-root_turn left v r p h e =
-    let w : 32 - (left - 1) ≡ suc (32 - left) = omega arith in
-    let b : 2 * (left - 1) + 2 ≡ 2 * left = omega arith in
-    let f : v / 2 ^ (2 * (left - 1)) / 4 ≡ v / 2 ^ (2 * left) = shr-shr v (2 * (left - 1)) 2 ∙ ap (λ (k : ℕ). v / 2 ^ k) b in
-    rw w (rw f (ap (λ (q : ℕ). root_step q (v / 2 ^ (2 * (left - 1)))) e))
-
-pub root_all : (left v r : ℕ) → left ≤ 0 → r ≡ root (32 - left) (v / 2 ^ (2 * left)) → r ≡ root 32 v
-root_all left v r h e =
-    let z : left ≡ 0 = omega arith in
-    let d : v / 2 ^ (2 * 0) ≡ v = div-one v in
-    rw d at (rw z at e)

@@ -1,18 +1,9 @@
--- `zoom::root_of`: after each turn r is the root of the bits of v passed so far. Assumes nothing.
-use Rattle.std.proofs.Common.{◌∙◌, arith}
-use Rattle.zoom.proofs.Lemmas.Roots.{root_none, root_half, root_turn, root_all}
+-- `zoom::root_of`: what the library's root promises makes it a root, and a number has only one. Assumes nothing.
+use Rattle.std.proofs.Common.{arith}
+use Rattle.zoom.proofs.Lemmas.Roots.{root_is, root_unique}
 use Rattle.zoom.proofs.root_of.Goals as goal
 
-pub loop-left-init : goal.loop-left-init
-loop-left-init c = (omega arith, root_none c.args.v c.ranges.v.fits)
-
-pub root_step-r-requires : goal.root_step-r-requires
-root_step-r-requires c = root_half c.loop-left.left _ _ c.loop-left-test.true c.loop-left.invariant.1
-
-pub loop-left-preserved : goal.loop-left-preserved
-loop-left-preserved c =
-    let l = c.loop-left in
-    (omega arith, c.root_step-r.ensures ∙ root_turn l.left _ _ c.loop-left-test.true l.invariant.0 l.invariant.1)
-
 pub returns : goal.returns
-returns c = root_all c.loop-left.left _ _ c.loop-left-test.false c.loop-left.invariant.1
+returns c =
+    let r = c.isqrt.ensures in
+    root_unique c.args.v _ _ (record { low = omega (arith, r.square_le); high = omega (arith, r.next_square_gt) }) (root_is 32 _ c.ranges.v.fits)

@@ -5,13 +5,13 @@ use Rattle.zoom.proofs.Laws.{stop_refused}
 use Rattle.zoom.proofs.Lemmas.Wheels.{stop_shifted}
 use Rattle.zoom.proofs.scale_of.Goals as goal
 
-pub returns-then-s-le16 : goal.returns-then-s-le16
+pub returns-in-Stop : goal.returns-in-Stop
 unfolding scale_of
-returns-then-s-le16 c = sym (stop_shifted _ c.if-s-le16.true) ∙ sym (ap scale_of c.in-Stop.is)
+returns-in-Stop c = sym (stop_shifted _ c.if-s-le-LAST_STOP.true) ∙ sym (ap scale_of c.in-Stop.is)
 
-pub returns-else-s-le16 : goal.returns-else-s-le16
+pub returns-in-Stop-2 : goal.returns-in-Stop-2
 unfolding scale_of
-returns-else-s-le16 c = sym (stop_refused _ c.if-s-le16.false) ∙ sym (ap scale_of c.in-Stop.is)
+returns-in-Stop-2 c = sym (stop_refused _ c.if-s-le-LAST_STOP.false) ∙ sym (ap scale_of c.in-Stop.is)
 
 pub returns-in-Wheel : goal.returns-in-Wheel
 unfolding scale_of

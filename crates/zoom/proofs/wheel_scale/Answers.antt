@@ -29,10 +29,11 @@ pub returns-else-t-p : goal.returns-else-t-p
 unfolding of_bits
 returns-else-t-p c = sym (wheel_none _ (λ k i. fails _ c.if-t-p.false ((passes _ k i).2 _ c.truncating_f32_to_u64-t.ensures)))
 
-pub returns-else-w-2 : goal.returns-else-w-2
-unfolding of_bits
-returns-else-w-2 c = sym (wheel_none _ (λ k i. fails _ c.if-w-2.false (passes _ k i).1))
-
 pub returns-else-w : goal.returns-else-w
 unfolding of_bits
-returns-else-w c = sym (wheel_none _ (λ k i. fails _ c.if-w.false (passes _ k i).0))
+returns-else-w c =
+    sym (wheel_none _ (λ k i.
+    elim c.else-w.branch [
+      | goal.else-w-via-then-w+else-w-2 w ↦ fails _ w.if-w-2.false (passes _ k i).1
+      | goal.else-w-via-else-w w ↦ fails _ w.if-w.false (passes _ k i).0
+    ]))

@@ -1,0 +1,3 @@
+-- Opened is of a sheet that was opened, and Requests of what is asked to be scheduled of its parts.
+pub mod Opened
+pub mod Requests

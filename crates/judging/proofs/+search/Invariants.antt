@@ -1,4 +1,0 @@
-use Rattle.judging.proofs.+search.Given as goal
-
-abbrev pub decreases-search : goal.decreases-search
-decreases-search l = l.size

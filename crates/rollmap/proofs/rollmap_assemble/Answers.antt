@@ -1,5 +1,0 @@
--- `rollmap::rollmap_assemble`: what `assembly::assemble` gives. Assumes nothing.
-use Rattle.rollmap.proofs.rollmap_assemble.Goals as goal
-
-pub returns : goal.returns
-returns c = c.assemble.ensures

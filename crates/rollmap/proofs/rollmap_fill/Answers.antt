@@ -1,5 +1,0 @@
--- `rollmap::rollmap_fill`: what `conversions::fill` gives. Assumes nothing.
-use Rattle.rollmap.proofs.rollmap_fill.Goals as goal
-
-pub returns : goal.returns
-returns c = c.fill.ensures

@@ -1,5 +1,0 @@
--- `rollmap::rollmap_from_columns`: what `conversions::from_columns` gives. Assumes nothing.
-use Rattle.rollmap.proofs.rollmap_from_columns.Goals as goal
-
-pub returns : goal.returns
-returns c = c.from_columns.ensures

@@ -1,5 +1,0 @@
--- `rollmap::rollmap_judge`: what `judgement::judge` gives. Assumes nothing.
-use Rattle.rollmap.proofs.rollmap_judge.Goals as goal
-
-pub returns : goal.returns
-returns c = c.judge.ensures

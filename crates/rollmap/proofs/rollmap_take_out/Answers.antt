@@ -1,5 +1,0 @@
--- `rollmap::rollmap_take_out`: what `changes::take_out` gives. Assumes nothing.
-use Rattle.rollmap.proofs.rollmap_take_out.Goals as goal
-
-pub returns : goal.returns
-returns c = c.take_out.ensures
