@@ -75,6 +75,7 @@ impl<'c> Held<'_, '_, 'c> {
     }
 
     // 8. Is each record of part 2 right?
+    // Kept: what earlier questions answered stands in the clauses, since a value is held before they are asked.
     fn has_schedule(&self) -> bool
         requires { (question7 (parts_of self.now) ≡ true) × (question21 (parts_of self.now) ≡ true) }
         ensures { result ≡ question8 (parts_of self.now) }
@@ -153,6 +154,7 @@ impl<'c> Held<'_, '_, 'c> {
 }
 
 // 4 to 9, with 19, 21, 23 and 24, of the bodies under these codes: the first 'no'. The codes are right.
+// Kept: codes and bodies side by side, as the C interface lends them.
 pub fn check_bodies(codes: &[u16], bodies: &[&[u8]]) -> Result<(), Refusal>
     requires { (length codes.now ≡ length bodies.now) × (0 < length bodies.now) × (codes_right codes.now ≡ true) }
     ensures { told result ≡ answer (body_questions (together codes.now (map (λ x. x.now) bodies.now))) }

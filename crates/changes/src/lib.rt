@@ -99,6 +99,7 @@ pub fn schedule(sheet: &[u8], work: &mut [u8], out: &mut [u8]) -> Result<u32, Re
 // ---- marks that come and go
 
 // 21, of a new mark's k: it is at most 65,536, and 0 on a sheet without part 5.
+// Kept: a flag beside a number, as the definition `is_new_popup` asks it.
 fn is_new_popup(there: bool, k: u32) -> bool
     ensures { result ≡ is_new_popup there k }
 {
@@ -107,7 +108,7 @@ fn is_new_popup(there: bool, k: u32) -> bool
 
 // Schedules a sheet's marks and one more, given by its fields and its popup, behind them, keeps parts 4, 5 and 7 and renews part 6: questions 1 to 10,
 // 18, then 5, 6 and 21 of the new mark, and 13. It is the sheet that scheduling writes for the new marks; the sheet's own schedule plays no part.
-// Kept: the new mark comes as six fields and not as a `Mark`, since the C interface gives them to `rollmap_add` so.
+// Kept: six fields and no `Mark`: tried, but a proof is not told that the fields of a struct fit their widths, as the new mark's bytes need.
 pub fn add(
     sheet: &[u8],
     x: i16,

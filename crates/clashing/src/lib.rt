@@ -141,6 +141,7 @@ impl Proposal<'_> {
 
     // Does mark g, which is removed at w and not before the subject, clash with it? Their pair value is below the subject's removal value, or it
     // is that value and the subject should have named g.
+    // Kept: `Subjected` ties the subject to the proposal in each clause: a subject is made once and held against many marks.
     pub fn clashes_standing(&self, q: Subject, g: usize, w: Fraction) -> bool
         requires asked { Subjected self.now.reel.marks.now self.now.reel.count self.now.schedule.now q × (g < self.now.reel.count) }
         requires w_value { (w ≡ limit_at self.now.schedule.now g) × (less w q.value ≡ false) }

@@ -39,6 +39,7 @@ fn fields_at(s: &[u8], m: usize) -> Fields
 }
 
 // Writes the values of mark m into their columns. Those of n marks begin at n times the place that a value has in a mark.
+// Kept: `out` and the number of marks stay two parameters, since `out` is lent for writing.
 fn enter(out: &mut [u8], n: usize, m: usize, fields: Fields)
     requires { (m < n) × (mark_size * n ≤ length out.old) }
     ensures { out.new ≡ entered (columns_of (alike fields) n) m out.old }

@@ -87,6 +87,7 @@ pub fn count_at(s: &[u8]) -> usize
     numbers::read(s, 0, 2) as usize
 }
 
+// Kept: each of the three asks for its own entry, a bound on the number that it is handed and no fact about the bytes alone.
 fn code_at(s: &[u8], i: usize) -> u16
     requires { contents_size (i + 1) ≤ length s.now }
     ensures { result ≡ code_at s.now i }
@@ -173,6 +174,7 @@ pub fn codes_of(s: &[u8]) -> [u16; TOP]
 }
 
 // 2. Are the codes right?
+// Kept: `Whole` stands in the clauses of five functions of a line or two; a struct of one slice would be no plainer than the slice.
 fn has_codes(s: &[u8]) -> bool
     requires { Whole s.now }
     ensures { result ≡ question2 s.now }
@@ -358,6 +360,7 @@ fn position_of(codes: &[u16], code: u16) -> Option<usize>
 }
 
 // The body under this code, where there is one.
+// Kept: codes and bodies side by side, as the C interface lends them.
 pub fn body_under<'b>(codes: &[u16], bodies: &[&'b [u8]], code: u16) -> Option<&'b [u8]>
     requires { length codes.now ≡ length bodies.now }
     ensures there { is_some result ≡ names codes.now code }

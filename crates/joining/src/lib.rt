@@ -88,6 +88,7 @@ fn fits(bodies: &[&[u8]], room: usize) -> bool
 }
 
 // Has the sheet of the bodies under these codes at most `room` bytes?
+// Kept: codes and bodies side by side, as the C interface lends them.
 pub fn has_room(codes: &[u16], bodies: &[&[u8]], room: usize) -> bool
     requires { (length codes.now ≡ length bodies.now) × (length bodies.now ≤ top_code) }
     ensures { result ≡ leb (length (join (together codes.now (map (λ x. x.now) bodies.now)))) room }

@@ -23,6 +23,7 @@ pub fn put_first_line(out: &mut [u8], word: &[u8], number: u64) -> usize
 }
 
 // The line of a mark that stays; gives the place behind it.
+// Kept: each line asks for room at a place of its own in `out`, which is lent for writing.
 fn put_stays(out: &mut [u8], at: usize, m: usize) -> usize
     requires { at + line_room ≤ length out.old }
     ensures { Wrote out.old out.new at (mark_line m stays) result }

@@ -35,6 +35,7 @@ fn is_log(s: &[u8]) -> bool
 }
 
 // The three bytes of the coordinate at `at`.
+// Kept: its readers ask for three bytes at a place, a bound on the number that they are handed.
 fn coordinate(s: &[u8], at: usize) -> [u8; 3]
     requires { at + 3 ≤ length s.now }
     ensures { result ≡ get_or s.now at 0 ∷ get_or s.now (at + 1) 0 ∷ get_or s.now (at + 2) 0 ∷ [] }
@@ -89,6 +90,7 @@ fn check_records(s: &[u8], n: usize) -> Result<(), Refusal>
 }
 
 // All questions of a log but 13.
+// Kept: beside `parts::check_marks`, since each asks its own definition of what is right; what they share is a line.
 pub fn check_log(s: &[u8]) -> Result<(), Refusal>
     ensures { told result ≡ answer (log_checks s.now) }
 {
@@ -126,6 +128,7 @@ fn put_mark(out: &mut [u8], s: &[u8], n: usize, r: usize)
 }
 
 // Writes the marks of n records.
+// Kept: a loop of one line, as in `put_records` and in crate filling; a function that takes the row to write would be longer than the three.
 pub fn put_marks(out: &mut [u8], s: &[u8], n: usize)
     requires { LogRight s.now n × (mark_size * n ≤ length out.old) }
     ensures { out.new ≡ sets out.old 0 (rows (mark_of_record s.now) n) }

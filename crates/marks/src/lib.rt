@@ -33,6 +33,7 @@ pub const POPUP_SIZE: usize = 4;
 
 // ---- the fields
 
+// Kept: each reader asks that its mark lies in the bytes, a bound on the number that it is handed and no fact about the bytes alone.
 pub fn place_x(s: &[u8], m: usize) -> i16
     requires { mark_size * m + mark_size ≤ length s.now }
     ensures { result ≡ x_at s.now m }

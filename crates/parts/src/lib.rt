@@ -74,7 +74,7 @@ pub fn check_marks(s: &[u8]) -> Result<(), Refusal>
 
 // ---- part 2: is each record right?
 
-// Kept: `GoodPopups` stands in three clauses, since antt finds no proof that it is a proposition, as a fact in a ghost field of the reel must be.
+// Kept: `GoodPopups` stands in three clauses, since it is no proposition, as a ghost field must be: of no marks both its cases hold.
 
 // Does mark m's record d name a higher-ranked mark of the reel, with their pair value as it is, unreduced?
 fn names_right(reel: &Reel<'_>, d: Record, m: usize) -> bool

@@ -19,6 +19,7 @@ const SCHEDULE: usize = 14 * MARKS;
 const TEXT: usize = 105 * MARKS + 29;
 
 // Reads until the input ends or the room is full. The room has a byte more than an input may have, so that a longer one is seen to be longer.
+// Kept: the loop ends with the input, and counts no index.
 fn read_input<R: Read>(from: &mut R, room: &mut [u8]) -> io::Result<usize>
     requires { longest_input < length room.old }
     ensures { Told result room.new }

@@ -78,6 +78,7 @@ fn length_of(low: u16, high: u16) -> u32
 }
 
 // How many of so many groups of 4 by 4 cells stand side by side, a power of 2, so that cells are about square.
+// Kept: the loop doubles the columns, and counts no index.
 fn columns_for(across: u32, down: u32, small: u32) -> u32
     requires { (across ≤ 65536) × (down ≤ 65536) × (small ≤ 16) }
     ensures { (0 < result) × (result ≤ 32) }

@@ -44,6 +44,7 @@ pub const ROW_RECORD: usize = 11;
 
 // ---- rows
 
+// Kept: each reader asks that its row lies in the bytes, a bound on the number that it is handed and no fact about the bytes alone.
 pub fn row_label(w: &[u8], q: usize) -> Label
     requires { row_size * q + row_size ≤ length w.now }
     ensures { result ≡ row_label w.now q }
@@ -98,6 +99,7 @@ impl Leader {
         row: 0,
     };
 
+    // Kept: beside `elimination::fraction_of`, of another struct.
     fn value(self) -> Fraction
         ensures { result ≡ leader_value self }
     {

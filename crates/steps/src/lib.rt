@@ -30,6 +30,7 @@ const POPUPS_BESIDE: usize = 10;
 const COUNTS_BYTES: usize = 180;
 
 // The size of a part that may not be there.
+// Kept: a flag beside a size, as the definition of the scheduled size asks it.
 fn size_if(there: bool, size: usize) -> usize
     ensures { (result ≡ cond there size 0) × (result ≤ size) }
 {

@@ -77,7 +77,7 @@ fn is_map(map: &[u8], n: u32) -> bool
 }
 
 // The least shown mark at or after `start` and below n, else 65,535; it asks 13.
-// Kept: the C interface has no Option, and `walk_job` says 65,535 where no mark is left.
+// Kept: 65,535 and no Option, since the definition `walk_job` gives that number.
 pub fn walk(map: &[u8], n: u32, start: u32) -> Result<u32, Refusal>
     ensures { (told result ≡ (walk_job map.now n start).number) × (result_unwrap_or result 65535 ≡ (walk_job map.now n start).value) }
 {

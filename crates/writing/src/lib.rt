@@ -43,6 +43,7 @@ fn put_results(all: &mut [u8], edition: u8, shape: u8, at: usize, work: &mut [u8
 }
 
 // Lists a part, where it is there.
+// Kept: a flag beside a code, as the definition `codes_from` asks it.
 fn list_part(
     codes: &mut ArrayVec<u16, TOP>,
     sizes: &mut ArrayVec<usize, TOP>,
