@@ -31,6 +31,11 @@ def functions(text):
         yield found.group(2), text[found.start() : start], text[start:end]
 
 
+def parameters_of(head):
+    """The signature without its clauses."""
+    return re.split(r"requires|ensures", head)[0]
+
+
 def without_comments(text):
     return re.sub(r"//[^\n]*", "", text)
 
@@ -154,8 +159,7 @@ def by_hand(name, text):
 def together(name, text):
     """5: parameters that travel together: functions of seven parameters and more."""
     for fn, head, body in functions(text):
-        sign = head.split("requires")[0].split("ensures")[0]
-        count = len(re.findall(r"\w+: ", re.sub(r"<[^<>]*>", "", sign)))
+        count = len(re.findall(r"\w+: ", re.sub(r"<[^<>]*>", "", parameters_of(head))))
         if count >= 7:
             yield f"{fn} takes {count} parameters"
 
@@ -165,7 +169,7 @@ def facts(name, text):
     seen = {}
     for fn, head, body in functions(text):
         for clause in re.findall(r"requires(?: \w+)? \{ (.*) \}", head):
-            for fact in set(re.split(r" × ", clause)):
+            for fact in sorted(set(re.split(r" × ", clause))):
                 fact = fact.strip("() ")
                 seen.setdefault(fact, set()).add(fn)
     for fact, fns in seen.items():
@@ -176,7 +180,7 @@ def facts(name, text):
 def buffers(name, text):
     """6: arrays with a length beside them, and parallel arrays."""
     for fn, head, body in functions(text):
-        code = without_comments(head.split("requires")[0].split("ensures")[0] + body)
+        code = without_comments(parameters_of(head) + body)
         for found in re.finditer(r"(?:= \[0\w*; \w+\]|: \[\w+; 7\]|-> \[\w+; TOP\])", code):
             yield f"{fn}: {found.group(0)}"
         if re.search(r"codes: &(mut )?\[u16\],\s*(bodies|sizes)", code):
@@ -188,9 +192,8 @@ def buffers(name, text):
 def switches(name, text):
     """7: flags that say which step to run."""
     for fn, head, body in functions(text):
-        sign = head.split("requires")[0].split("ensures")[0]
-        for found in re.finditer(r"\b(popped|tie|axis|left|low|counted|there|strip|more|fits|index|edition|popups|counts|shape): bool", sign):
-            yield f"{fn}: {found.group(1)}"
+        flags = r"\b(popped|tie|axis|left|low|counted|there|strip|more|fits|index|edition|popups|counts|shape): bool"
+        yield from [f"{fn}: {flag}" for flag in re.findall(flags, parameters_of(head))]
 
 
 def main():
