@@ -9,14 +9,15 @@ ghost use Rattle.contents.specs.Questions.{top_code};
 use arrayvec::ArrayVec;
 use contents::{COUNT_SIZE, ENTRY_SIZE, LENGTH, OFFSET, TOP};
 
-// Copies a body to `at`, and answers where it ends.
+// Copies a body to `at`, and answers where it ends. Byte by byte: `copy_from_slice` would need `memmove` from outside the library.
 pub fn put(out: &mut [u8], at: usize, body: &[u8]) -> usize
     requires { at + length body.now ≤ length out.old }
     ensures { (result ≡ at + length body.now) × (out.new ≡ sets out.old at body.now) }
 {
-    let end = at + body.len();
-    out[at..end].copy_from_slice(body);
-    end
+    for j in 0..body.len() {
+        out[at + j] = body[j];
+    }
+    at + body.len()
 }
 
 // Writes an entry of the contents at `at`.

@@ -243,6 +243,23 @@ fn the_header_has_the_sizes_and_the_version_of_this_crate() {
     assert!(HEADER.contains(version));
 }
 
+#[test]
+fn the_archive_needs_of_others_what_the_header_says() {
+    assert!(HEADER.contains("needs of other libraries only\n * memcpy and memset."));
+    let listed = Command::new("nm").args(["-u", ARCHIVE]).output();
+    let listed = listed.expect("nm lists the archive");
+    assert!(listed.status.success());
+    let text = String::from_utf8(listed.stdout).expect("names");
+    let names: Vec<&str> = text
+        .lines()
+        .filter_map(|line| line.trim().strip_prefix("U "))
+        .collect();
+    assert!(!names.is_empty());
+    for name in names {
+        assert!(["memcpy", "memset"].contains(&name), "{name} is needed");
+    }
+}
+
 /// The most bytes of stack that the header says a call takes.
 fn most_stack(call: &str) -> usize {
     match call {
