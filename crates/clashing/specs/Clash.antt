@@ -45,13 +45,14 @@ abbrev pub is_tight : List ℕ → List ℕ → ℕ → Bool
 is_tight popups p m = not (less (popup_value (popup_at popups m)) (limit_at p m))
 
 -- mark m of the marks `s`, with what the search asks of it: the bound is one of the radii
-unfoldable pub subject_of : List ℕ → List ℕ → List ℕ → ℕ → ℕ → Subject
-subject_of s popups p bound m =
+unfoldable pub subject_of : ℕ → List ℕ → List ℕ → List ℕ → ℕ → ℕ → Subject
+subject_of shape s popups p bound m =
     record {
       m = m;
       label = label_at s m;
       value = limit_at p m;
       tight = is_tight popups p m;
+      shape = shape;
       x = coordinate s true m;
       y = coordinate s false m;
       reach = (used_at s m + bound) * (used_at s m + bound);

@@ -43,13 +43,14 @@ fn eliminator_at(schedule: &[u8], m: usize) -> usize
 // ---- the mark that others are held against
 
 // Mark m, with what is asked of it at each of the others: its label, its removal value, whether that is its
-// popup's, its place as the index orders places, and the square of its radius with the bound.
+// popup's, the shape of all labels, its place as the index orders places, and the square of its radius with the bound.
 #[derive(Clone, Copy)]
 pub struct Subject {
     pub m: usize,
     pub label: Label,
     pub value: Fraction,
     pub tight: bool,
+    pub shape: u8,
     pub x: u64,
     pub y: u64,
     pub reach: u32,
@@ -65,9 +66,16 @@ fn popup_value(k: u32) -> Fraction
 }
 
 // Mark m, with what is asked of it: the bound is one of the radii that it may meet.
-pub fn subject_of(marks: &[u8], popups: &[u8], schedule: &[u8], bound: u16, m: usize) -> Subject
+pub fn subject_of(
+    marks: &[u8],
+    shape: u8,
+    popups: &[u8],
+    schedule: &[u8],
+    bound: u16,
+    m: usize,
+) -> Subject
     requires { Subjectable marks.now popups.now schedule.now bound m }
-    ensures { (result ≡ subject_of marks.now popups.now schedule.now bound m) × Fits result }
+    ensures { (result ≡ subject_of shape marks.now popups.now schedule.now bound m) × Fits result }
 {
     let radii = marks::radius_at(marks, m) as u32 + bound as u32;
     let value = limit_at(schedule, m);
@@ -77,6 +85,7 @@ pub fn subject_of(marks: &[u8], popups: &[u8], schedule: &[u8], bound: u16, m: u
         label: marks::label_at(marks, m),
         value,
         tight: !fractions::less_small(popup, value),
+        shape,
         x: index::coordinate(marks, true, m),
         y: index::coordinate(marks, false, m),
         reach: radii * radii,
@@ -116,21 +125,24 @@ impl Proposal<'_> {
     // The subject of one of the reel's marks.
     pub fn subject_of(&self, bound: u16, m: usize) -> Subject
         requires { (bound ≤ widest_radius) × (m < self.now.reel.count) }
-        ensures { (result ≡ subject_of self.now.reel.marks.now self.now.reel.popups.now self.now.schedule.now bound m) × Fits result }
+        ensures { (result ≡ subject_of self.now.reel.shape self.now.reel.marks.now self.now.reel.popups.now self.now.schedule.now bound m) × Fits result }
     {
-        subject_of(self.reel.marks, self.reel.popups, self.schedule, bound, m)
+        subject_of(
+            self.reel.marks,
+            self.reel.shape,
+            self.reel.popups,
+            self.schedule,
+            bound,
+            m,
+        )
     }
 
     // The pair value of mark g and the subject.
     fn pair_with(&self, q: Subject, g: usize) -> Fraction
-        requires { Subjected self.now.reel.marks.now self.now.reel.count self.now.schedule.now q × (g < self.now.reel.count) }
+        requires { Subjected self.now.reel.marks.now self.now.reel.count self.now.schedule.now q × (g < self.now.reel.count) × (q.shape ≡ self.now.reel.shape) }
         ensures { (result ≡ pair_value self.now.reel.shape self.now.reel.marks.now self.now.reel.popups.now g q.m) × Small result }
     {
-        let touch = marks::touching_of(
-            self.reel.shape,
-            marks::label_at(self.reel.marks, g),
-            q.label,
-        );
+        let touch = marks::touching_of(q.shape, marks::label_at(self.reel.marks, g), q.label);
         let popups = self.reel.popups;
         if popups.is_empty() {
             return touch;
@@ -143,7 +155,7 @@ impl Proposal<'_> {
     // is that value and the subject should have named g.
     // Kept: `Subjected` ties the subject to the proposal in each clause: a subject is made once and held against many marks.
     pub fn clashes_standing(&self, q: Subject, g: usize, w: Fraction) -> bool
-        requires asked { Subjected self.now.reel.marks.now self.now.reel.count self.now.schedule.now q × (g < self.now.reel.count) }
+        requires asked { Subjected self.now.reel.marks.now self.now.reel.count self.now.schedule.now q × (g < self.now.reel.count) × (q.shape ≡ self.now.reel.shape) }
         requires w_value { (w ≡ limit_at self.now.schedule.now g) × (less w q.value ≡ false) }
         ensures { result ≡ clash (lent self.now.reel) self.now.schedule.now q.m g }
     {
@@ -163,7 +175,7 @@ impl Proposal<'_> {
 
     // Does mark g clash with the subject?
     pub fn clashes(&self, q: Subject, g: usize) -> bool
-        requires { Subjected self.now.reel.marks.now self.now.reel.count self.now.schedule.now q × (g < self.now.reel.count) }
+        requires { Subjected self.now.reel.marks.now self.now.reel.count self.now.schedule.now q × (g < self.now.reel.count) × (q.shape ≡ self.now.reel.shape) }
         ensures { result ≡ clash (lent self.now.reel) self.now.schedule.now q.m g }
     {
         let w = limit_at(self.schedule, g);

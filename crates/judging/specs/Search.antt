@@ -56,12 +56,13 @@ pub record Searchable (r : Reel) (p t z : List ℕ) (q : Subject) (lo size : ℕ
   pub subject : Subjected r.marks r.count p q
   pub fits : Fits q
   pub tight_is : q.tight ≡ is_tight r.popups p q.m
+  pub shape_is : q.shape ≡ r.shape
   pub there : lo + size ≤ r.count
   pub splits : Table r.marks p t z lo size axis
 
 -- What a search of the places from lo on answers: if true, none of the marks there whose radius is within the bound clashes.
 pub record Searched (r : Reel) (p t : List ℕ) (q : Subject) (lo size : ℕ) (b : Bool) : Type 0 where
-  pub clear : b ≡ true → (bound : ℕ) → q ≡ subject_of r.marks r.popups p bound q.m
+  pub clear : b ≡ true → (bound : ℕ) → q ≡ subject_of r.shape r.marks r.popups p bound q.m
       → (i : ℕ) → lo ≤ i → i < lo + size → used_at r.marks (entry_at t i) ≤ bound → clash r p q.m (entry_at t i) ≡ false
   pub found : b ≡ false → (i : ℕ) × (lo ≤ i) × (i < lo + size) × (clash r p q.m (entry_at t i) ≡ true)
 

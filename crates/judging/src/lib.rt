@@ -177,7 +177,7 @@ impl Trial<'_, '_> {
 
     // Does none of the listed marks clash with the subject?
     fn is_large_clear(&self, large: &[u16], q: Subject) -> bool
-        requires { Subjected self.now.proposal.reel.marks.now self.now.proposal.reel.count self.now.proposal.schedule.now q × AllListed large.now self.now.proposal.reel.count }
+        requires { Subjected self.now.proposal.reel.marks.now self.now.proposal.reel.count self.now.proposal.schedule.now q × AllListed large.now self.now.proposal.reel.count × (q.shape ≡ self.now.proposal.reel.shape) }
         ensures { LargeClear (lent self.now.proposal.reel) self.now.proposal.schedule.now q.m large.now result }
     {
         large.iter().all(|g| !self.proposal.clashes(q, *g as usize))

@@ -103,9 +103,9 @@ whole_table {r} {p} {t} j f =
 -- ---- the whole search, for mark m
 
 module _ {r : Reel} {p t z l : List ℕ} {bound m : ℕ} (j : Judgeable r p t) (a : Ready r p t z l bound) (hm : m < r.count) where
-  open r use {marks as s, count as n, popups}
+  open r use {marks as s, count as n, shape, popups}
 
-  module _ {q : Subject} (is : q ≡ subject_of s popups p bound m) where
+  module _ {q : Subject} (is : q ≡ subject_of shape s popups p bound m) where
     same_m : q.m ≡ m
     unfolding subject_of
     same_m = ap (λ (u : Subject). u.m) is
@@ -122,6 +122,10 @@ module _ {r : Reel} {p t z l : List ℕ} {bound m : ℕ} (j : Judgeable r p t) (
     unfolding subject_of
     same_label = ap (λ (u : Subject). u.label) is
 
+    pub same_shape : q.shape ≡ shape
+    unfolding subject_of
+    same_shape = ap (λ (u : Subject). u.shape) is
+
     pub subjected : Subjected s n p q
     subjected = record { inside = rw same_m hm; label_is = rw same_m same_label; value_is = rw same_m same_value }
 
@@ -131,6 +135,7 @@ module _ {r : Reel} {p t z l : List ℕ} {bound m : ℕ} (j : Judgeable r p t) (
           subject = subjected;
           fits = f;
           tight_is = rw same_m same_tight;
+          shape_is = same_shape;
           there = omega arith;
           splits = a.splits;
         }
@@ -162,7 +167,7 @@ module _ {r : Reel} {p t z l : List ℕ} {bound m : ℕ} (j : Judgeable r p t) (
                   (let (i, lo, hi, hit) = place_of g h in
                   let e : entry_at t i ≡ g = sym (eqb-true g (entry_at t i) hit) in
                   let near : used_at s (entry_at t i) ≤ bound = rw e (omega arith) in
-                  let none = x.clear refl bound (is ∙ ap (subject_of s popups p bound) (sym same_m)) i lo hi near in
+                  let none = x.clear refl bound (is ∙ ap (subject_of shape s popups p bound) (sym same_m)) i lo hi near in
                   ap not (sym (ap₂ (clash r p) same_m e) ∙ none))
             ]
     clear_is {b = false} w x =

@@ -56,7 +56,7 @@ size_of left size = cond left (size / 2) (size - 1 - size / 2)
 
 -- ---- what a subject has
 
-module _ (s popups p : List ℕ) (q : Subject) (bound : ℕ) (is : q ≡ subject_of s popups p bound q.m) where
+module _ (shape : ℕ) (s popups p : List ℕ) (q : Subject) (bound : ℕ) (is : q ≡ subject_of shape s popups p bound q.m) where
   subject_place : (axis : Bool) → cond axis q.x q.y ≡ coordinate s axis q.m
   unfolding subject_of
   subject_place true = ap (λ (u : Subject). u.x) is
@@ -69,7 +69,7 @@ module _ (s popups p : List ℕ) (q : Subject) (bound : ℕ) (is : q ≡ subject
 -- ---- a block
 
 module _ {r : Reel} {p t z : List ℕ} {q : Subject} {lo size : ℕ} {axis : Bool} (a : Searchable r p t z q lo size axis) (some : size ≢ 0) where
-  open r use {marks as s, count as n, popups}
+  open r use {marks as s, count as n, shape, popups}
 
   at : Node s p (entry_at t) (λ i. get_or z i 0) lo size axis
   at = node_of some a.splits
@@ -126,6 +126,7 @@ module _ {r : Reel} {p t z : List ℕ} {q : Subject} {lo size : ℕ} {axis : Boo
         subject = a.subject;
         fits = a.fits;
         tight_is = a.tight_is;
+        shape_is = a.shape_is;
         there = omega (arith, most, half_fits, a.there);
         splits = elim size_is [ inl e ↦ rw e (whole left) | inr e ↦ rw e.0 none ];
       },
@@ -139,7 +140,7 @@ module _ {r : Reel} {p t z : List ℕ} {q : Subject} {lo size : ℕ} {axis : Boo
         whole true = at.left
         whole false = at.right
 
-    half_clear : Searched r p t q (start_of left lo size) m true → (bound : ℕ) → q ≡ subject_of s popups p bound q.m
+    half_clear : Searched r p t q (start_of left lo size) m true → (bound : ℕ) → q ≡ subject_of shape s popups p bound q.m
         → (i : ℕ) → start_of left lo size ≤ i → i < start_of left lo size + size_of left size → used_at s (entry_at t i) ≤ bound
         → clash r p q.m (entry_at t i) ≡ false
     half_clear x bound qi i h k u =
@@ -156,7 +157,7 @@ module _ {r : Reel} {p t z : List ℕ} {q : Subject} {lo size : ℕ} {axis : Boo
 
         told : (l : Bool) → is_far q axis l split ≡ true
             → less (limit_at p q.m) (record { num = gap_to l place split * gap_to l place split; den = (used_at s q.m + bound) * (used_at s q.m + bound) }) ≡ true
-        told l f = rw (subject_place s popups p q bound qi axis, subject_reach s popups p q bound qi, a.subject.value_is) at f
+        told l f = rw (subject_place shape s popups p q bound qi axis, subject_reach shape s popups p q bound qi, a.subject.value_is) at f
 
         far : (l : Bool) → start_of l lo size ≤ i → i < start_of l lo size + size_of l size → is_far q axis l split ≡ true → Clash r p q.m (entry_at t i) → ⊥
         far true h k f =

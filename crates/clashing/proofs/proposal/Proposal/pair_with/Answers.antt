@@ -10,7 +10,7 @@ use Rattle.clashing.proofs.proposal.Proposal.pair_with.Goals.{After-touching_of-
 touch_is : (c : After-touching_of-touch) → c.touching_of-touch.result ≡ touching c.args.self.now.reel.shape c.args.self.now.reel.marks.now c.args.g c.args.q.m
 unfolding touching
 touch_is c =
-    c.touching_of-touch.ensures.0 ∙ ap₂ (touching_of c.args.self.now.reel.shape) c.label_at.ensures c.requires.0.label_is
+    c.touching_of-touch.ensures.0 ∙ rw c.requires.2 (ap₂ (touching_of c.args.self.now.reel.shape) c.label_at.ensures c.requires.0.label_is)
 
 pub returns-then-is_empty : goal.returns-then-is_empty
 returns-then-is_empty c =

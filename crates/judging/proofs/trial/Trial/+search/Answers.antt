@@ -61,7 +61,7 @@ clashes_standing-requires t c =
     let q = c.args.q in
     let still = still_there q.tight c.limit_at-w.result q.value (sym c.is_over.ensures ∙ c.if-is_over.false) in
     record {
-      asked = (c.requires.subject, below t (goal.at.clashes_standing-requires t c).After-entry-root);
+      asked = (c.requires.subject, below t (goal.at.clashes_standing-requires t c).After-entry-root, c.requires.shape_is);
       w_value = (c.limit_at-w.ensures, still);
     }
 

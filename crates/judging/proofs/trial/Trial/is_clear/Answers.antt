@@ -1,6 +1,6 @@
 -- `judging::trial::Trial::is_clear` meets its contract: a mark is listed, or its radius is within the bound and it is in the index. Assumes nothing.
 use Rattle.elimination.specs.Lent.{lent}
-use Rattle.judging.proofs.Lemmas.Listing.{judgeable, subjected, large_found, searchable, clear_is}
+use Rattle.judging.proofs.Lemmas.Listing.{judgeable, subjected, same_shape, large_found, searchable, clear_is}
 use Rattle.judging.proofs.trial.Trial.is_clear.Goals as goal
 use Rattle.judging.proofs.trial.Trial.is_clear.Goals.{After-subject_of-q}
 use Rattle.judging.specs.Search.{Judgeable}
@@ -11,7 +11,9 @@ judged h =
 
 pub is_large_clear-requires : goal.is_large_clear-requires
 is_large_clear-requires c =
-    (subjected (judged (goal.at.is_large_clear-requires c).After-subject_of-q) c.requires.0 c.requires.1 c.subject_of-q.ensures.0, c.requires.0.listed.marks)
+    let j = judged (goal.at.is_large_clear-requires c).After-subject_of-q in
+    let is = c.subject_of-q.ensures.0 in
+    (subjected j c.requires.0 c.requires.1 is, c.requires.0.listed.marks, same_shape j c.requires.0 c.requires.1 is)
 
 pub search-requires : goal.search-requires
 search-requires c =
