@@ -25,25 +25,32 @@ fn sources() -> Vec<PathBuf> {
 }
 
 /// A public function: its name, whether it is exported, and its text from `pub` to
-/// the brace that opens its body, a line of its own.
+/// the brace that opens its body, which ends a line: where there are clauses it is a
+/// line of its own. A method's text is moved to the left as far as it is indented.
 struct Public {
     name: String,
     exported: bool,
     head: String,
 }
 
-/// The public functions of a source.
+/// The public functions of a source, methods among them.
 fn public_functions(source: &str) -> Vec<Public> {
     let mut found = Vec::new();
     let mut lines = source.lines();
     while let Some(line) = lines.next() {
-        let exported = line.starts_with("pub extern \"C\" fn ");
-        if !exported && !line.starts_with("pub fn ") {
+        let start = line.trim_start();
+        let exported = start.starts_with("pub extern \"C\" fn ");
+        if !exported && !start.starts_with("pub fn ") {
             continue;
         }
-        let rest = lines.by_ref().take_while(|&line| line != "{");
-        let head: Vec<&str> = std::iter::once(line).chain(rest).collect();
-        let (_, after) = line.split_once("fn ").unwrap();
+        let indent = &line[..line.len() - start.len()];
+        let outdented = |line: &'_ str| line.strip_prefix(indent).unwrap_or(line).to_owned();
+        let mut head = vec![start.to_owned()];
+        while !head[head.len() - 1].ends_with('{') {
+            let Some(line) = lines.next() else { break };
+            head.push(outdented(line));
+        }
+        let (_, after) = start.split_once("fn ").unwrap();
         let end = after.find(['(', '<']).unwrap();
         found.push(Public {
             name: after[..end].to_owned(),
@@ -112,11 +119,29 @@ fn each_export_has_the_clauses_of_its_call() {
 #[test]
 fn a_lost_contract_is_seen() {
     let source = "pub fn kept() -> u32\n    ensures { result ≡ 1 }\n{\n    1\n}\n\n\
-                  pub extern \"C\" fn lost(n: u32) -> u32\n    requires { n ≤ 1 }\n{\n    1\n}\n";
+                  pub extern \"C\" fn lost(n: u32) -> u32\n    requires { n ≤ 1 }\n{\n    1\n}\n\n\
+                  impl Size {\n    pub fn held(self) -> u32\n        ensures { result ≡ 1 }\n    {\n        1\n    }\n\n    \
+                  pub fn dropped(self) -> u32 {\n        1\n    }\n\n    \
+                  pub fn kept_too(self) -> u32\n        ensures { result ≡ 1 }\n    {\n        1\n    }\n}\n";
     let functions = public_functions(source);
     let names: Vec<_> = functions.iter().map(|it| it.name.as_str()).collect();
-    assert_eq!(names, ["kept", "lost"]);
+    assert_eq!(names, ["kept", "lost", "held", "dropped", "kept_too"]);
     assert!(functions[0].head.contains("\n    ensures ") && !functions[0].exported);
     assert!(!functions[1].head.contains("\n    ensures ") && functions[1].exported);
     assert!(functions[1].head.contains("\n    requires "));
+    assert!(functions[2].head.contains("\n    ensures ") && !functions[2].exported);
+    assert!(!functions[3].head.contains("\n    ensures "));
+    assert!(functions[4].head.contains("\n    ensures "));
+}
+
+#[test]
+fn methods_are_among_the_functions_read() {
+    let methods = ["is_there", "size_to_search", "clashes", "reel", "bound"];
+    let functions = all();
+    for method in methods {
+        assert!(
+            functions.iter().any(|(_, it)| it.name == method),
+            "{method}"
+        );
+    }
 }
